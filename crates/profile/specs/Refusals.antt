@@ -1,0 +1,121 @@
+-- Document 01, "Refused because of the input" and "… of the state of lent buffers": the ten refusals, the condition of each, and the lowest that applies.
+use mathlib.Core.Bool.{Bool, true, false, not, _&&_, _||_}
+use mathlib.Core.List.{List, [], _∷_, _++_, map}
+use mathlib.Core.Option.{Option, none, some}
+use Prim.Native.Nat.{ℕ, _+_, _*_, _^_}
+use lib.Dec.{eqb, ltb, leb}
+use lib.ListN.{length, getD}
+use Rattle.profile.specs.Lists.{any, below, first-place}
+use Rattle.profile.specs.Traces.{bit, independent}
+use Rattle.profile.specs.Automata.{Profile}
+use Rattle.profile.specs.Prefixes.{prefix-count}
+use Rattle.profile.specs.Tables.{Layout, capacity, layout}
+use Rattle.profile.specs.declared.Refusal.{Refusal}
+use Rattle.profile.specs.declared.Refusal.the-variants.{ShortFile, OutOfRange, Distance, MaskBit, Asymmetric, StateBit, LongLog, BadLetter, ShortBuffer, FullTable}
+
+-- "A refusal gives its number …"
+abbrev pub refusal-number : Refusal → ℕ
+refusal-number ShortFile = 1
+refusal-number OutOfRange = 2
+refusal-number Distance = 3
+refusal-number MaskBit = 4
+refusal-number Asymmetric = 5
+refusal-number StateBit = 6
+refusal-number LongLog = 7
+refusal-number (BadLetter i) = 8
+refusal-number ShortBuffer = 9
+refusal-number FullTable = 10
+
+-- "… and a place": "Place is 0 except at 8"
+abbrev pub refusal-place : Refusal → ℕ
+refusal-place ShortFile = 0
+refusal-place OutOfRange = 0
+refusal-place Distance = 0
+refusal-place MaskBit = 0
+refusal-place Asymmetric = 0
+refusal-place StateBit = 0
+refusal-place LongLog = 0
+refusal-place (BadLetter i) = i
+refusal-place ShortBuffer = 0
+refusal-place FullTable = 0
+
+-- the number S has a bit from n on
+abbrev pub bit-from : ℕ → ℕ → Bool
+bit-from n S = leb (2 ^ n) S
+
+-- 2, of k and the masks: "k … out of range; mask … slices … not exactly k … long"
+abbrev pub letters-out-of-range : ℕ → List ℕ → Bool
+letters-out-of-range k masks = ltb k 1 || (ltb 16 k || not (eqb (length masks) k))
+
+-- 2, of a profile: "k, s or start out of range; … mask or move slices … not exactly k and s × k long"
+abbrev pub profile-out-of-range : Profile → Bool
+profile-out-of-range p =
+    letters-out-of-range (p .k) (p .masks) || (ltb (p .s) 1 || (ltb 32 (p .s) || (leb (p .s) (p .start) || not (eqb (length (p .moves)) (p .s * p .k)))))
+
+-- 4: "A mask with a bit from k on, or its own bit"
+abbrev pub mask-bit : ℕ → List ℕ → Bool
+mask-bit k masks = any (λ i. bit-from k (getD masks i 0) || independent masks i i) (below (length masks))
+
+-- 5: "Masks not symmetric"
+abbrev pub asymmetric : List ℕ → Bool
+asymmetric masks = any (λ i. any (λ j. independent masks i j && not (independent masks j i)) (below (length masks))) (below (length masks))
+
+-- 6: "A move or the final set with a bit from s on"
+abbrev pub state-bit : Profile → Bool
+state-bit p = bit-from (p .s) (p .finals) || any (bit-from (p .s)) (p .moves)
+
+-- 7: "Log above 255 letters"
+abbrev pub long-log : List ℕ → Bool
+long-log w = ltb 255 (length w)
+
+-- 8: "A log byte of k or more; the first such place, counted in the log from 0, is given"
+abbrev pub bad-letter : ℕ → List ℕ → Bool
+bad-letter k w = any (leb k) w
+
+abbrev pub bad-place : ℕ → List ℕ → ℕ
+bad-place k w = first-place (leb k) w
+
+-- 9: "An output buffer shorter than what it must receive": n places for w
+abbrev pub short-buffer : ℕ → List ℕ → Bool
+short-buffer n w = ltb n (length w)
+
+-- 10: "P records do not fit the work table" of n numbers
+abbrev pub full-table : ℕ → ℕ → Bool
+full-table P n = ltb (capacity layout n) P
+
+-- "The lowest number that applies is given": the first of the list whose condition holds
+module _ {A : Type 0} where
+  abbrev pub lowest : List (Bool × A) → Option A
+  lowest [] = none
+  lowest (c ∷ l) = elim (c .0) [ true ↦ some (c .1) | false ↦ lowest l ]
+
+-- the conditions of a relation, of a profile and of a log, by rising number
+abbrev pub relation-refusals : ℕ → List ℕ → List (Bool × Refusal)
+relation-refusals k masks = (letters-out-of-range k masks, OutOfRange) ∷ (mask-bit k masks, MaskBit) ∷ (asymmetric masks, Asymmetric) ∷ []
+
+abbrev pub profile-refusals : Profile → List (Bool × Refusal)
+profile-refusals p =
+    (profile-out-of-range p, OutOfRange) ∷ (mask-bit (p .k) (p .masks), MaskBit) ∷ (asymmetric (p .masks), Asymmetric) ∷ (state-bit p, StateBit) ∷ []
+
+abbrev pub log-refusals : ℕ → List ℕ → List (Bool × Refusal)
+log-refusals k w = (long-log w, LongLog) ∷ (bad-letter k w, BadLetter (bad-place k w)) ∷ []
+
+-- the judge, with n places for the order and m numbers of table; "admitted": none save 10
+abbrev pub admission-refusals : Profile → List ℕ → ℕ → List (Bool × Refusal)
+admission-refusals p w n = profile-refusals p ++ (log-refusals (p .k) w ++ ((short-buffer n w, ShortBuffer) ∷ []))
+
+abbrev pub judge-refusal : Profile → List ℕ → ℕ → ℕ → Option Refusal
+judge-refusal p w n m =
+    lowest (admission-refusals p w n ++ ((full-table (prefix-count (independent (p .masks)) (λ a. a) (p .k) w) m, FullTable) ∷ []))
+
+-- the first order, with n places for it
+abbrev pub first-order-refusal : ℕ → List ℕ → List ℕ → ℕ → Option Refusal
+first-order-refusal k masks w n = lowest (relation-refusals k masks ++ (log-refusals k w ++ ((short-buffer n w, ShortBuffer) ∷ [])))
+
+-- a refusal with the log that it is about: 1 or 2, and 0 for none
+abbrev pub of-log : ℕ → List (Bool × Refusal) → List (Bool × (Refusal × ℕ))
+of-log n l = map (λ (c : Bool × Refusal). (c .0, (c .1, n))) l
+
+-- "Same alone departs from this: it checks its first log by 7 and 8, then its second, and names the log as 1 or 2"
+abbrev pub same-refusal : ℕ → List ℕ → List ℕ → List ℕ → Option (Refusal × ℕ)
+same-refusal k masks v w = lowest (of-log 0 (relation-refusals k masks) ++ (of-log 1 (log-refusals k v) ++ of-log 2 (log-refusals k w)))

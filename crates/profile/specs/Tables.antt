@@ -1,0 +1,58 @@
+-- Document 01, "Prefixes and their table": the record of a prefix, and what it is for a table to hold the prefixes of a log.
+use mathlib.Core.Path.{_≡_}
+use mathlib.Core.Bool.{Bool}
+use mathlib.Core.Logic.{_↔_}
+use mathlib.Core.List.{List, [], _∷_, _++_, map}
+use Prim.Native.Nat.{ℕ, _+_, _*_, _/_, _%_, _^_, _-_, _≤_, min}
+use lib.ListN.{length, getD, take, drop}
+use Rattle.profile.specs.Lists.{Mem, NoDup, Rising, below, flat-map}
+use Rattle.profile.specs.Automata.{Automaton}
+use Rattle.profile.specs.Prefixes.{at, backward, forward, prefixes, total}
+
+-- how a record holds its counts: the bits of a count, the counts in one number, and how many numbers hold counts
+pub record Layout : Type 0 where
+  pub width : ℕ
+  pub per : ℕ
+  pub numbers : ℕ
+
+-- "Numbers 0 to 3: the counts, 8 bits each"
+abbrev pub layout : Layout
+layout = record { width = 8; per = 4; numbers = 4 }
+
+-- "one record for six numbers": the counts, forward and backward
+abbrev pub record-length : Layout → ℕ
+record-length L = L .numbers + 2
+
+-- "letter i has bits 8 × (i mod 4) and up of number i div 4": its count in a record
+abbrev pub count-field : Layout → List ℕ → ℕ → ℕ
+count-field L t i = getD t (i / L .per) 0 / 2 ^ (L .width * (i % L .per)) % 2 ^ L .width
+
+-- one number of counts, the first count lowest
+abbrev pub pack : ℕ → List ℕ → ℕ
+pack width [] = 0
+pack width (n ∷ c) = n + 2 ^ width * pack width c
+
+-- the numbers of counts; letters past the end of c have 0
+abbrev pub packed : Layout → List ℕ → List ℕ
+packed L c = map (λ j. pack (L .width) (take (L .per) (drop (j * L .per) c))) (below (L .numbers))
+
+-- the record of a prefix: its counts, then "forward" and "backward"
+abbrev pub record-of : Layout → (ℕ → ℕ → Bool) → (ℕ → ℕ) → Automaton → List ℕ → List ℕ → List ℕ
+record-of L may letter M w c = packed L c ++ (forward may letter M w (at c) ∷ backward may letter M w (at c) ∷ [])
+
+-- "Every prefix has one record, in rising order of total count; the order within one total is free. Numbers past record P − 1 are not written":
+-- the table `before` became `after`, and `order` is the order of its records
+pub record Holds (L : Layout) (may : ℕ → ℕ → Bool) (letter : ℕ → ℕ) (M : Automaton) (k : ℕ) (w before after : List ℕ) : Type 0 where
+  pub order : List (List ℕ)
+  pub once : NoDup order
+  pub every : (c : List ℕ) → Mem c order ↔ Mem c (prefixes may letter k w)
+  pub rises : Rising (map total order)
+  pub written : after ≡ flat-map (record-of L may letter M w) order ++ drop (record-length L * length order) before
+
+-- "a rest below six, and all numbers past the first 4,294,967,292, are unused": the records that a table of n numbers has place for
+abbrev pub capacity : Layout → ℕ → ℕ
+capacity L n = min n 4294967292 / record-length L
+
+-- "looks … is free from P − 1 to P × k"
+abbrev pub Looks : ℕ → ℕ → ℕ → Type 0
+Looks P k n = (P - 1 ≤ n) × (n ≤ P * k)
