@@ -8,7 +8,7 @@ use native.Mathlib.Omega.{arith}
 use lib.Dec.{T, ltb, ltb→lt}
 use lib.Bits.{or-zero-r}
 use Rattle.profile.specs.Automata.{Accepted, Automaton, PathOf, goes, meets, run, run-back, stop, union}
-use Rattle.profile.specs.Lists.{all, below, filter}
+use Rattle.profile.specs.Lists.{below, filter}
 use Rattle.profile.specs.Prefixes.{IsPrefix, at, backward, count, forward, less, marked, unmarked}
 use Rattle.profile.specs.Traces.{Reachable, bit, letters-below, orders}
 use Rattle.profile.proofs.Lists.{below-of, filter-at, filter-of}

@@ -6,10 +6,10 @@ use mathlib.Core.List.{List, _∷_, map, Memᴰ·map, Memᴰ·of-map}
 use mathlib.Core.Option.{Option, none, some, Option·none-ne-some, Option·some-injective}
 use Prim.Native.Nat.{ℕ, suc, _≤_}
 use native.Mathlib.Omega.{arith}
-use lib.Dec.{T, T-not, not-T, eqb, ltb}
+use lib.Dec.{T, T-not, not-T, eqb}
 use lib.ListN.{length}
 use Rattle.profile.specs.Automata.{Automaton, accepted?}
-use Rattle.profile.specs.Lists.{Mem, all, below, filter, flat-map}
+use Rattle.profile.specs.Lists.{Mem, below, filter, flat-map}
 use Rattle.profile.specs.Orders.{NoLater, accepted-order, earliest, least}
 use Rattle.profile.specs.Prefixes.{IsPrefix, at, closed?, count, prefix-count, prefixes, total, vectors}
 use Rattle.profile.specs.Traces.{Reachable, exchange, itself, letters-below, orders}

@@ -7,7 +7,7 @@ use Prim.Native.Nat.{ℕ, zero, suc, _+_, _≤_, _<_}
 use native.Mathlib.Omega.{arith}
 use lib.Dec.{T, ltb, ltb→lt}
 use lib.ListN.{length, List·getD-eq-default}
-use Rattle.profile.specs.Lists.{Mem, NoDup, all, below, range}
+use Rattle.profile.specs.Lists.{Mem, NoDup, below, range}
 use Rattle.profile.specs.Prefixes.{IsPrefix, at, closed?, count, prefix-count, prefixes, vectors}
 use Rattle.profile.specs.Traces.{Reachable, letters-below}
 use Rattle.profile.proofs.Lists.{below-at, below-of, filter-at, filter-nodup, filter-of, flat-map-at, flat-map-nodup, flat-map-of, fst-of, lt-or-le, map-nodup, nodup-length, range-nodup, snd-of}
@@ -58,7 +58,7 @@ pub length-range : (f : ℕ → ℕ) (n a : ℕ) → length (map f (range a n)) 
 length-range f zero a = refl
 length-range f (suc n) a = ap suc (length-range f n (suc a))
 
-count-above : (letter : ℕ → ℕ) (k : ℕ) (w : List ℕ) (x : ℕ) → T (letters-below letter k w) → k ≤ x → count letter w x ≡ 0
+pub count-above : (letter : ℕ → ℕ) (k : ℕ) (w : List ℕ) (x : ℕ) → T (letters-below letter k w) → k ≤ x → count letter w x ≡ 0
 count-above letter k [] x h le = refl
 count-above letter k (a ∷ w) x h le = ⊎-elim
     (λ e. absurd (omega (arith, ltb→lt (letter a) k (fst-of (ltb (letter a) k) (letters-below letter k w) h))))

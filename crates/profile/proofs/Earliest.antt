@@ -35,12 +35,12 @@ no-later-antisym (smaller h) (agrees e k) = absurd (omega arith)
 no-later-antisym (agrees d h) (smaller k) = absurd (omega arith)
 no-later-antisym (agrees d h) (agrees e k) = ap₂ _∷_ d (no-later-antisym h k)
 
-no-later-of-test : (u v : List ℕ) → T (no-later? u v) → NoLater u v
+pub no-later-of-test : (u v : List ℕ) → T (no-later? u v) → NoLater u v
 no-later-of-test [] v t = ends
 no-later-of-test (a ∷ u) (b ∷ v) t = ⊎-elim (λ h. smaller (ltb→lt a b h))
     (λ h. agrees (eqb→eq a b (fst-of (eqb a b) (no-later? u v) h)) (no-later-of-test u v (snd-of (eqb a b) (no-later? u v) h))) (either (ltb a b) (eqb a b && no-later? u v) t)
 
-ge-of-test : (u v : List ℕ) → T (not (no-later? u v)) → NoLater v u
+pub ge-of-test : (u v : List ℕ) → T (not (no-later? u v)) → NoLater v u
 ge-of-test [] v t = absurd t
 ge-of-test (a ∷ u) [] t = ends
 ge-of-test (a ∷ u) (b ∷ v) t = go (test (ltb a b)) (test (eqb a b)) (ge-of-test u v)

@@ -7,7 +7,7 @@ use mathlib.Core.Option.{none, some, Option·some-ne-none}
 use Prim.Native.Nat.{ℕ, _<_}
 use lib.Dec.{T, ltb, ltb→lt}
 use Rattle.profile.specs.Automata.{Accepted, Automaton, accepted?, meets, run, run-back, union}
-use Rattle.profile.specs.Lists.{Mem, all, filter}
+use Rattle.profile.specs.Lists.{Mem, filter}
 use Rattle.profile.specs.Orders.{NoLater, accepted-order, earliest}
 use Rattle.profile.specs.Prefixes.{IsPrefix, backward, unmarked}
 use Rattle.profile.specs.Traces.{Reachable, letters-below, orders}

@@ -9,7 +9,7 @@ use native.Mathlib.Nat.{zero-add}
 use lib.Seq.{ext-getD, getD-set-same, getD-set-other, set-set, set-getD}
 use lib.Dec.{T, eqb, eqb→eq, eqb-refl, ltb, ltb→lt}
 use lib.ListN.{length, set, length-set}
-use Rattle.profile.specs.Lists.{Mem, NoDup, all, below, filter, flat-map, range}
+use Rattle.profile.specs.Lists.{Mem, NoDup, below, filter, flat-map, range}
 use Rattle.profile.specs.Traces.{letters-below}
 use Rattle.profile.specs.Prefixes.{IsPrefix, at, count, marked, one, prefix-count, prefixes, total}
 use Rattle.profile.proofs.Counting.{at-map, length-range, prefix-count-of, prefixes-at, prefixes-nodup, prefixes-of}

@@ -1,14 +1,29 @@
 -- Laws about the definitions, by subject; other crates cite them.
+-- lists and sets
 pub mod Lists
-pub mod Traces
 pub mod Sets
+-- reachable logs and prefixes
+pub mod Traces
 pub mod Prefixes
-pub mod Automata
-pub mod Earliest
-pub mod Judgement
 pub mod Scan
 pub mod Counting
 pub mod Levels
+-- automata and the earliest order
+pub mod Automata
 pub mod Profiles
+pub mod LetterOrder
+pub mod Earliest
+pub mod Judgement
+-- two logs, two relations
 pub mod Comparison
 pub mod Sameness
+-- the table
+pub mod Packing
+pub mod Tables
+-- refusals, and what the demands ask
+pub mod Refusals
+pub mod Agreement
+pub mod Demands
+-- worked cases
+pub mod Cases
+pub mod Edges

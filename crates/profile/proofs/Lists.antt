@@ -1,14 +1,15 @@
 -- Tests on lists, and membership: what every other file here uses.
 use mathlib.Core.Path.{_≡_, refl, sym, _∙_, ap, ap₂, subst}
 use mathlib.Core.Bool.{Bool, true, false, _&&_, _||_, not}
-use mathlib.Core.Logic.{_⊎_, inl, inr, ⊎-elim}
-use mathlib.Core.List.{List, [], _∷_, _++_, map, append-nil, List·Memᴰ, List·Memᴰ·head, List·Memᴰ·tail, List·Memᴰ·cases-cons, List·Memᴰ·not-nil, Memᴰ·cast, Memᴰ·of-map, Memᴰ·append-left, Memᴰ·append-right, List·Memᴰ·append-cases}
-use Prim.Native.Nat.{ℕ, zero, suc, _+_, _≤_, _<_}
+use mathlib.Core.Logic.{_⊎_, inl, inr, ⊎-elim, _↔_}
+use mathlib.Core.List.{List, [], _∷_, _++_, map, append-nil, List·Memᴰ·head, List·Memᴰ·tail, List·Memᴰ·cases-cons, List·Memᴰ·not-nil, Memᴰ·cast, Memᴰ·of-map, Memᴰ·append-left, Memᴰ·append-right, List·Memᴰ·append-cases}
+use Prim.Native.Nat.{ℕ, zero, suc, _+_, _*_, _≤_, _<_}
 use native.Mathlib.Omega.{arith}
 use native.Mathlib.Nat.{zero-add}
-use lib.ListN.{length}
-use lib.Dec.{T, not-T, ltb, ltb→lt, nltb→le}
-use Rattle.profile.specs.Lists.{Mem, NoDup, all, any, below, filter, flat-map, range}
+use lib.ListN.{length, getD, length-append, List·getD-append}
+use lib.Seq.{getD-append-add}
+use lib.Dec.{T, not-T, eqb, eqb→eq, eqb-refl, ltb, ltb→lt, nltb→le}
+use Rattle.profile.specs.Lists.{Mem, NoDup, Rising, all, any, below, equal?, filter, flat-map, range}
 
 -- ---- tests
 
@@ -251,3 +252,65 @@ module _ {A B : Type 0} where
 pub range-nodup : (n a : ℕ) → NoDup (range a n)
 range-nodup zero a = tt
 range-nodup (suc n) a = ((λ m. let k = range-at n (suc a) a m in omega arith), range-nodup n (suc a))
+
+-- ---- equal lists
+
+pub equal-test : (u v : List ℕ) → T (equal? u v) ↔ (u ≡ v)
+equal-test u v = (at-equal u v, λ e. subst (λ x. T (equal? u x)) e (of-equal u))
+  where
+    at-equal : (u v : List ℕ) → T (equal? u v) → u ≡ v
+    at-equal [] [] t = refl
+    at-equal [] (b ∷ v) t = absurd t
+    at-equal (a ∷ u) [] t = absurd t
+    at-equal (a ∷ u) (b ∷ v) t = ap₂ _∷_ (eqb→eq a b (fst-of (eqb a b) (equal? u v) t)) (at-equal u v (snd-of (eqb a b) (equal? u v) t))
+
+    of-equal : (u : List ℕ) → T (equal? u u)
+    of-equal [] = tt
+    of-equal (a ∷ u) = both (eqb a a) (equal? u u) (eqb-refl a) (of-equal u)
+
+-- ---- the element at a place
+
+module _ {A : Type 0} where
+  -- the element at a place of l stands in l, and what stands in l stands at a place
+  pub mem-getD : (l : List A) (i : ℕ) (d : A) → i < length l → Mem (getD l i d) l
+  mem-getD [] i d h = absurd (omega arith)
+  mem-getD (a ∷ l) zero d h = List·Memᴰ·head refl
+  mem-getD (a ∷ l) (suc i) d h = List·Memᴰ·tail (mem-getD l i d (omega arith))
+
+  pub mem-place : {a : A} {l : List A} (d : A) → Mem a l → (i : ℕ) × (i < length l) × (getD l i d ≡ a)
+  mem-place d (List·Memᴰ·head {x = b} {xs = l} e) = let lt : 0 < suc (length l) = omega arith in (0, lt, sym e)
+  mem-place d (List·Memᴰ·tail {x = b} {xs = l} m) =
+      let p = mem-place d m in
+      let lt : suc (p .0) < suc (length l) = omega (arith, p .1) in (suc (p .0), lt, p .2)
+
+  -- in a list without repeats at one place only
+  pub nodup-place : (l : List A) (d : A) → NoDup l → (i j : ℕ) → i < length l → j < length l → getD l i d ≡ getD l j d → i ≡ j
+  nodup-place [] d n i j h k e = absurd (omega arith)
+  nodup-place (a ∷ l) d n zero zero h k e = refl
+  nodup-place (a ∷ l) d n zero (suc j) h k e = absurd (n .0 (Memᴰ·cast e (mem-getD l j d (omega arith))))
+  nodup-place (a ∷ l) d n (suc i) zero h k e = absurd (n .0 (Memᴰ·cast (sym e) (mem-getD l i d (omega arith))))
+  nodup-place (a ∷ l) d n (suc i) (suc j) h k e = ap suc (nodup-place l d (n .1) i j (omega arith) (omega arith) e)
+
+-- in a rising list the number at a later place is no smaller
+pub rising-getD : (l : List ℕ) → Rising l → (i j : ℕ) → i ≤ j → j < length l → getD l i 0 ≤ getD l j 0
+rising-getD [] r i j h k = absurd (omega arith)
+rising-getD (n ∷ l) r zero zero h k = omega arith
+rising-getD (n ∷ l) r zero (suc j) h k = r .0 (getD l j 0) (mem-getD l j 0 (omega arith))
+rising-getD (n ∷ l) r (suc i) zero h k = absurd (omega arith)
+rising-getD (n ∷ l) r (suc i) (suc j) h k = rising-getD l (r .1) i j (omega arith) (omega arith)
+
+-- where all lists f a have n elements
+module _ {A B : Type 0} (f : A → List B) (n : ℕ) (even : (a : A) → length (f a) ≡ n) where
+  pub flat-map-length : (l : List A) → length (flat-map f l) ≡ n * length l
+  flat-map-length [] = omega arith
+  flat-map-length (a ∷ l) = omega (arith, length-append (f a) (flat-map f l), even a, flat-map-length l)
+
+  -- element j of the list of element r
+  pub flat-map-getD : (l : List A) (r j : ℕ) (a : A) (b : B) → r < length l → j < n → getD (flat-map f l) (n * r + j) b ≡ getD (f (getD l r a)) j b
+  flat-map-getD [] r j a b h k = absurd (omega arith)
+  flat-map-getD (x ∷ l) zero j a b h k =
+      let e : n * 0 + j ≡ j = omega arith in
+      ap (λ i. getD (f x ++ flat-map f l) i b) e ∙ List·getD-append (f x) (flat-map f l) b j (omega (arith, even x))
+  flat-map-getD (x ∷ l) (suc r) j a b h k =
+      let e : n * suc r + j ≡ length (f x) + (n * r + j) = omega (arith, even x) in
+      ap (λ i. getD (f x ++ flat-map f l) i b) e ∙ getD-append-add (f x) (flat-map f l) (n * r + j) b ∙ flat-map-getD l r j a b (omega arith) k

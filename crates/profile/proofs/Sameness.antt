@@ -1,15 +1,16 @@
 -- Two logs reachable from each other: by the pairs that may be exchanged both ways, and by comparing what is left of each pair of letters that may not.
 -- Events are letters here.
 use mathlib.Core.Path.{_≡_, refl, sym, _∙_, ap, subst}
-use mathlib.Core.Bool.{Bool, not, _&&_, _||_}
+use mathlib.Core.Bool.{Bool, not, _||_, or-false, or-self}
 use mathlib.Core.Logic.{_⊎_, inl, inr, ⊎-elim, _↔_}
 use mathlib.Core.List.{List, [], _∷_, _++_, List·Memᴰ·eq-of-singleton, nil≢cons, head-eq-of-cons-eq, tail-eq-of-cons-eq}
-use Prim.Native.Nat.{ℕ}
-use lib.Dec.{T, T-not, not-T, eqb, eqb→eq, eqb-refl}
-use Rattle.profile.specs.Lists.{Mem, filter}
-use Rattle.profile.specs.Orders.{mutual?, project}
-use Rattle.profile.specs.Traces.{Reachable, exchange, insertions, itself}
-use Rattle.profile.proofs.Lists.{both, either, filter-append, filter-no, filter-yes, fst-of, or-left, or-right, snd-of, test}
+use Prim.Native.Nat.{ℕ, _≤_, _<_}
+use native.Mathlib.Omega.{arith}
+use lib.Dec.{T, T-not, not-T, eqb, ltb, eqb→eq, eqb-refl, ltb→lt}
+use Rattle.profile.specs.Lists.{Mem, all, below, equal?, filter}
+use Rattle.profile.specs.Orders.{Same, mutual?, project, same?}
+use Rattle.profile.specs.Traces.{Reachable, exchange, insertions, itself, letters-below}
+use Rattle.profile.proofs.Lists.{all-at, all-of, below-of, both, either, equal-test, filter-agree, filter-append, filter-no, filter-none, filter-yes, fst-of, is-false, lt-or-le, or-left, or-right, snd-of, test}
 use Rattle.profile.proofs.Traces.{Order, Pick, done, first, insert-cases, inserts-of, later, next, order-of-reach, reach-cons, reach-of-pick, reach-sym, reach-trans}
 
 -- R is symmetric and relates no letter to itself
@@ -139,3 +140,50 @@ module _ (may : ℕ → ℕ → Bool) (ir : (a : ℕ) → T (may a a) → ⊥) w
       down : {w v : List ℕ} → Reachable (mutual? may) w v → Reachable may w v
       down itself = itself
       down (exchange u a b v ok q) = exchange u a b v (fst-of (may a b) (may b a) ok) (down q)
+
+-- ---- the test
+
+-- for logs of letters below k, the pairs of letters below k are enough
+module _ (may : ℕ → ℕ → Bool) (ir : (a : ℕ) → T (may a a) → ⊥) (k : ℕ) (v w : List ℕ) where
+  pub same-test : T (letters-below (λ a. a) k v) → T (letters-below (λ a. a) k w) → T (same? may k v w) ↔ Same may v w
+  same-test h g = (
+    λ t. same-project may ir v w .1 (λ x y n. pair t x y n (lt-or-le x k) (lt-or-le y k)),
+    λ s. all-of (λ x. all (agree? x) (below k)) (below k)
+        (λ x p. all-of (agree? x) (below k) (λ y q. ⊎-elim (or-left (mutual? may x y) (equal? (project x y v) (project x y w)))
+        (λ n. or-right (mutual? may x y) (equal? (project x y v) (project x y w)) (equal-test (project x y v) (project x y w) .1 (same-project may ir v w .0 s x y n)))
+        (test (mutual? may x y)))),
+  )
+    where
+      agree? : ℕ → ℕ → Bool
+      agree? x y = mutual? may x y || equal? (project x y v) (project x y w)
+
+      -- no letter from k on stands in the log
+      other : (u : List ℕ) → T (letters-below (λ a. a) k u) → (y : ℕ) → k ≤ y → (a : ℕ) → Mem a u → T (eqb a y) → ⊥
+      other u l y o a m t = omega (arith, ltb→lt a k (all-at (λ b. ltb b k) l m), eqb→eq a y t)
+
+      low : T (same? may k v w) → (x y : ℕ) → T (not (mutual? may x y)) → x < k → y < k → project x y v ≡ project x y w
+      low t x y n p q = equal-test (project x y v) (project x y w) .0 (⊎-elim (λ m. absurd (T-not (mutual? may x y) n m)) (λ e. e)
+          (either (mutual? may x y) (equal? (project x y v) (project x y w))
+          (all-at (agree? x) (all-at (λ x. all (agree? x) (below k)) t (below-of k x p)) (below-of k y q))))
+
+      -- no letter is exchanged with itself
+      alone : (x : ℕ) → T (not (mutual? may x x))
+      alone x = not-T (mutual? may x x) (λ m. ir x (fst-of (may x x) (may x x) m))
+
+      -- a letter from k on leaves what is kept of the other letter alone
+      left : (u : List ℕ) → T (letters-below (λ a. a) k u) → (x y : ℕ) → k ≤ y → project x y u ≡ project x x u
+      left u l x y o = filter-agree (λ a. eqb a x || eqb a y) (λ a. eqb a x || eqb a x) u
+          (λ a m. ap (_||_ (eqb a x)) (is-false (eqb a y) (not-T (eqb a y) (other u l y o a m))) ∙ or-false (eqb a x) ∙ sym (or-self (eqb a x)))
+
+      right : (u : List ℕ) → T (letters-below (λ a. a) k u) → (x y : ℕ) → k ≤ x → project x y u ≡ project y y u
+      right u l x y o = filter-agree (λ a. eqb a x || eqb a y) (λ a. eqb a y || eqb a y) u
+          (λ a m. ap (λ b. b || eqb a y) (is-false (eqb a x) (not-T (eqb a x) (other u l x o a m))) ∙ sym (or-self (eqb a y)))
+
+      high : (u : List ℕ) → T (letters-below (λ a. a) k u) → (x y : ℕ) → k ≤ x → k ≤ y → project x y u ≡ []
+      high u l x y p q = filter-none (λ a. eqb a x || eqb a y) u (λ a m t. ⊎-elim (other u l x p a m) (other u l y q a m) (either (eqb a x) (eqb a y) t))
+
+      pair : T (same? may k v w) → (x y : ℕ) → T (not (mutual? may x y)) → (x < k) ⊎ (k ≤ x) → (y < k) ⊎ (k ≤ y) → project x y v ≡ project x y w
+      pair t x y n (inl p) (inl q) = low t x y n p q
+      pair t x y n (inl p) (inr q) = left v h x y q ∙ low t x x (alone x) p p ∙ sym (left w g x y q)
+      pair t x y n (inr p) (inl q) = right v h x y p ∙ low t y y (alone y) q q ∙ sym (right w g x y p)
+      pair t x y n (inr p) (inr q) = high v h x y p q ∙ sym (high w g x y p q)

@@ -111,7 +111,7 @@ module _ {A : Type 0} where
       go (inr h) k = let n = k h in (n .0, List·Memᴰ·tail (n .1), n .2)
 
 -- a set that is not empty has a state
-some-bit : (S : ℕ) → T (not (eqb S 0)) → (q : ℕ) × T (bit S q)
+pub some-bit : (S : ℕ) → T (not (eqb S 0)) → (q : ℕ) × T (bit S q)
 some-bit = bin-ind (λ S. T (not (eqb S 0)) → (q : ℕ) × T (bit S q)) (λ h. absurd h) (λ S ih h. go S ih h (digit S))
   where
     go : (S : ℕ) → (T (not (eqb (S / 2) 0)) → (q : ℕ) × T (bit (S / 2) q)) → T (not (eqb S 0)) → (S % 2 ≡ 0) ⊎ (S % 2 ≡ 1) → (q : ℕ) × T (bit S q)

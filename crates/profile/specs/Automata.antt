@@ -7,6 +7,7 @@ use lib.Dec.{T, eqb, ltb}
 use lib.ListN.{getD}
 use Rattle.profile.specs.Lists.{below, filter}
 use Rattle.profile.specs.Traces.{bit}
+use Rattle.profile.specs.declared.Shape.{Shape}
 
 -- "profile": k, the masks, s states, a start state, a set of final states, and moves
 pub record Profile : Type 0 where
@@ -16,6 +17,10 @@ pub record Profile : Type 0 where
   pub start : ℕ
   pub finals : ℕ
   pub moves : List ℕ
+
+-- the profile of a direct call: the numbers, and the slices of masks and moves
+abbrev pub profile-of : Shape → List ℕ → List ℕ → Profile
+profile-of h masks moves = record { k = h .k; masks = masks; s = h .s; start = h .start; finals = h .finals; moves = moves }
 
 -- the two sets have a state in common
 abbrev pub meets : ℕ → ℕ → Bool
@@ -40,14 +45,21 @@ pub record Automaton : Type 0 where
 abbrev pub row : ℕ → List ℕ → ℕ → ℕ → ℕ
 row k moves q a = getD moves (q * k + a) 0
 
--- the automaton of a profile; its states are the numbers below s
+-- the states to which letter x leads from the states of S, and those from which it leads into R; states are the numbers below s
+abbrev pub forward-step : ℕ → ℕ → List ℕ → ℕ → ℕ → ℕ
+forward-step k s moves S x = union (λ q. row k moves q x) (filter (bit S) (below s))
+
+abbrev pub backward-step : ℕ → ℕ → List ℕ → ℕ → ℕ → ℕ
+backward-step k s moves R x = union (λ q. 2 ^ q) (filter (λ q. meets (row k moves q x) R) (below s))
+
+-- the automaton of a profile
 abbrev pub automaton : Profile → Automaton
 automaton p = record {
   start = 2 ^ p .start;
   final = p .finals;
   move = λ q x r. ltb q (p .s) && bit (row (p .k) (p .moves) q x) r;
-  step = λ S x. union (λ q. row (p .k) (p .moves) q x) (filter (bit S) (below (p .s)));
-  back = λ R x. union (λ q. 2 ^ q) (filter (λ q. meets (row (p .k) (p .moves) q x) R) (below (p .s)));
+  step = forward-step (p .k) (p .s) (p .moves);
+  back = backward-step (p .k) (p .s) (p .moves);
 }
 
 -- "path": some path from state q spells u and ends in state r

@@ -6,10 +6,10 @@ use Prim.Native.Nat.{ℕ, _+_, _*_, _^_}
 use lib.Dec.{eqb, ltb, leb}
 use lib.ListN.{length, getD}
 use Rattle.profile.specs.Lists.{any, below, first-place}
-use Rattle.profile.specs.Traces.{bit, independent}
+use Rattle.profile.specs.Traces.{independent}
 use Rattle.profile.specs.Automata.{Profile}
 use Rattle.profile.specs.Prefixes.{prefix-count}
-use Rattle.profile.specs.Tables.{Layout, capacity, layout}
+use Rattle.profile.specs.Tables.{capacity, layout}
 use Rattle.profile.specs.declared.Refusal.{Refusal}
 use Rattle.profile.specs.declared.Refusal.the-variants.{ShortFile, OutOfRange, Distance, MaskBit, Asymmetric, StateBit, LongLog, BadLetter, ShortBuffer, FullTable}
 
@@ -104,13 +104,18 @@ log-refusals k w = (long-log w, LongLog) ∷ (bad-letter k w, BadLetter (bad-pla
 abbrev pub admission-refusals : Profile → List ℕ → ℕ → List (Bool × Refusal)
 admission-refusals p w n = profile-refusals p ++ (log-refusals (p .k) w ++ ((short-buffer n w, ShortBuffer) ∷ []))
 
+abbrev pub judge-refusals : Profile → List ℕ → ℕ → ℕ → List (Bool × Refusal)
+judge-refusals p w n m = admission-refusals p w n ++ ((full-table (prefix-count (independent (p .masks)) (λ a. a) (p .k) w) m, FullTable) ∷ [])
+
 abbrev pub judge-refusal : Profile → List ℕ → ℕ → ℕ → Option Refusal
-judge-refusal p w n m =
-    lowest (admission-refusals p w n ++ ((full-table (prefix-count (independent (p .masks)) (λ a. a) (p .k) w) m, FullTable) ∷ []))
+judge-refusal p w n m = lowest (judge-refusals p w n m)
 
 -- the first order, with n places for it
+abbrev pub first-order-refusals : ℕ → List ℕ → List ℕ → ℕ → List (Bool × Refusal)
+first-order-refusals k masks w n = relation-refusals k masks ++ (log-refusals k w ++ ((short-buffer n w, ShortBuffer) ∷ []))
+
 abbrev pub first-order-refusal : ℕ → List ℕ → List ℕ → ℕ → Option Refusal
-first-order-refusal k masks w n = lowest (relation-refusals k masks ++ (log-refusals k w ++ ((short-buffer n w, ShortBuffer) ∷ [])))
+first-order-refusal k masks w n = lowest (first-order-refusals k masks w n)
 
 -- a refusal with the log that it is about: 1 or 2, and 0 for none
 abbrev pub of-log : ℕ → List (Bool × Refusal) → List (Bool × (Refusal × ℕ))

@@ -1,5 +1,4 @@
 -- The definitions of Avellone and Goldwurm (1998), section 2, which demand 2 cites: what results agree with where the masks are symmetric.
-use mathlib.Core.Path.{_≡_}
 use mathlib.Core.Bool.{Bool}
 use mathlib.Core.List.{List, [], _∷_, _++_}
 use Prim.Native.Nat.{ℕ}

@@ -1,6 +1,29 @@
-// The words of the judge: refusals.
+// The words of the judge: profiles, independence, refusals.
 ghost use mathlib.Core.Path.{_≡_};
 ghost use Rattle.profile.specs.Refusals.{refusal-number, refusal-place};
+ghost use Rattle.profile.specs.Traces.{independent as independent-by};
+
+// The numbers of a profile; its masks and moves are slices beside it.
+pub struct Shape {
+    pub k: usize,
+    pub s: usize,
+    pub start: usize,
+    pub finals: u32,
+}
+
+// Letters i and j are independent: bit j of mask i is set. What the masks do not have is not set.
+pub fn independent(masks: &[u16], i: usize, j: usize) -> bool
+    ensures { λ r. ⌜ r ≡ independent-by (now (masks .entry)) i j ⌝ }
+{
+    if masks.len() <= i {
+        return false;
+    }
+    let mask = masks[i];
+    if 16 <= j {
+        return false;
+    }
+    (mask >> j) & 1 == 1
+}
 
 // Why a call is refused. The definitions of `specs/Refusals.antt` give the number and the place.
 pub enum Refusal {

@@ -1,0 +1,145 @@
+-- The edges that document 01 names: which refusal a call gets, and which logs are the same. One theorem over each list of rows.
+use mathlib.Core.Path.{_≡_, refl}
+use mathlib.Core.Bool.{Bool, true, false}
+use mathlib.Core.List.{List, [], _∷_}
+use mathlib.Core.Option.{Option, none, some}
+use Prim.Native.Nat.{ℕ}
+use lib.Dec.{T}
+use lib.ListN.{replicate}
+use Rattle.profile.specs.Lists.{Mem, all, equal?}
+use Rattle.profile.specs.Traces.{independent}
+use Rattle.profile.specs.Automata.{Profile}
+use Rattle.profile.specs.Tables.{capacity, layout}
+use Rattle.profile.specs.Orders.{first-order, same?}
+use Rattle.profile.specs.Refusals.{first-order-refusal, judge-refusal, refusal-number, refusal-place, same-refusal}
+use Rattle.profile.specs.declared.Refusal.{Refusal}
+use Rattle.profile.proofs.Lists.{all-at, equal-test}
+use Rattle.profile.proofs.Cases.{ab, alt, free}
+
+abbrev M7 : List ℕ
+M7 = 0 ∷ 1 ∷ 2 ∷ 1 ∷ 0 ∷ 3 ∷ []
+
+-- what a refused caller is told: number and place; nothing where the call is not refused
+abbrev pub told : Option Refusal → List ℕ
+told none = []
+told (some r) = refusal-number r ∷ refusal-place r ∷ []
+
+-- ---- calls of the judge
+
+pub record Call : Type 0 where
+  pub profile : Profile
+  pub log : List ℕ
+  pub places : ℕ
+  pub numbers : ℕ
+  pub answer : List ℕ
+
+abbrev pub answer-of : Call → List ℕ
+answer-of c = told (judge-refusal (c .profile) (c .log) (c .places) (c .numbers))
+
+call : Profile → List ℕ → ℕ → ℕ → List ℕ → Call
+call p w n m a = record { profile = p; log = w; places = n; numbers = m; answer = a }
+
+shape : ℕ → List ℕ → ℕ → ℕ → ℕ → List ℕ → Profile
+shape k masks s start finals moves = record { k = k; masks = masks; s = s; start = start; finals = finals; moves = moves }
+
+-- the edges of each refusal, and where two apply
+pub calls : List Call
+unfolding call shape
+calls =
+    call (alt ab) (1 ∷ 0 ∷ []) 2 24 []
+    ∷ call (alt ab) (1 ∷ 0 ∷ []) 2 23 (10 ∷ 0 ∷ [])
+    ∷ call (alt ab) (1 ∷ 0 ∷ []) 1 0 (9 ∷ 0 ∷ [])
+    ∷ call (alt ab) (1 ∷ 0 ∷ 1 ∷ []) 2 36 (9 ∷ 0 ∷ [])
+    ∷ call (alt ab) [] 0 6 []
+    ∷ call (alt ab) [] 0 5 (10 ∷ 0 ∷ [])
+    ∷ call (free 1 (0 ∷ [])) (replicate 255 0) 255 1536 []
+    ∷ call (free 1 (0 ∷ [])) (replicate 255 0) 255 1535 (10 ∷ 0 ∷ [])
+    ∷ call (free 1 (0 ∷ [])) (replicate 256 0) 0 0 (7 ∷ 0 ∷ [])
+    ∷ call (free 1 (0 ∷ [])) (replicate 256 1) 0 0 (7 ∷ 0 ∷ [])
+    ∷ call (alt ab) (0 ∷ 2 ∷ 3 ∷ []) 0 0 (8 ∷ 1 ∷ [])
+    ∷ call (shape 0 [] 1 0 0 []) [] 0 6 (2 ∷ 0 ∷ [])
+    ∷ call (free 16 (replicate 16 0)) [] 0 6 []
+    ∷ call (free 17 (replicate 17 0)) [] 0 6 (2 ∷ 0 ∷ [])
+    ∷ call (free 2 (0 ∷ [])) [] 0 6 (2 ∷ 0 ∷ [])
+    ∷ call (shape 1 (0 ∷ []) 0 0 0 []) [] 0 6 (2 ∷ 0 ∷ [])
+    ∷ call (shape 1 (0 ∷ []) 32 31 4294967295 (replicate 32 4294967295)) [] 0 6 []
+    ∷ call (shape 1 (0 ∷ []) 33 0 0 (replicate 33 0)) [] 0 6 (2 ∷ 0 ∷ [])
+    ∷ call (shape 1 (0 ∷ []) 1 1 0 (0 ∷ [])) [] 0 6 (2 ∷ 0 ∷ [])
+    ∷ call (shape 1 (0 ∷ []) 1 0 0 []) [] 0 6 (2 ∷ 0 ∷ [])
+    ∷ call (shape 1 (2 ∷ []) 1 0 0 (2 ∷ [])) (1 ∷ []) 0 0 (4 ∷ 0 ∷ [])
+    ∷ call (shape 1 (1 ∷ []) 1 0 0 (0 ∷ [])) [] 0 6 (4 ∷ 0 ∷ [])
+    ∷ call (alt (2 ∷ 0 ∷ [])) (2 ∷ []) 0 0 (5 ∷ 0 ∷ [])
+    ∷ call (alt (0 ∷ 1 ∷ [])) [] 0 6 (5 ∷ 0 ∷ [])
+    ∷ call (shape 1 (0 ∷ []) 1 0 2 (0 ∷ [])) (1 ∷ []) 0 0 (6 ∷ 0 ∷ [])
+    ∷ call (shape 1 (0 ∷ []) 1 0 0 (2 ∷ [])) [] 0 6 (6 ∷ 0 ∷ [])
+    ∷ []
+
+answered? : Call → Bool
+answered? c = equal? (answer-of c) (c .answer)
+
+calls-computed : T (all answered? calls)
+unfolding answered? calls call shape
+calls-computed = tt
+
+-- every call of the list is answered as its row says
+pub refused : (c : Call) → Mem c calls → answer-of c ≡ c .answer
+unfolding answered?
+refused c m = equal-test (answer-of c) (c .answer) .0 (all-at answered? calls-computed m)
+
+-- no table has place for more than 715,827,882 records
+pub capacity-most : capacity layout 18446744073709551615 ≡ 715827882
+capacity-most = refl
+
+-- ---- comparisons and first orders
+
+pub record Pair : Type 0 where
+  pub k : ℕ
+  pub masks : List ℕ
+  pub first : List ℕ
+  pub second : List ℕ
+  pub answer : List ℕ
+
+-- 1 for the same, 0 for different; of a refusal number, place and log
+abbrev pub told-same : Option (Refusal × ℕ) → Bool → List ℕ
+told-same none true = 1 ∷ []
+told-same none false = 0 ∷ []
+told-same (some r) b = refusal-number (r .0) ∷ refusal-place (r .0) ∷ r .1 ∷ []
+
+abbrev pub compared : Pair → List ℕ
+compared c = told-same (same-refusal (c .k) (c .masks) (c .first) (c .second)) (same? (independent (c .masks)) (c .k) (c .first) (c .second))
+
+pair : List ℕ → List ℕ → List ℕ → List ℕ → Pair
+pair masks v w a = record { k = 2; masks = masks; first = v; second = w; answer = a }
+
+-- ab and abb differ in the count of b alone; the first log is checked before the second
+pub pairs : List Pair
+unfolding pair
+pairs =
+    pair ab (0 ∷ 1 ∷ []) (1 ∷ 0 ∷ []) (1 ∷ [])
+    ∷ pair ab (0 ∷ 1 ∷ []) (0 ∷ 1 ∷ 1 ∷ []) (0 ∷ [])
+    ∷ pair (0 ∷ 0 ∷ []) (0 ∷ 1 ∷ []) (1 ∷ 0 ∷ []) (0 ∷ [])
+    ∷ pair ab [] [] (1 ∷ [])
+    ∷ pair (0 ∷ []) (2 ∷ []) (2 ∷ []) (2 ∷ 0 ∷ 0 ∷ [])
+    ∷ pair (1 ∷ 0 ∷ []) (2 ∷ []) (2 ∷ []) (4 ∷ 0 ∷ 0 ∷ [])
+    ∷ pair (2 ∷ 0 ∷ []) (2 ∷ []) (2 ∷ []) (5 ∷ 0 ∷ 0 ∷ [])
+    ∷ pair ab (1 ∷ 2 ∷ []) (replicate 256 0) (8 ∷ 1 ∷ 1 ∷ [])
+    ∷ pair ab (replicate 256 2) (2 ∷ []) (7 ∷ 0 ∷ 1 ∷ [])
+    ∷ pair ab (1 ∷ []) (replicate 256 0) (7 ∷ 0 ∷ 2 ∷ [])
+    ∷ pair ab (1 ∷ []) (0 ∷ 1 ∷ 3 ∷ []) (8 ∷ 2 ∷ 2 ∷ [])
+    ∷ []
+
+compared? : Pair → Bool
+compared? c = equal? (compared c) (c .answer)
+
+pairs-computed : T (all compared? pairs)
+unfolding compared? pairs pair
+pairs-computed = tt
+
+pub comparisons : (c : Pair) → Mem c pairs → compared c ≡ c .answer
+unfolding compared?
+comparisons c m = equal-test (compared c) (c .answer) .0 (all-at compared? pairs-computed m)
+
+-- the first order of M7's log in six bytes, and five bytes for it
+pub first-order-M7 : (first-order (independent (2 ∷ 1 ∷ 0 ∷ 0 ∷ [])) M7 ≡ some (0 ∷ 1 ∷ 2 ∷ 0 ∷ 1 ∷ 3 ∷ []))
+    × (told (first-order-refusal 4 (2 ∷ 1 ∷ 0 ∷ 0 ∷ []) M7 6) ≡ []) × (told (first-order-refusal 4 (2 ∷ 1 ∷ 0 ∷ 0 ∷ []) M7 5) ≡ 9 ∷ 0 ∷ [])
+first-order-M7 = (refl, refl, refl)
