@@ -9,7 +9,7 @@ use lib.ListN.{length}
 use lib.Dec.{T, T-not, not-T, eqb, eqb→eq, eqb-refl, ltb, ltb→lt, lt→ltb}
 use Rattle.profile.specs.Lists.{Mem, all}
 use Rattle.profile.specs.Prefixes.{IsPrefix, at, closed?, count, less, marked, one, unmarked}
-use Rattle.profile.proofs.Lists.{all-append, all-at, all-of, all-split, both, fst-of, is-true, snd-of, test}
+use Rattle.profile.proofs.Lists.{all-at, all-of, both, fst-of, is-true, snd-of, test}
 use Rattle.profile.proofs.Traces.{Order, Pick, Takes, done, first, later, next, order-trans, takes-last, takes-refl, takes-split, takes-trans}
 
 -- counts with one x more
@@ -41,31 +41,6 @@ module _ (may : ℕ → ℕ → Bool) where
   front-nil : {w r : List ℕ} → Front may w [] r → w ≡ r
   front-nil empty = refl
   front-nil (keep {a = a} h f) = ap (_∷_ a) (front-nil f)
-
-  -- a log with one event more at its end: the event is left, or it is marked and may pass all that is left
-  pub front-keep-last : (e : ℕ) {w m r : List ℕ} → Front may w m r → Front may (w ++ (e ∷ [])) m (r ++ (e ∷ []))
-  front-keep-last e empty = keep tt empty
-  front-keep-last e (mark f) = mark (front-keep-last e f)
-  front-keep-last e (keep h f) = keep h (front-keep-last e f)
-
-  pub front-mark-last : (e : ℕ) {w m r : List ℕ} → Front may w m r → T (all (λ a. may a e) r) → Front may (w ++ (e ∷ [])) (m ++ (e ∷ [])) r
-  front-mark-last e empty k = mark empty
-  front-mark-last e (mark f) k = mark (front-mark-last e f k)
-  front-mark-last e (keep {a = a} {m = m} {r = r} h f) k =
-      keep (all-append (may a) m (e ∷ []) h (both (may a e) true (fst-of (may a e) (all (λ a. may a e) r) k) tt)) (front-mark-last e f (snd-of (may a e) (all (λ a. may a e) r) k))
-
-  pub front-last : (e : ℕ) (w : List ℕ) {m r : List ℕ} → Front may (w ++ (e ∷ [])) m r
-      → ((s : List ℕ) × (r ≡ s ++ (e ∷ [])) × Front may w m s) ⊎ ((n : List ℕ) × (m ≡ n ++ (e ∷ [])) × Front may w n r × T (all (λ a. may a e) r))
-  front-last e [] (mark empty) = inr ([], refl, empty, tt)
-  front-last e [] (keep h empty) = inl ([], refl, empty)
-  front-last e (a ∷ w) (mark f) = ⊎-elim
-      (λ n. inl (n .0, n .1, mark (n .2))) (λ n. inr (a ∷ n .0, ap (_∷_ a) (n .1), mark (n .2), n .3)) (front-last e w f)
-  front-last e (a ∷ w) (keep {r = r} h f) = ⊎-elim
-      (λ n. inl (a ∷ n .0, ap (_∷_ a) (n .1), keep h (n .2)))
-      (λ n.
-      let k = all-split (may a) (n .0) (e ∷ []) (subst (λ l. T (all (may a) l)) (n .1) h) in
-      inr (n .0, n .1, keep (k .0) (n .2), both (may a e) (all (λ a. may a e) r) (fst-of (may a e) true (k .1)) (n .3)))
-      (front-last e w f)
 
   -- what holds of all events of w holds of the marked ones, and of the others
   pub front-marks : {w m r : List ℕ} → Front may w m r → (p : ℕ → Bool) → T (all p w) → T (all p m)
