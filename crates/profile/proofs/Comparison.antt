@@ -16,14 +16,10 @@ use Rattle.profile.specs.Traces.{Reachable, exchange, itself, letters-be
 use Rattle.profile.proofs.Counting.{prefix-count-reach, prefixes-at, prefixes-nodup, prefixes-of}
 use Rattle.profile.proofs.Earliest.{earliest-at, least-le, no-later-antisym}
 use Rattle.profile.proofs.Levels.{by-total}
-use Rattle.profile.proofs.Lists.{filter-agree, filter-at, filter-of, flat-map-agree, nodup-length}
-use Rattle.profile.proofs.Prefixes.{addable-at, addable-of, addable?, count-order, prefix-of-order, prefix-test}
+use Rattle.profile.proofs.Lists.{filter-agree, filter-at, filter-of, nodup-length}
+use Rattle.profile.proofs.Prefixes.{count-order, prefix-of-order, prefix-test}
 use Rattle.profile.proofs.Sets.{T-eq}
 use Rattle.profile.proofs.Traces.{Order, mem-of-order, order-of-mem, order-of-reach, order-trans, reach-of-order, takes-length}
-
--- the pairs of a prefix and a letter such that one more of that letter gives a prefix again
-abbrev pub looks : (ℕ → ℕ → Bool) → (ℕ → ℕ) → ℕ → List ℕ → ℕ
-looks may letter k w = length (flat-map (λ c. filter (addable? may letter w (at c)) (below k)) (prefixes may letter k w))
 
 -- the earliest of more lists is no later
 earliest-more : (l r : List (List ℕ)) {u : List ℕ} → ((x : List ℕ) → Mem x l → Mem x r) → earliest l ≡ some u → (v : List ℕ) × (earliest r ≡ some v) × NoLater v u
@@ -88,10 +84,11 @@ module _ (letter : ℕ → ℕ) (M : Automaton) where
     prefix-count-same distinct k h g = omega (arith, prefix-count-reach may letter k distinct w v g p, prefix-count-reach may letter k distinct v w h q)
 
     module _ (distinct : (a b : ℕ) → T (may a b) → letter a ≢ letter b) (k : ℕ) (h : T (letters-below letter k w)) (g : T (letters-below letter k v)) where
-      over : {c : ℕ → ℕ} → IsPrefix may letter w c → IsPrefix may letter v c
+      -- each prefix of one is a prefix of the other
+      pub over : {c : ℕ → ℕ} → IsPrefix may letter w c → IsPrefix may letter v c
       over n = prefix-of-order may letter distinct (order-of-reach may q) n .0
 
-      back-over : {c : ℕ → ℕ} → IsPrefix may letter v c → IsPrefix may letter w c
+      pub back-over : {c : ℕ → ℕ} → IsPrefix may letter v c → IsPrefix may letter w c
       back-over n = prefix-of-order may letter distinct (order-of-reach may p) n .0
 
       -- the same prefixes, in the same order
@@ -106,18 +103,9 @@ module _ (letter : ℕ → ℕ) (M : Automaton) where
           e : count letter w ≡ count letter v
           e = count-order may letter (order-of-reach may p)
 
-      -- so also the same order by total, and the same looks
+      -- so also the same order by total
       pub by-total-same : by-total may letter k w ≡ by-total may letter k v
       by-total-same = ap₂ (λ l n. flat-map (λ m. filter (λ c. eqb (total c) m) l) (below (suc n))) prefixes-same len
         where
           len : length w ≡ length v
           len = omega (arith, takes-length may (order-of-reach may p))
-
-      pub looks-same : looks may letter k w ≡ looks may letter k v
-      looks-same = ap length (flat-map-agree (λ c. filter (addable? may letter w (at c)) (below k)) (λ c. filter (addable? may letter v (at c)) (below k)) (prefixes may letter k w)
-          (λ c m.
-          let n = prefixes-at may letter k w c h m .1 in
-          filter-agree (addable? may letter w (at c)) (addable? may letter v (at c)) (below k) (λ x _. T-eq (addable? may letter w (at c) x) (addable? may letter v (at c) x)
-          (λ t. addable-of may letter distinct (at c) x (over (addable-at may letter distinct n t .0)))
-          (λ t. addable-of may letter distinct (at c) x (back-over (addable-at may letter distinct (over n) t .0)))))
-          ∙ ap (flat-map (λ c. filter (addable? may letter v (at c)) (below k))) prefixes-same)

@@ -16,6 +16,7 @@ pub mod Earliest
 pub mod Judgement
 -- two logs, two relations
 pub mod Comparison
+pub mod Looks
 pub mod Sameness
 -- the table
 pub mod Packing
