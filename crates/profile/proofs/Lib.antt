@@ -21,6 +21,7 @@ pub mod Sameness
 -- the table
 pub mod Packing
 pub mod Tables
+pub mod Merge
 -- refusals, and what the demands ask
 pub mod Refusals
 pub mod Agreement
