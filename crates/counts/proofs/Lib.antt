@@ -1,0 +1,6 @@
+-- Laws about the counts in numbers, by subject; other crates cite them.
+-- the counts in one number, and the order of counts
+pub mod Words
+pub mod Order
+-- counts, packed: one more, equal, before, total
+pub mod Packed

@@ -1,0 +1,171 @@
+// The counts of a prefix record, packed: document 01, "Prefixes and their table".
+ghost use mathlib.Core.Path.{_≡_};
+ghost use mathlib.Core.Bool.{not};
+ghost use mathlib.Core.List.{[]};
+ghost use Prim.Native.Nat.{_<_, _%_, _^_};
+ghost use lib.ListN.{getD, set};
+ghost use Rattle.profile.specs.Lists.{equal?};
+ghost use Rattle.profile.specs.Orders.{no-later?};
+ghost use Rattle.profile.specs.Prefixes.{total};
+ghost use Rattle.profile.specs.Tables.{layout, count-field, packed};
+ghost use Rattle.profile.proofs.Packing.{rank};
+ghost use Rattle.counts.specs.Counts.{words, counts-in, add-count, before?, word-count, word-counts};
+
+// The bits of a count.
+const WIDTH: usize = 8;
+
+// What a count stays below.
+const BOUND: u32 = 256;
+
+// The counts in one number.
+const PER: usize = 4;
+
+// The numbers of counts of a record.
+pub struct Counts {
+    pub w0: u32,
+    pub w1: u32,
+    pub w2: u32,
+    pub w3: u32,
+}
+
+// No event of any letter.
+pub fn none_counted() -> Counts
+    ensures { λ r. ⌜ words r ≡ packed layout [] ⌝ }
+{
+    Counts {
+        w0: 0,
+        w1: 0,
+        w2: 0,
+        w3: 0,
+    }
+}
+
+// Number i of counts; 0 past the last.
+fn word_of(c: Counts, i: usize) -> u32
+    ensures { λ r. ⌜ r ≡ getD (words c) i 0 ⌝ }
+{
+    if i == 0 {
+        return c.w0;
+    }
+    if i == 1 {
+        return c.w1;
+    }
+    if i == 2 {
+        return c.w2;
+    }
+    if i == 3 {
+        return c.w3;
+    }
+    0
+}
+
+// The counts with number i replaced by w; unchanged past the last.
+fn with_word(c: Counts, i: usize, w: u32) -> Counts
+    ensures { λ r. ⌜ words r ≡ set (words c) i w ⌝ }
+{
+    let mut d = c;
+    if i == 0 {
+        d.w0 = w;
+        return d;
+    }
+    if i == 1 {
+        d.w1 = w;
+        return d;
+    }
+    if i == 2 {
+        d.w2 = w;
+        return d;
+    }
+    if i == 3 {
+        d.w3 = w;
+        return d;
+    }
+    d
+}
+
+// The count that the number w holds at the place of letter a.
+fn count_in(w: u32, a: usize) -> u32
+    ensures { λ r. ⌜ r ≡ word-count layout w (a % layout .per) ⌝ }
+    ensures { λ r. ⌜ r < 2 ^ layout .width ⌝ }
+{
+    (w >> (WIDTH * (a % PER))) % BOUND
+}
+
+// The count of letter a; 0 for a letter past the last.
+pub fn count_of(c: Counts, a: usize) -> usize
+    ensures { λ r. ⌜ r ≡ count-field layout (words c) a ⌝ }
+{
+    let w = word_of(c, a / PER);
+    count_in(w, a) as usize
+}
+
+// The counts with one more of letter a; unchanged for a letter past the last.
+pub fn one_more(c: Counts, a: usize) -> Counts
+    ensures { λ r. ⌜ words r ≡ add-count layout (words c) a ⌝ }
+{
+    let i = a / PER;
+    let one = 1u32 << (WIDTH * (a % PER));
+    let w = std::num::wrapping_add_u32(word_of(c, i), one);
+    with_word(c, i, w)
+}
+
+// a and b have the same counts.
+pub fn same_counts(a: Counts, b: Counts) -> bool
+    ensures { λ r. ⌜ r ≡ equal? (words a) (words b) ⌝ }
+{
+    if a.w0 != b.w0 {
+        return false;
+    }
+    if a.w1 != b.w1 {
+        return false;
+    }
+    if a.w2 != b.w2 {
+        return false;
+    }
+    a.w3 == b.w3
+}
+
+// The counts of the number w as the digits of one number, the first highest.
+fn reversed(w: u32) -> u32
+    ensures { λ r. ⌜ r ≡ rank (2 ^ layout .width) (word-counts layout w) ⌝ }
+{
+    ((count_in(w, 0) * BOUND + count_in(w, 1)) * BOUND + count_in(w, 2)) * BOUND + count_in(w, 3)
+}
+
+// The counts of the number v stand before those of w.
+fn word_before(v: u32, w: u32) -> bool
+    ensures { λ r. ⌜ r ≡ not (no-later? (word-counts layout w) (word-counts layout v)) ⌝ }
+{
+    reversed(v) < reversed(w)
+}
+
+// The counts a stand before the counts b: at the first letter whose counts differ a has the smaller.
+pub fn counts_before(a: Counts, b: Counts) -> bool
+    ensures { λ r. ⌜ r ≡ before? layout (words a) (words b) ⌝ }
+{
+    if a.w0 != b.w0 {
+        return word_before(a.w0, b.w0);
+    }
+    if a.w1 != b.w1 {
+        return word_before(a.w1, b.w1);
+    }
+    if a.w2 != b.w2 {
+        return word_before(a.w2, b.w2);
+    }
+    word_before(a.w3, b.w3)
+}
+
+// The total count of the number w.
+fn word_total(w: u32) -> usize
+    ensures { λ r. ⌜ r ≡ total (word-counts layout w) ⌝ }
+    ensures { λ r. ⌜ r < 2 ^ 32 ⌝ }
+{
+    (count_in(w, 0) + count_in(w, 1) + count_in(w, 2) + count_in(w, 3)) as usize
+}
+
+// The total count.
+pub fn total_of(c: Counts) -> usize
+    ensures { λ r. ⌜ r ≡ total (counts-in layout (words c)) ⌝ }
+{
+    word_total(c.w0) + word_total(c.w1) + word_total(c.w2) + word_total(c.w3)
+}

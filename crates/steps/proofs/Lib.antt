@@ -1,0 +1,2 @@
+-- Laws about unions over states; the functions' proofs cite them.
+pub mod Unions
