@@ -1,0 +1,2 @@
+-- Laws about the letters that can be added; other crates cite them.
+pub mod Additions

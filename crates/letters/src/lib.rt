@@ -1,0 +1,60 @@
+// The letters that can be added to a prefix, given by its packed counts.
+use counts::Counts;
+ghost use mathlib.Core.Path.{_≡_};
+ghost use mathlib.Core.List.{_++_};
+ghost use Prim.Native.Nat.{_≤_, _^_};
+ghost use lib.ListN.{length, drop};
+ghost use Rattle.profile.specs.Automata.{union};
+ghost use Rattle.profile.specs.Traces.{independent};
+ghost use Rattle.counts.specs.Counts.{words};
+ghost use Rattle.letters.specs.Letters.{next-by, letters-by};
+
+// The set of the letters that can be added, and how many they are.
+pub struct Letters {
+    pub set: u32,
+    pub number: u32,
+}
+
+// Puts the place of the next event of each letter below k.
+fn next_places(c: Counts, k: usize, starts: &[u16], places: &[u8], next: &mut [u8])
+    requires { ⌜ k ≤ length (now next) ⌝ }
+    ensures { λ r. ⌜ now (next .exit) ≡ next-by k (now (starts .entry)) (now (places .entry)) (words c) ++ drop k (now (next .entry)) ⌝ }
+{
+    let mut y = 0;
+    while y < k {
+        let n = counts::count_of(c, y) as u16;
+        next[y] = events::next_place(starts, places, y, n);
+        y += 1;
+    }
+}
+
+// The letters below k that can be added to the counts c of a log of n events.
+pub fn addable(
+    c: Counts,
+    k: usize,
+    masks: &[u16],
+    n: usize,
+    starts: &[u16],
+    places: &[u8],
+) -> Letters
+    requires { ⌜ k ≤ 16 ⌝ }
+    ensures { λ r. ⌜ (r .set ≡ union (λ x. 2 ^ x) (letters-by (independent (now (masks .entry))) k n (now (starts .entry)) (now (places .entry)) (words c)))
+        × (r .number ≡ length (letters-by (independent (now (masks .entry))) k n (now (starts .entry)) (now (places .entry)) (words c))) ⌝ }
+{
+    let mut next = [0u8; 16];
+    next_places(c, k, starts, places, &mut next);
+    let mut set = 0u32;
+    let mut number = 0u32;
+    let mut x = 0;
+    while x < k {
+        if events::comes_next(masks, k, n, &next, x) {
+            set = set | (1u32 << x);
+            number += 1;
+        }
+        x += 1;
+    }
+    Letters {
+        set: set,
+        number: number,
+    }
+}
