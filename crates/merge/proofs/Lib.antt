@@ -1,0 +1,3 @@
+-- Laws about the merge; other crates cite them.
+pub mod Cursors
+pub mod Levels

@@ -1,0 +1,146 @@
+// From one total to the next: the records of a total by a merge of those of the total before, with one cursor for each letter.
+ghost use mathlib.Core.Path.{_≡_};
+ghost use mathlib.Core.Option.{some};
+ghost use Prim.Native.Nat.{_≤_, _<_};
+ghost use lib.ListN.{length};
+ghost use Rattle.profile.specs.Traces.{bit};
+ghost use Rattle.counts.specs.Counts.{words};
+ghost use Rattle.records.specs.Records.{records-in};
+ghost use Rattle.merge.specs.Merge.{advanced, better, candidate, gives?, least-of, least-words, moved-on, seek-from, started, united};
+use counts::Counts;
+
+// Letter x is in the set.
+fn has_letter(set: u32, x: usize) -> bool
+    requires { ⌜ x < 32 ⌝ }
+    ensures { λ r. ⌜ r ≡ bit set x ⌝ }
+{
+    (set >> x) & 1 == 1
+}
+
+// The first record from `from` on to which letter x can be added; the number of records where there is none.
+fn seek(level: &[u32], from: usize, x: usize) -> usize
+    requires { ⌜ (from ≤ records-in (now level)) × (x < 32) ⌝ }
+    ensures { λ r. ⌜ r ≡ seek-from (now (level .entry)) from x ⌝ }
+{
+    let n = records::records_in(level);
+    let mut j = from;
+    while j < n {
+        if has_letter(records::last_at(level, j), x) {
+            return j;
+        }
+        j += 1;
+    }
+    j
+}
+
+// Puts the cursor of each letter at the first record to which the letter can be added.
+pub fn start_cursors(level: &[u32], k: usize, cursors: &mut [usize])
+    requires { ⌜ (k ≤ 16) × (k ≤ length (now cursors)) ⌝ }
+    ensures { λ _. ⌜ now (cursors .exit) ≡ started k (now (level .entry)) (now (cursors .entry)) ⌝ }
+{
+    let mut x = 0;
+    while x < k {
+        let first = seek(level, 0, x);
+        cursors[x] = first;
+        x += 1;
+    }
+}
+
+// The least counts that a cursor gives; none where every cursor is at the end.
+pub enum Least {
+    Nothing,
+    At(Counts),
+}
+
+// The least counts, with the counts c among them.
+fn with_counts(best: Least, c: Counts) -> Least
+    ensures { λ r. ⌜ least-words r ≡ better (least-words best) (some (words c)) ⌝ }
+{
+    match best {
+        Least::Nothing => Least::At(c),
+        Least::At(b) => {
+            if counts::counts_before(c, b) {
+                Least::At(c)
+            } else {
+                Least::At(b)
+            }
+        }
+    }
+}
+
+// The least counts, with those that record j gives by one more of letter x.
+fn with_cursor(level: &[u32], j: usize, x: usize, best: Least) -> Least
+    ensures { λ r. ⌜ least-words r ≡ better (least-words best) (candidate (now (level .entry)) j x) ⌝ }
+{
+    if records::records_in(level) <= j {
+        return best;
+    }
+    with_counts(best, counts::one_more(records::counts_at(level, j), x))
+}
+
+// The least counts that the cursors of the letters below k give.
+pub fn least_counts(level: &[u32], k: usize, cursors: &[usize]) -> Least
+    requires { ⌜ k ≤ length (now cursors) ⌝ }
+    ensures { λ r. ⌜ least-words r ≡ least-of (now (level .entry)) k (now (cursors .entry)) ⌝ }
+{
+    let mut best = Least::Nothing;
+    let mut x = 0;
+    while x < k {
+        best = with_cursor(level, cursors[x], x, best);
+        x += 1;
+    }
+    best
+}
+
+// Record j gives the counts e by one more of letter x.
+fn gives(level: &[u32], j: usize, x: usize, e: Counts) -> bool
+    ensures { λ r. ⌜ r ≡ gives? (now (level .entry)) j x (words e) ⌝ }
+{
+    if records::records_in(level) <= j {
+        return false;
+    }
+    counts::same_counts(counts::one_more(records::counts_at(level, j), x), e)
+}
+
+// The forward set of the counts e: the states to which letters lead from the forward sets of the records that give e.
+pub fn unite(level: &[u32], moves: &[u32], k: usize, s: usize, cursors: &[usize], e: Counts) -> u32
+    requires { ⌜ (k ≤ 16) × (s ≤ 32) ⌝ }
+    requires { ⌜ k ≤ length (now cursors) ⌝ }
+    ensures { λ r. ⌜ r ≡ united k s (now (moves .entry)) (now (level .entry)) (now (cursors .entry)) (words e) ⌝ }
+{
+    let mut out = 0u32;
+    let mut x = 0;
+    while x < k {
+        let j = cursors[x];
+        if gives(level, j, x, e) {
+            out = out | steps::step_forward(moves, k, s, records::forward_at(level, j), x);
+        }
+        x += 1;
+    }
+    out
+}
+
+// Where the cursor of letter x goes from record `from` once the counts e are put.
+fn move_on(level: &[u32], from: usize, x: usize, e: Counts) -> usize
+    requires { ⌜ x < 32 ⌝ }
+    ensures { λ r. ⌜ r ≡ moved-on (now (level .entry)) from x (words e) ⌝ }
+{
+    if gives(level, from, x, e) {
+        seek(level, from + 1, x)
+    } else {
+        from
+    }
+}
+
+// Moves the cursors that give the counts e on to the next record to which their letter can be added.
+pub fn advance(level: &[u32], k: usize, cursors: &mut [usize], e: Counts)
+    requires { ⌜ (k ≤ 16) × (k ≤ length (now cursors)) ⌝ }
+    ensures { λ _. ⌜ now (cursors .exit) ≡ advanced k (now (level .entry)) (now (cursors .entry)) (words e) ⌝ }
+{
+    let mut x = 0;
+    while x < k {
+        let next = move_on(level, cursors[x], x, e);
+        cursors[x] = next;
+        x += 1;
+    }
+}

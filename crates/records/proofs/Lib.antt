@@ -1,0 +1,2 @@
+-- Laws about the records of a part of the table; other crates cite them.
+pub mod Drafts

@@ -1,0 +1,81 @@
+// The records of a part of the table, read and written: document 01, "Prefixes and their table".
+ghost use mathlib.Core.Path.{_≡_};
+ghost use mathlib.Core.List.{[], _∷_, _++_};
+ghost use Prim.Native.Nat.{_+_, _*_, _≤_};
+ghost use lib.ListN.{length, set};
+ghost use Rattle.profile.specs.Tables.{layout, record-length};
+ghost use Rattle.counts.specs.Counts.{words};
+ghost use Rattle.records.specs.Records.{counts-at, forward-at, last-at, put-record, records-in};
+use counts::Counts;
+
+// The numbers of a record, and those of its counts.
+const RECORD: usize = 6;
+
+const NUMBERS: usize = 4;
+
+// How many records a part of the table has.
+pub fn records_in(t: &[u32]) -> usize
+    ensures { λ r. ⌜ r ≡ records-in (now (t .entry)) ⌝ }
+{
+    t.len() / RECORD
+}
+
+// The counts of record j.
+pub fn counts_at(t: &[u32], j: usize) -> Counts
+    requires { ⌜ record-length layout * j + record-length layout ≤ length (now t) ⌝ }
+    ensures { λ r. ⌜ words r ≡ counts-at (now (t .entry)) j ⌝ }
+{
+    let at = RECORD * j;
+    let w0 = t[at];
+    let w1 = t[at + 1];
+    let w2 = t[at + 2];
+    let w3 = t[at + 3];
+    Counts {
+        w0: w0,
+        w1: w1,
+        w2: w2,
+        w3: w3,
+    }
+}
+
+// The forward number of record j.
+pub fn forward_at(t: &[u32], j: usize) -> u32
+    requires { ⌜ record-length layout * j + record-length layout ≤ length (now t) ⌝ }
+    ensures { λ r. ⌜ r ≡ forward-at (now (t .entry)) j ⌝ }
+{
+    t[RECORD * j + NUMBERS]
+}
+
+// The last number of record j.
+pub fn last_at(t: &[u32], j: usize) -> u32
+    requires { ⌜ record-length layout * j + record-length layout ≤ length (now t) ⌝ }
+    ensures { λ r. ⌜ r ≡ last-at (now (t .entry)) j ⌝ }
+{
+    t[RECORD * j + (NUMBERS + 1)]
+}
+
+// Puts a record in place of record j.
+pub fn put(part: &mut [u32], j: usize, c: Counts, forward: u32, last: u32)
+    requires { ⌜ record-length layout * j + record-length layout ≤ length (now part) ⌝ }
+    ensures { λ _. ⌜ now (part .exit) ≡ put-record (now (part .entry)) j (words c ++ (forward ∷ last ∷ [])) ⌝ }
+{
+    let at = RECORD * j;
+    let w0 = c.w0;
+    let w1 = c.w1;
+    let w2 = c.w2;
+    let w3 = c.w3;
+    part[at] = w0;
+    part[at + 1] = w1;
+    part[at + 2] = w2;
+    part[at + 3] = w3;
+    part[at + NUMBERS] = forward;
+    part[at + (NUMBERS + 1)] = last;
+}
+
+// Puts a last number in place of that of record j.
+pub fn put_last(part: &mut [u32], j: usize, last: u32)
+    requires { ⌜ record-length layout * j + record-length layout ≤ length (now part) ⌝ }
+    ensures { λ _. ⌜ now (part .exit) ≡ set (now (part .entry)) (record-length layout * j + (layout .numbers + 1)) last ⌝ }
+{
+    part[RECORD * j + (NUMBERS + 1)] = last;
+}
