@@ -42,17 +42,17 @@ module _ (f g : List ℕ → ℕ) (A : List ℕ) (D : List (List ℕ)) (rest t :
       let q : record-length layout * (m + i) + n ≡ length A + (record-length layout * i + n) = omega (arith, l) in
       ap₂ (λ x z. getD x z 0) e q ∙ getD-append-add A u (record-length layout * i + n) 0
 
-  pub counts-behind : (i : ℕ) → i < length D → counts-at t (m + i) ≡ packed layout (getD D i [])
+  counts-behind : (i : ℕ) → i < length D → counts-at t (m + i) ≡ packed layout (getD D i [])
   counts-behind i h =
       ap (λ f. map f (below (layout .numbers))) (fun-ext (number-behind i)) ∙ counts-of-draft f g D (flat-map (draft f g) D ++ rest) rest refl i h
 
-  pub last-behind : (i : ℕ) → i < length D → last-at t (m + i) ≡ g (getD D i [])
+  last-behind : (i : ℕ) → i < length D → last-at t (m + i) ≡ g (getD D i [])
   last-behind i h = number-behind i (layout .numbers + 1) ∙ last-of-draft f g D (flat-map (draft f g) D ++ rest) rest refl i h
 
 -- ---- sets of letters
 
 -- the letters in the set of those that pass a test
-pub letters-in : (q : ℕ → Bool) (k x : ℕ) → x < k → bit (union (λ y. 2 ^ y) (filter q (below k))) x ≡ q x
+letters-in : (q : ℕ → Bool) (k x : ℕ) → x < k → bit (union (λ y. 2 ^ y) (filter q (below k))) x ≡ q x
 letters-in q k x h = T-eq (bit (union (λ y. 2 ^ y) (filter q (below k))) x) (q x)
     (λ t.
     let n = union-at (λ y. 2 ^ y) (filter q (below k)) x t in

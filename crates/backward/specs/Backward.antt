@@ -43,6 +43,13 @@ module _ (p : Profile) (w : List ℕ) where
   abbrev pub in-order : List (List ℕ)
   in-order = by-total (independent (p .masks)) (λ a. a) (p .k) w
 
+  -- the records of total n, and of all prefixes, filled
+  abbrev pub filled-total : ℕ → List ℕ
+  filled-total n = filled (of-total n)
+
+  abbrev pub filled-all : List ℕ
+  filled-all = filled in-order
+
 -- a good profile and log, and a table t whose first records are those of all prefixes, drafted
 pub record Drafted (p : Profile) (w t : List ℕ) (records : ℕ) : Type 0 where
   pub profile : GoodProfile p

@@ -9,7 +9,7 @@ ghost use Rattle.profile.specs.Tables.{layout, record-length};
 ghost use Rattle.profile.proofs.Merge.{seek};
 ghost use Rattle.counts.specs.Counts.{words};
 ghost use Rattle.records.specs.Records.{counts-at, records-in};
-ghost use Rattle.backward.specs.Backward.{Drafted, FromTotal, Leads, back-from, filled, in-order, moved, of-total, start-of};
+ghost use Rattle.backward.specs.Backward.{Drafted, FromTotal, Leads, back-from, filled-all, filled-total, moved, start-of};
 use counts::Counts;
 use counts::one_more;
 use counts::same_counts;
@@ -74,7 +74,7 @@ fn fill_total(
 )
     requires { ⌜ FromTotal (profile-of shape (now masks) (now moves)) (now log) (now part) t len ⌝ }
     ensures { λ _. ⌜ now (part .exit)
-        ≡ filled (profile-of shape (now (masks .entry)) (now (moves .entry))) (now (log .entry)) (of-total (profile-of shape (now (masks .entry)) (now (moves .entry))) (now (log .entry)) t)
+        ≡ filled-total (profile-of shape (now (masks .entry)) (now (moves .entry))) (now (log .entry)) t
         ++ drop (record-length layout * len) (now (part .entry)) ⌝ }
 {
     let mut cursors = [len; 16];
@@ -112,7 +112,7 @@ pub fn fill_backward(
 )
     requires { ⌜ Drafted (profile-of shape (now masks) (now moves)) (now log) (now table) records ⌝ }
     ensures { λ _. ⌜ now (table .exit)
-        ≡ filled (profile-of shape (now (masks .entry)) (now (moves .entry))) (now (log .entry)) (in-order (profile-of shape (now (masks .entry)) (now (moves .entry))) (now (log .entry)))
+        ≡ filled-all (profile-of shape (now (masks .entry)) (now (moves .entry))) (now (log .entry))
         ++ drop (record-length layout * records) (now (table .entry)) ⌝ }
 {
     let finals = shape.finals;
@@ -123,7 +123,15 @@ pub fn fill_backward(
         t -= 1;
         let begin = total_start(table, end, t);
         let first = RECORD * begin;
-        fill_total(&mut table[first..], end - begin, t, shape, masks, moves, log);
+        fill_total(
+            &mut table[first..],
+            end - begin,
+            t,
+            shape,
+            masks,
+            moves,
+            log,
+        );
         end = begin;
     }
 }

@@ -9,7 +9,7 @@ use borrow.Author.Needs.{needs}
 use borrow.Rule.Slice.PartMut.{same-len-mid}
 use Rattle.profile.specs.Automata.{Profile, profile-of}
 use Rattle.profile.specs.Tables.{layout, record-length}
-use Rattle.backward.specs.Backward.{filled, in-order}
+use Rattle.backward.specs.Backward.{filled-all}
 use Rattle.backward.proofs.Totals.{Down, down-end, down-next, down-part, down-room, down-start, first-before, some-record}
 use Rattle.backward.proofs.fill_backward.Statement.{statement}
 use Rattle.backward.proofs.fill_backward.Tie as tie
@@ -30,6 +30,15 @@ word s = s .args .log .now
 
 records : (s : tie.Start Inv-loop μ-loop) → 1 ≤ s .args .records
 records s = some-record (s .pre .profile) (s .pre .log) (s .args .table .now) (s .args .records) (s .pre)
+
+-- the last record's last number put, what stands behind the records is as it was
+kept : (c : tie.After-put-last Inv-loop μ-loop)
+    → drop (record-length layout * c .before .before .before .before .before .before .args .records) (c .put-last .last .0)
+    ≡ drop (record-length layout * c .before .before .before .before .before .before .args .records) (c .before .before .before .before .before .before .args .table .now)
+kept c =
+    let s = c .before .before .before .before .before .before in
+    let n = record-length layout * s .args .records in
+    ap (drop n) (c .put-last .ensures) ∙ drop-set-lt n (s .args .table .now) (record-length layout * (s .args .records - 1) + (layout .numbers + 1)) _ (omega (arith, records s))
 
 -- in a turn: the total that is filled is the one before `t`
 down : (c : tie.In-loop Inv-loop μ-loop)
@@ -58,12 +67,10 @@ put-last-requires c κs = let s = c .before .before .before .before .before in o
 loop-holds : tie.Need-loop-holds Inv-loop μ-loop
 loop-holds c =
     let s = c .before .before .before .before .before .before .before .before in
-    let a = s .args in
-    let p = c .before .before .put-last .ensures in
-    let rest = ap (drop (record-length layout * a .records)) p ∙ drop-set-lt (record-length layout * a .records) (a .table .now) (record-length layout * (a .records - 1) + (layout .numbers + 1)) (a .shape .finals) (omega (arith, records s)) in (
+    let a = s .args in (
       search needs,
       refl,
-      subst₂ (λ t r. Down (profile s) (word s) (length (word s)) (a .records - 1) t r) (sym p) (sym rest) (down-start (s .pre .profile) (s .pre .log) (a .table .now) (a .records) (s .pre)),
+      subst₂ (λ t r. Down (profile s) (word s) (length (word s)) (a .records - 1) t r) (sym (c .before .before .put-last .ensures)) (sym (kept (c .before .before))) (down-start (s .pre .profile) (s .pre .log) (a .table .now) (a .records) (s .pre)),
     )
 
 sub-t : tie.Need-sub-t Inv-loop μ-loop
@@ -120,9 +127,7 @@ returns c =
     let s = c .before .before .before .before .before .before .before .before .before .before in
     let a = s .args in
     let z : c .before .loop .t ≡ 0 = omega arith in
-    let p = c .before .before .before .before .put-last .ensures in
-    let rest = ap (drop (record-length layout * a .records)) p ∙ drop-set-lt (record-length layout * a .records) (a .table .now) (record-length layout * (a .records - 1) + (layout .numbers + 1)) (a .shape .finals) (omega (arith, records s)) in
-    down-end (profile s) (word s) (c .before .loop .end) (c .before .loop .table) _ (rw z at (c .before .loop .inv .2)) ∙ ap (λ r. filled (profile s) (word s) (in-order (profile s) (word s)) ++ r) rest
+    down-end (profile s) (word s) (c .before .loop .end) (c .before .loop .table) _ (rw z at (c .before .loop .inv .2)) ∙ ap (λ r. filled-all (profile s) (word s) ++ r) (kept (c .before .before .before .before))
 
 pub fill-backward-spec : {M : Type 1} → statement M
 fill-backward-spec =

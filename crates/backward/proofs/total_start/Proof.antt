@@ -1,4 +1,5 @@
 -- `backward::total_start` meets its contract. The loop's invariant: the row starts where the row before `i` starts. The measure is `i`.
+use mathlib.Core.List.{List}
 use Prim.Native.Nat.{ℕ, _-_, _≤_}
 use mathlib.Core.Path.{_≡_, refl, sym, _∙_, ap}
 use mathlib.Core.Bool.{Bool}
@@ -20,6 +21,13 @@ Inv-loop table end t i₀ i = (i ≤ end) × (start-of table t end ≡ start-of 
 abbrev μ-loop : tie.MeasureT-loop
 μ-loop table end t i₀ i = i
 
+-- record i has total t
+abbrev has : List ℕ → ℕ → ℕ → Bool
+has table t i = eqb (total-at table i) t
+
+counted : (c : tie.After-total-of Inv-loop μ-loop) → total-at (c .before .before .before .before .before .args .table .now) (c .before .before .before .loop .i - 1) ≡ c .total-of .result
+counted c = sym (c .total-of .ensures ∙ ap (λ u. total (counts-in layout u)) (c .before .counts-at .ensures))
+
 loop-holds : tie.Need-loop-holds Inv-loop μ-loop
 loop-holds c = (search needs, refl)
 
@@ -35,10 +43,9 @@ total-of-requires c κs = search needs
 returns : tie.Need-returns Inv-loop μ-loop
 returns c =
     let a = c .before .before .before .before .before .before .args in
-    let i = c .before .before .before .before .loop .i in
-    let p : ℕ → Bool = λ i. eqb (total-at (a .table .now) i) (a .t) in
-    let e : total-at (a .table .now) (i - 1) ≡ c .before .total-of .result = sym (c .before .total-of .ensures ∙ ap (λ u. total (counts-in layout u)) (c .before .before .counts-at .ensures)) in
-    sym (c .before .before .before .before .loop .inv .1 ∙ row-ends p i (search needs) (ne-eqb (total-at (a .table .now) (i - 1)) (a .t) (λ q. c .if1 .taken (sym e ∙ q))))
+    let l = c .before .before .before .before .loop in
+    sym (l .inv .1 ∙ row-ends (has (a .table .now) (a .t)) (l .i) (search needs)
+    (ne-eqb (total-at (a .table .now) (l .i - 1)) (a .t) (λ q. c .if1 .taken (sym (counted (c .before)) ∙ q))))
 
 sub-i : tie.Need-sub-i Inv-loop μ-loop
 sub-i c = search needs
@@ -49,10 +56,10 @@ loop-less c = search needs
 loop-again : tie.Need-loop-again Inv-loop μ-loop
 loop-again c =
     let a = c .before .before .before .before .before .before .args in
-    let i = c .before .before .before .before .loop .i in
-    let p : ℕ → Bool = λ i. eqb (total-at (a .table .now) i) (a .t) in
-    let e : total-at (a .table .now) (i - 1) ≡ c .before .total-of .result = sym (c .before .total-of .ensures ∙ ap (λ u. total (counts-in layout u)) (c .before .before .counts-at .ensures)) in
-    (search needs, c .before .before .before .before .loop .inv .1 ∙ row-on p i (search needs) (eq-eqb (total-at (a .table .now) (i - 1)) (a .t) (e ∙ c .if1 .left)))
+    let l = c .before .before .before .before .loop in (
+      search needs,
+      l .inv .1 ∙ row-on (has (a .table .now) (a .t)) (l .i) (search needs) (eq-eqb (total-at (a .table .now) (l .i - 1)) (a .t) (counted (c .before) ∙ c .if1 .left)),
+    )
 
 returns-2 : tie.Need-returns-2 Inv-loop μ-loop
 returns-2 c =

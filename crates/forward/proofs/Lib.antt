@@ -1,0 +1,11 @@
+-- Laws about the forward pass; the functions' proofs cite them.
+-- the table, while records are put behind others
+pub mod Drafts
+-- the prefixes of a total, and their records
+pub mod Totals
+-- the step from one total to the next
+pub mod Steps
+-- that step in the table
+pub mod Puts
+-- one total, and all of them
+pub mod Fills

@@ -1,0 +1,271 @@
+// The forward pass: the records of all prefixes, one total after the other; document 01, "Prefixes and their table".
+ghost use mathlib.Core.Path.{_≡_};
+ghost use mathlib.Core.List.{[], _∷_, _++_};
+ghost use Prim.Native.Nat.{_+_, _*_, _≤_};
+ghost use lib.ListN.{length};
+ghost use Rattle.profile.specs.Automata.{profile-of};
+ghost use Rattle.profile.specs.Tables.{layout, record-length};
+ghost use Rattle.counts.specs.Counts.{words};
+ghost use Rattle.records.specs.Records.{put-record};
+ghost use Rattle.forward.specs.Forward.{Begun, Comes, Forward, Grows, Merging, Ready, Steps, begun, pairs, totals};
+use counts::Counts;
+use merge::Least;
+use profile::Shape;
+
+// The numbers of a record.
+const RECORD: usize = 6;
+
+// The records of all prefixes are put, with the looks; or they do not fit.
+pub enum Filled {
+    Full,
+    Done { records: usize, looks: u64 },
+}
+
+// The records of a total are put, with the pairs of one of them and a letter that can be added to it; or they do not fit.
+enum Total {
+    Full,
+    Put { records: usize, pairs: u64 },
+}
+
+// The next record of a total is put, with the number of letters that can be added; or there is none; or it does not fit.
+enum Merged {
+    Nothing,
+    Full,
+    Put(u32),
+}
+
+// The next counts of a total and their forward set; or there are none.
+enum Next {
+    Nothing,
+    At(Counts, u32),
+}
+
+// Puts the record of the empty prefix; the number of letters that can be added to it.
+fn put_first(
+    table: &mut [u32],
+    room: usize,
+    shape: Shape,
+    masks: &[u16],
+    moves: &[u32],
+    log: &[u8],
+    starts: &[u16],
+    places: &[u8],
+) -> u32
+    requires { ⌜ Ready (profile-of shape (now masks) (now moves)) (now log) (length (now table)) room (now starts) (now places) ⌝ }
+    requires { ⌜ 1 ≤ room ⌝ }
+    ensures { λ r. ⌜ (r ≡ pairs (profile-of shape (now (masks .entry)) (now (moves .entry))) (now (log .entry)) (totals (profile-of shape (now (masks .entry)) (now (moves .entry))) (now (log .entry)) 1))
+        × (now (table .exit) ≡ begun (profile-of shape (now (masks .entry)) (now (moves .entry))) (now (log .entry)) (totals (profile-of shape (now (masks .entry)) (now (moves .entry))) (now (log .entry)) 1) (now (table .entry))) ⌝ }
+{
+    let k = shape.k;
+    let start = shape.start;
+    let c = counts::none_counted();
+    let letters = letters::addable(c, k, masks, log.len(), starts, places);
+    records::put(table, 0, c, 1u32 << start, letters.set);
+    letters.number
+}
+
+// The next counts by the cursors, of the total after the one in `level`; their cursors move on.
+fn next_counts(level: &[u32], k: usize, s: usize, moves: &[u32], cursors: &mut [usize]) -> Next
+    requires { ⌜ (k ≤ 16) × (s ≤ 32) × (k ≤ length (now cursors)) ⌝ }
+    ensures { λ r. ⌜ Comes k s (now (moves .entry)) (now (level .entry)) (now (cursors .entry)) (now (cursors .exit)) r ⌝ }
+{
+    let least = merge::least_counts(level, k, cursors);
+    match least {
+        Least::Nothing => Next::Nothing,
+        Least::At(c) => {
+            let forward = merge::unite(level, moves, k, s, cursors, c);
+            merge::advance(level, k, cursors, c);
+            Next::At(c, forward)
+        }
+    }
+}
+
+// Puts record j of the total that begins at record `first`.
+fn put_in(table: &mut [u32], first: usize, j: usize, c: Counts, forward: u32, last: u32)
+    requires { ⌜ record-length layout * (first + j) + record-length layout ≤ length (now table) ⌝ }
+    ensures { λ _. ⌜ now (table .exit) ≡ put-record (now (table .entry)) (first + j) (words c ++ (forward ∷ last ∷ [])) ⌝ }
+{
+    let at = RECORD * first;
+    records::put(&mut table[at..], j, c, forward, last);
+}
+
+// Puts record j of total t + 1, if there is one; those of total t begin at record `from` and end before record `first`.
+fn merge_next(
+    table: &mut [u32],
+    room: usize,
+    t: usize,
+    from: usize,
+    first: usize,
+    j: usize,
+    shape: Shape,
+    masks: &[u16],
+    moves: &[u32],
+    log: &[u8],
+    starts: &[u16],
+    places: &[u8],
+    cursors: &mut [usize],
+) -> Merged
+    requires { ⌜ Ready (profile-of shape (now masks) (now moves)) (now log) (length (now table)) room (now starts) (now places) ⌝ }
+    requires { ⌜ Merging (profile-of shape (now masks) (now moves)) (now log) (now table) room t from first j (now cursors) ⌝ }
+    ensures { λ r. ⌜ Steps (profile-of shape (now (masks .entry)) (now (moves .entry))) (now (log .entry)) room t first j (now (table .entry)) (now (table .exit)) (now (cursors .exit)) r ⌝ }
+{
+    let k = shape.k;
+    let s = shape.s;
+    let start = RECORD * from;
+    let end = RECORD * first;
+    let next = next_counts(&table[start..end], k, s, moves, cursors);
+    match next {
+        Next::Nothing => Merged::Nothing,
+        Next::At(c, forward) => {
+            if first + j < room {
+                let letters = letters::addable(c, k, masks, log.len(), starts, places);
+                put_in(table, first, j, c, forward, letters.set);
+                Merged::Put(letters.number)
+            } else {
+                Merged::Full
+            }
+        }
+    }
+}
+
+// Puts the records of total t + 1, where `room` records fit; those of total t begin at record `from` and end before record `first`.
+fn fill_total(
+    table: &mut [u32],
+    room: usize,
+    t: usize,
+    from: usize,
+    first: usize,
+    shape: Shape,
+    masks: &[u16],
+    moves: &[u32],
+    log: &[u8],
+    starts: &[u16],
+    places: &[u8],
+) -> Total
+    requires { ⌜ Ready (profile-of shape (now masks) (now moves)) (now log) (length (now table)) room (now starts) (now places) ⌝ }
+    requires { ⌜ Begun (profile-of shape (now masks) (now moves)) (now log) (now table) room t from first ⌝ }
+    ensures { λ r. ⌜ Grows (profile-of shape (now (masks .entry)) (now (moves .entry))) (now (log .entry)) room t first (now (table .entry)) (now (table .exit)) r ⌝ }
+{
+    let start = RECORD * from;
+    let end = RECORD * first;
+    let mut cursors = [0usize; 16];
+    merge::start_cursors(&table[start..end], shape.k, &mut cursors);
+    let mut pairs = 0u64;
+    let mut j = 0;
+    loop {
+        let merged = merge_next(
+            table,
+            room,
+            t,
+            from,
+            first,
+            j,
+            shape,
+            masks,
+            moves,
+            log,
+            starts,
+            places,
+            &mut cursors,
+        );
+        match merged {
+            Merged::Nothing => {
+                return Total::Put {
+                    records: j,
+                    pairs: pairs,
+                };
+            }
+            Merged::Full => {
+                return Total::Full;
+            }
+            Merged::Put(n) => {
+                pairs += n as u64;
+                j += 1;
+            }
+        }
+    }
+}
+
+// Puts the records of the totals from 1 on, behind that of total 0, to which `number` letters can be added.
+fn fill_totals(
+    table: &mut [u32],
+    room: usize,
+    number: u32,
+    shape: Shape,
+    masks: &[u16],
+    moves: &[u32],
+    log: &[u8],
+    starts: &[u16],
+    places: &[u8],
+) -> Filled
+    requires { ⌜ Ready (profile-of shape (now masks) (now moves)) (now log) (length (now table)) room (now starts) (now places) ⌝ }
+    requires { ⌜ Begun (profile-of shape (now masks) (now moves)) (now log) (now table) room 0 0 1 ⌝ }
+    requires { ⌜ number ≡ pairs (profile-of shape (now masks) (now moves)) (now log) (totals (profile-of shape (now masks) (now moves)) (now log) 1) ⌝ }
+    ensures { λ r. ⌜ Forward (profile-of shape (now (masks .entry)) (now (moves .entry))) (now (log .entry)) room (now (table .entry)) (now (table .exit)) r ⌝ }
+{
+    let mut from = 0;
+    let mut first = 1;
+    let mut looks = number as u64;
+    let mut t = 0;
+    while t < log.len() {
+        let total = fill_total(
+            table,
+            room,
+            t,
+            from,
+            first,
+            shape,
+            masks,
+            moves,
+            log,
+            starts,
+            places,
+        );
+        match total {
+            Total::Full => {
+                return Filled::Full;
+            }
+            Total::Put { records, pairs } => {
+                from = first;
+                first += records;
+                looks += pairs;
+            }
+        }
+        t += 1;
+    }
+    Filled::Done {
+        records: first,
+        looks: looks,
+    }
+}
+
+// Fills the records of all prefixes, where `room` records fit.
+pub fn fill_forward(
+    table: &mut [u32],
+    room: usize,
+    shape: Shape,
+    masks: &[u16],
+    moves: &[u32],
+    log: &[u8],
+    starts: &[u16],
+    places: &[u8],
+) -> Filled
+    requires { ⌜ Ready (profile-of shape (now masks) (now moves)) (now log) (length (now table)) room (now starts) (now places) ⌝ }
+    ensures { λ r. ⌜ Forward (profile-of shape (now (masks .entry)) (now (moves .entry))) (now (log .entry)) room (now (table .entry)) (now (table .exit)) r ⌝ }
+{
+    if room == 0 {
+        return Filled::Full;
+    }
+    let number = put_first(table, room, shape, masks, moves, log, starts, places);
+    fill_totals(
+        table,
+        room,
+        number,
+        shape,
+        masks,
+        moves,
+        log,
+        starts,
+        places,
+    )
+}

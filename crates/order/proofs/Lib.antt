@@ -1,0 +1,5 @@
+-- Laws about the answers, and about the steps of the loops.
+pub mod Projections
+pub mod Answers
+pub mod First
+pub mod NormalForm

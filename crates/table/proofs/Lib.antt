@@ -1,0 +1,2 @@
+-- What a filled table is.
+pub mod Filling

@@ -1,0 +1,61 @@
+-- `table::put_records` meets its contract: the places of the events are those of the log, as the forward pass asks.
+use borrow.Author.Needs.{needs}
+use mathlib.Core.List.{map}
+use native.Mathlib.Omega.{arith}
+use lib.ListN.{length}
+use Rattle.profile.specs.Lists.{below}
+use Rattle.profile.proofs.Counting.{length-range}
+use Rattle.events.specs.Events.{place-start, place-table}
+use Rattle.table.proofs.Filling.{behind-own}
+use Rattle.table.proofs.put_records.Statement.{statement}
+use Rattle.table.proofs.put_records.Tie as tie
+use mathlib.Core.Path.{refl}
+
+slice-aggregate-place-events : tie.Need-slice-aggregate-place-events
+slice-aggregate-place-events c = search needs
+
+slice-aggregate-place-events-2 : tie.Need-slice-aggregate-place-events-2
+slice-aggregate-place-events-2 c = search needs
+
+place-events-requires : tie.Need-place-events-requires
+place-events-requires c κs = search needs
+
+slice-aggregate-fill-forward : tie.Need-slice-aggregate-fill-forward
+slice-aggregate-fill-forward c = search needs
+
+slice-aggregate-fill-forward-2 : tie.Need-slice-aggregate-fill-forward-2
+slice-aggregate-fill-forward-2 c = search needs
+
+fill-forward-requires : tie.Need-fill-forward-requires
+fill-forward-requires c κs =
+    let s = c .before .before .before .before .before .before .before .before .before .before .before .before in
+    let e = c .before .before .before .before .before .place-events in
+    let k = s .args .shape .k in
+    let w = s .args .log .now in
+    record {
+      profile = s .pre .profile;
+      log = s .pre .log;
+      fits = omega (arith, s .pre .place);
+      few = omega (arith, s .pre .place);
+      starts-placed = behind-own (map (place-start w) (below k)) _ _ k (length-range (place-start w) k 0) (e .ensures .0);
+      places-placed = behind-own (place-table k w) _ _ (length (place-table k w)) refl (e .ensures .1);
+    }
+
+same-length : tie.Need-same-length
+same-length c = search needs
+
+returns : tie.Need-returns
+returns c = search needs
+
+pub put-records-spec : {M : Type 1} → statement M
+put-records-spec =
+    tie.close
+    (tie.spec
+    slice-aggregate-place-events
+    slice-aggregate-place-events-2
+    place-events-requires
+    slice-aggregate-fill-forward
+    slice-aggregate-fill-forward-2
+    fill-forward-requires
+    same-length
+    returns)

@@ -1,0 +1,86 @@
+// The table of prefixes: document 01, "Prefixes and their table".
+ghost use mathlib.Core.Path.{_≡_};
+ghost use lib.ListN.{length};
+ghost use Rattle.profile.specs.Automata.{profile-of};
+ghost use Rattle.profile.specs.Tables.{capacity as capacity-of, layout};
+ghost use Rattle.table.specs.Table.{Promise, Sound};
+ghost use Rattle.forward.specs.Forward.{Forward};
+use checks::Check;
+use forward::Filled as Pass;
+use profile::Refusal;
+use profile::Shape;
+
+// The answer of building: P and looks, or the refusal.
+pub enum Built {
+    Refused(Refusal),
+    Filled { prefixes: usize, looks: u64 },
+}
+
+// How many records the table has place for.
+fn capacity(table: &[u32]) -> usize
+    ensures { λ r. ⌜ r ≡ capacity-of layout (length (now (table .entry))) ⌝ }
+{
+    let n = table.len();
+    if 4294967292 < n { 715827882 } else { n / 6 }
+}
+
+// Puts the records of all prefixes, with the letters that can be added in the place of the backward sets; `room` records fit.
+fn put_records(
+    table: &mut [u32],
+    room: usize,
+    shape: Shape,
+    masks: &[u16],
+    moves: &[u32],
+    log: &[u8],
+) -> Pass
+    requires { ⌜ Sound (profile-of shape (now masks) (now moves)) (now log) (length (now table)) room ⌝ }
+    ensures { λ r. ⌜ Forward (profile-of shape (now (masks .entry)) (now (moves .entry))) (now (log .entry)) room (now (table .entry)) (now (table .exit)) r ⌝ }
+{
+    let k = shape.k;
+    let mut starts = [0u16; 16];
+    let mut places = [0u8; 272];
+    events::place_events(log, k, &mut starts, &mut places);
+    forward::fill_forward(table, room, shape, masks, moves, log, &starts, &places)
+}
+
+// Fills the table, where `room` records fit.
+fn fill(
+    table: &mut [u32],
+    room: usize,
+    shape: Shape,
+    masks: &[u16],
+    moves: &[u32],
+    log: &[u8],
+) -> Built
+    requires { ⌜ Sound (profile-of shape (now masks) (now moves)) (now log) (length (now table)) room ⌝ }
+    ensures { λ r. ⌜ Promise (profile-of shape (now (masks .entry)) (now (moves .entry))) (now (log .entry)) (now (table .entry)) (now (table .exit)) r ⌝ }
+{
+    let pass = put_records(table, room, shape, masks, moves, log);
+    match pass {
+        Pass::Full => Built::Refused(Refusal::FullTable),
+        Pass::Done { records, looks } => {
+            backward::fill_backward(table, records, shape, masks, moves, log);
+            Built::Filled {
+                prefixes: records,
+                looks: looks,
+            }
+        }
+    }
+}
+
+// The record of every prefix of the log, by rising total; refused by 2, 4 to 8 and 10.
+pub fn build(shape: Shape, masks: &[u16], moves: &[u32], log: &[u8], table: &mut [u32]) -> Built
+    ensures { λ r. ⌜ Promise (profile-of shape (now (masks .entry)) (now (moves .entry))) (now (log .entry)) (now (table .entry)) (now (table .exit)) r ⌝ }
+{
+    let profile = checks::check_profile(shape, masks, moves);
+    if let Check::Bad(r) = profile {
+        return Built::Refused(r);
+    }
+    let k = shape.k;
+    let letters = checks::check_log(k, log);
+    if let Check::Bad(r) = letters {
+        return Built::Refused(r);
+    }
+    let room = capacity(table);
+    fill(table, room, shape, masks, moves, log)
+}
