@@ -1,0 +1,138 @@
+-- The judge's answer from the table's promise: which refusal is given, and what is told.
+use mathlib.Core.Path.{_≡_, refl, sym, _∙_, ap}
+use mathlib.Core.Bool.{Bool, true, false, true≢false}
+use mathlib.Core.List.{List, [], _∷_, _++_, append-assoc, List·Memᴰ·head, Memᴰ·append-left, Memᴰ·append-right}
+use mathlib.Core.Option.{Option, none, some}
+use Prim.Native.Nat.{ℕ, _≤_, _<_}
+use native.Mathlib.Omega.{arith}
+use borrow.Author.Tests.{lt-ltb, le-ltb, ltb-false}
+use lib.ListN.{length, drop}
+use Rattle.profile.specs.Traces.{independent}
+use Rattle.profile.specs.Automata.{Profile}
+use Rattle.profile.specs.Prefixes.{prefix-count}
+use Rattle.profile.specs.Refusals.{full-table, judge-refusal, log-refusals, lowest, profile-refusals}
+use Rattle.profile.specs.declared.Refusal.{Refusal}
+use Rattle.profile.specs.declared.Refusal.the-variants.{FullTable, ShortBuffer}
+use Rattle.profile.specs.Tables.{capacity, layout}
+use Rattle.profile.proofs.Refusals.{lowest-append, lowest-first, lowest-none}
+use Rattle.profile.proofs.Refusals.{log-at, profile-at}
+use Rattle.profile.proofs.Traces.{order-of-reach, takes-length}
+use Rattle.profile.proofs.Demands.{order-earliest}
+use Rattle.table.specs.Table.{build-refusals}
+use Rattle.table.specs.Table as Built
+use Rattle.table.specs.declared.Built.the-variants as built
+use Rattle.earliest.specs.Earliest.{Table, found?, order-of, with-order}
+use Rattle.verdict.specs.Verdict.{Counted, Promise}
+use Rattle.verdict.specs.declared.Judged.the-variants.{NoOrder, Order, Refused}
+
+-- a condition that does not hold is passed over
+lowest-skip : {A : Type 0} (l r : List (Bool × A)) (x : A) → lowest (l ++ ((false, x) ∷ r)) ≡ lowest (l ++ r)
+lowest-skip [] r x = refl
+lowest-skip (c ∷ l) r x = go (c .0) refl (lowest-skip l r x)
+  where
+    go : (b : Bool) → c .0 ≡ b → lowest (l ++ ((false, x) ∷ r)) ≡ lowest (l ++ r) → lowest (c ∷ (l ++ ((false, x) ∷ r))) ≡ lowest (c ∷ (l ++ r))
+    go true e h = rw (e, lowest)
+    go false e h = rw (e, lowest) h
+
+module _ (p : Profile) (w : List ℕ) (n m : ℕ) where
+  -- the conditions before 9, and that of 10
+  abbrev early : List (Bool × Refusal)
+  early = profile-refusals p ++ log-refusals (p .k) w
+
+  abbrev tenth : List (Bool × Refusal)
+  tenth = (full-table (prefix-count (independent (p .masks)) (λ a. a) (p .k) w) m, FullTable) ∷ []
+
+  regroup : (b : Bool) → (profile-refusals p ++ (log-refusals (p .k) w ++ ((b, ShortBuffer) ∷ []))) ++ tenth ≡ early ++ ((b, ShortBuffer) ∷ tenth)
+  regroup b = simp append-assoc
+
+  -- where the order fits, the judge refuses as building does
+  pub order-fits : length w ≤ n → judge-refusal p w n m ≡ lowest (build-refusals p w m)
+  order-fits h =
+      ap (λ b. lowest ((profile-refusals p ++ (log-refusals (p .k) w ++ ((b, ShortBuffer) ∷ []))) ++ tenth)) (le-ltb n (length w) h)
+      ∙ ap lowest (regroup false) ∙ lowest-skip early tenth ShortBuffer ∙ ap lowest (append-assoc (profile-refusals p) (log-refusals (p .k) w) tenth)
+
+  -- where it does not, by the lowest of the refusals up to 9
+  pub order-short : {r : Refusal} → n < length w → some r ≡ lowest (profile-refusals p ++ (log-refusals (p .k) w ++ ((true, ShortBuffer) ∷ []))) → some r ≡ judge-refusal p w n m
+  order-short h e =
+      sym (ap (λ b. lowest ((profile-refusals p ++ (log-refusals (p .k) w ++ ((b, ShortBuffer) ∷ []))) ++ tenth)) (lt-ltb n (length w) h)
+      ∙ lowest-first (profile-refusals p ++ (log-refusals (p .k) w ++ ((true, ShortBuffer) ∷ []))) tenth (sym e))
+
+-- ---- what is told
+
+-- the order has as many letters as the log
+order-length : (p : Profile) (w : List ℕ) {v : List ℕ} → order-of p w ≡ some v → length v ≡ length w
+order-length p w e = omega (arith, takes-length (independent (p .masks)) (order-of-reach (independent (p .masks)) (order-earliest p w e .0 .reached)))
+
+module _ (p : Profile) (w order table : List ℕ) where
+  -- the order buffer is too short
+  pub told-short : {r : Refusal} → length order < length w
+      → some r ≡ lowest (profile-refusals p ++ (log-refusals (p .k) w ++ ((true, ShortBuffer) ∷ []))) → Promise p w order order table table (Refused r)
+  told-short h e = record { refused = order-short p w (length order) (length table) h e; told = (refl, λ ne. refl) }
+
+  module _ (fits : length w ≤ length order) (table′ : List ℕ) where
+    -- building is refused
+    pub told-refused : (r : Refusal) → Built.Promise p w table table′ (built.Refused r) → Promise p w order order table table′ (Refused r)
+    told-refused r h = record { refused = h .refused ∙ sym (order-fits p w (length order) (length table) fits); told = (refl, h .table) }
+
+    module _ (P n : ℕ) (h : Built.Promise p w table table′ (built.Filled P n)) where
+      counted : Counted p w table table′ P n
+      counted = record { prefixes = h .table .0; looks = h .table .1; table = h .table .2 }
+
+      unrefused : none ≡ judge-refusal p w (length order) (length table)
+      unrefused = h .refused ∙ sym (order-fits p w (length order) (length table) fits)
+
+      -- the table is filled, and there is no order
+      pub told-none : (order′ : List ℕ) → found? (order-of p w) ≡ false → order′ ≡ with-order (order-of p w) order → Promise p w order order′ table table′ (NoOrder P n)
+      told-none order′ f e = go (order-of p w) refl f e
+        where
+          go : (o : Option (List ℕ)) → order-of p w ≡ o → found? o ≡ false → order′ ≡ with-order o order → Promise p w order order′ table table′ (NoOrder P n)
+          go none q f e = record { refused = unrefused; told = (q, e, counted) }
+          go (some v) q f e = absurd (true≢false f)
+
+      -- the table is filled, and there is one
+      pub told-some : (order′ : List ℕ) → found? (order-of p w) ≡ true → order′ ≡ with-order (order-of p w) order → Promise p w order order′ table table′ (Order P n)
+      told-some order′ f e = go (order-of p w) refl f e
+        where
+          go : (o : Option (List ℕ)) → order-of p w ≡ o → found? o ≡ true → order′ ≡ with-order o order → Promise p w order order′ table table′ (Order P n)
+          go none q f e = absurd (true≢false (sym f))
+          go (some v) q f e = record { refused = unrefused; told = (v, q, e ∙ ap (λ k. v ++ drop k order) (order-length p w q), counted) }
+
+      -- what the extraction asks of the table
+      pub ready : length table′ ≡ length table → Table p w table′
+      ready l =
+          let f = lowest-none (build-refusals p w (length table)) .0 (sym (h .refused)) in
+          let t = tenth p w (length order) (length table) in
+          let k = prefix-count (independent (p .masks)) (λ a. a) (p .k) w in
+          record {
+            profile = profile-at p (lowest-none (profile-refusals p) .1 (λ c m. f c (Memᴰ·append-left (log-refusals (p .k) w ++ t) m)));
+            log = log-at (p .k) w (lowest-none (log-refusals (p .k) w) .1 (λ c m. f c (Memᴰ·append-right (profile-refusals p) (Memᴰ·append-left t m))));
+            before = table;
+            holds = h .table .2;
+            room = omega (
+              arith,
+              l,
+              ltb-false (capacity layout (length table)) k
+                  (f _ (Memᴰ·append-right (profile-refusals p) (Memᴰ·append-right (log-refusals (p .k) w) (List·Memᴰ·head refl)))),
+            );
+          }
+
+-- ---- the refusals up to 9
+
+module _ (p : Profile) (w : List ℕ) where
+  abbrev upto-nine : List (Bool × Refusal)
+  upto-nine = profile-refusals p ++ (log-refusals (p .k) w ++ ((true, ShortBuffer) ∷ []))
+
+  pub profile-first : {r : Refusal} → lowest (profile-refusals p) ≡ some r → some r ≡ lowest upto-nine
+  profile-first e = sym (lowest-first (profile-refusals p) (log-refusals (p .k) w ++ ((true, ShortBuffer) ∷ [])) e)
+
+  pub log-next : {r : Refusal} → lowest (profile-refusals p) ≡ none → lowest (log-refusals (p .k) w) ≡ some r → some r ≡ lowest upto-nine
+  log-next a b = sym (lowest-append (profile-refusals p) (log-refusals (p .k) w ++ ((true, ShortBuffer) ∷ [])) a ∙ lowest-first (log-refusals (p .k) w) ((true, ShortBuffer) ∷ []) b)
+
+  pub buffer-last : lowest (profile-refusals p) ≡ none → lowest (log-refusals (p .k) w) ≡ none → some ShortBuffer ≡ lowest upto-nine
+  buffer-last a b =
+      sym (lowest-append (profile-refusals p) (log-refusals (p .k) w ++ ((true, ShortBuffer) ∷ [])) a ∙ lowest-append (log-refusals (p .k) w) ((true, ShortBuffer) ∷ []) b)
+
+-- no order: the buffer stays
+pub none-found : (o : Option (List ℕ)) (b : List ℕ) → found? o ≡ false → b ≡ with-order o b
+none-found none b e = refl
+none-found (some v) b e = absurd (true≢false e)

@@ -1,0 +1,2 @@
+-- The judge's answer from the table's promise.
+pub mod Judging
