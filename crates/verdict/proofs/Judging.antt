@@ -10,12 +10,12 @@ use lib.ListN.{length, drop}
 use Rattle.profile.specs.Traces.{independent}
 use Rattle.profile.specs.Automata.{Profile}
 use Rattle.profile.specs.Prefixes.{prefix-count}
-use Rattle.profile.specs.Refusals.{full-table, judge-refusal, log-refusals, lowest, profile-refusals}
+use Rattle.profile.specs.Refusals.{admission-refusals, full-table, judge-refusal, judge-refusals, log-refusals, lowest, profile-refusals}
 use Rattle.profile.specs.declared.Refusal.{Refusal}
 use Rattle.profile.specs.declared.Refusal.the-variants.{FullTable, ShortBuffer}
 use Rattle.profile.specs.Tables.{capacity, layout}
 use Rattle.profile.proofs.Refusals.{lowest-append, lowest-first, lowest-none}
-use Rattle.profile.proofs.Refusals.{log-at, profile-at}
+use Rattle.profile.proofs.Refusals.{Admitted, admitted-at, log-at, profile-at}
 use Rattle.profile.proofs.Traces.{order-of-reach, takes-length}
 use Rattle.profile.proofs.Demands.{order-earliest}
 use Rattle.table.specs.Table.{build-refusals}
@@ -57,10 +57,17 @@ module _ (p : Profile) (w : List ℕ) (n m : ℕ) where
       sym (ap (λ b. lowest ((profile-refusals p ++ (log-refusals (p .k) w ++ ((b, ShortBuffer) ∷ []))) ++ tenth)) (lt-ltb n (length w) h)
       ∙ lowest-first (profile-refusals p ++ (log-refusals (p .k) w ++ ((true, ShortBuffer) ∷ []))) tenth (sym e))
 
+-- a call that is not refused has an admitted log
+pub admitted : (p : Profile) (w order table : List ℕ) → judge-refusal p w (length order) (length table) ≡ none → Admitted p w (length order)
+admitted p w order table e =
+    let f = lowest-none (judge-refusals p w (length order) (length table)) .0 e in
+    admitted-at p w (length order) (lowest-none (admission-refusals p w (length order)) .1
+    (λ c m. f c (Memᴰ·append-left (tenth p w (length order) (length table)) m)))
+
 -- ---- what is told
 
 -- the order has as many letters as the log
-order-length : (p : Profile) (w : List ℕ) {v : List ℕ} → order-of p w ≡ some v → length v ≡ length w
+pub order-length : (p : Profile) (w : List ℕ) {v : List ℕ} → order-of p w ≡ some v → length v ≡ length w
 order-length p w e = omega (arith, takes-length (independent (p .masks)) (order-of-reach (independent (p .masks)) (order-earliest p w e .0 .reached)))
 
 module _ (p : Profile) (w order table : List ℕ) where

@@ -1,2 +1,3 @@
 -- The judge's answer from the table's promise.
 pub mod Judging
+pub mod Demands

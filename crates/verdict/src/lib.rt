@@ -81,15 +81,9 @@ pub fn judge(
         Built::Refused(r) => Judged::Refused(r),
         Built::Filled { prefixes, looks } => {
             if put_verdict(work, prefixes, shape, masks, moves, log, order) {
-                Judged::Order {
-                    prefixes: prefixes,
-                    looks: looks,
-                }
+                Judged::Order { prefixes, looks }
             } else {
-                Judged::NoOrder {
-                    prefixes: prefixes,
-                    looks: looks,
-                }
+                Judged::NoOrder { prefixes, looks }
             }
         }
     }

@@ -1,0 +1,110 @@
+-- Demands 1 and 3 as theorems about what `judge` promises: `Promise p w order order′ table table′ r` is what holds of a call with profile p and log w that
+-- was lent `order` and `table`, whatever these held, left `order′` and `table′`, and answered r.
+use mathlib.Core.Path.{_≡_, refl, sym, _∙_, ap, subst}
+use mathlib.Core.Logic.{_⊎_, inl, inr, _↔_, _≢_}
+use mathlib.Core.List.{List, _++_}
+use mathlib.Core.Option.{Option, none, some, Option·none-ne-some, Option·some-ne-none, Option·some-injective}
+use Prim.Native.Nat.{ℕ}
+use native.Mathlib.Omega.{arith}
+use lib.ListN.{length, take, drop}
+use lib.Seq.{drop-at, take-at}
+use Rattle.profile.specs.Lists.{Mem}
+use Rattle.profile.specs.Traces.{independent}
+use Rattle.profile.specs.Automata.{Profile}
+use Rattle.profile.specs.Orders.{Earlier, Same}
+use Rattle.profile.specs.Refusals.{judge-refusal}
+use Rattle.profile.specs.declared.Refusal.{Refusal}
+use Rattle.profile.specs.declared.Refusal.the-variants.{FullTable}
+use Rattle.profile.proofs.Demands.{Witness, no-order, order-earliest, order-of, same-answer}
+use Rattle.verdict.specs.Verdict.{Promise, refused-by, verdict-number}
+use Rattle.verdict.specs.declared.Judged.{Judged}
+use Rattle.verdict.specs.declared.Judged.the-variants.{NoOrder, Order, Refused}
+use Rattle.verdict.proofs.Judging.{admitted, order-length}
+
+-- P, as it is told
+abbrev pub told-prefixes : Judged → Option ℕ
+told-prefixes (Refused r) = none
+told-prefixes (NoOrder P n) = some P
+told-prefixes (Order P n) = some P
+
+-- the two verdicts are different
+zero-one : _≡_ {A = Option ℕ} (some 0) (some 1) → ⊥
+zero-one e = let q = Option·some-injective 0 1 e in omega arith
+
+-- ---- demand 1
+
+module _ (p : Profile) (w order order′ table table′ : List ℕ) where
+  -- a call is refused by r exactly when r is the lowest that applies; else there is a verdict
+  pub refused-exactly : (j : Judged) → Promise p w order order′ table table′ j → (r : Refusal) → (j ≡ Refused r) ↔ (judge-refusal p w (length order) (length table) ≡ some r)
+  refused-exactly (Refused q) h r =
+      ((λ e. sym (h .refused) ∙ ap refused-by e), λ e. ap Refused (Option·some-injective q r (h .refused ∙ e)))
+  refused-exactly (NoOrder P n) h r = ((λ e. sym (h .refused) ∙ ap refused-by e), λ e. absurd (Option·none-ne-some r (h .refused ∙ e)))
+  refused-exactly (Order P n) h r = ((λ e. sym (h .refused) ∙ ap refused-by e), λ e. absurd (Option·none-ne-some r (h .refused ∙ e)))
+
+  -- "A refused call changes nothing it was lent, save the work table at refusal 10"
+  pub refused-unchanged : (r : Refusal) → Promise p w order order′ table table′ (Refused r) → (order′ ≡ order) × (r ≢ FullTable → table′ ≡ table)
+  refused-unchanged r h = h .told
+
+-- ---- demand 3
+
+-- the call is not refused: the log is admitted, and its prefixes fit the table
+module _ (p : Profile) (w order order′ table table′ : List ℕ) (unrefused : judge-refusal p w (length order) (length table) ≡ none) where
+  -- there is a verdict, 0 or 1
+  pub verdict-cases : (j : Judged) → Promise p w order order′ table table′ j → (verdict-number j ≡ some 0) ⊎ (verdict-number j ≡ some 1)
+  verdict-cases (Refused r) h = absurd (Option·some-ne-none r (h .refused ∙ unrefused))
+  verdict-cases (NoOrder P n) h = inl refl
+  verdict-cases (Order P n) h = inr refl
+
+  -- "The log gets 'no order' exactly when no log reachable from it by exchanges is accepted."
+  pub no-order-exactly : (j : Judged) → Promise p w order order′ table table′ j → (verdict-number j ≡ some 0) ↔ ((v : List ℕ) → Witness p w v → ⊥)
+  no-order-exactly (Refused r) h = absurd (Option·some-ne-none r (h .refused ∙ unrefused))
+  no-order-exactly (NoOrder P n) h = ((λ e. no-order p w .0 (h .told .0)), λ f. refl)
+  no-order-exactly (Order P n) h =
+      ((λ e. absurd (zero-one (sym e))), λ f. absurd (f (h .told .0) (order-earliest p w (h .told .1) .0)))
+
+  -- "Otherwise the order returned is reachable from it, accepted, and earlier in letter order than every other log that is both"; the other bytes stay
+  pub order-exactly : (j : Judged) → Promise p w order order′ table table′ j → verdict-number j ≡ some 1
+      → Witness p w (take (length w) order′) × ((u : List ℕ) → Witness p w u → u ≢ take (length w) order′ → Earlier (take (length w) order′) u)
+      × (drop (length w) order′ ≡ drop (length w) order)
+  order-exactly (Refused r) h e = absurd (Option·none-ne-some 1 e)
+  order-exactly (NoOrder P n) h e = absurd (zero-one e)
+  order-exactly (Order P n) h e =
+      let v = h .told .0 in
+      let l = order-length p w (h .told .1) in
+      let q : take (length w) order′ ≡ v = ap (take (length w)) (h .told .2) ∙ take-at v (drop (length w) order) (length w) l in
+      let x = order-earliest p w (h .told .1) in (
+        subst (Witness p w) (sym q) (x .0),
+        (λ u a ne. subst (λ z. Earlier z u) (sym q) (x .1 u a (λ i. ne (i ∙ sym q)))),
+        ap (drop (length w)) (h .told .2) ∙ drop-at v (drop (length w) order) (length w) l,
+      )
+
+-- "Any two such logs with the same profile that are reachable from each other get the same verdict, the same order if there is one, and the same prefix
+-- count …, whatever buffers each was lent. This holds for one log judged twice, so a larger table changes none of these three."
+module _ (p : Profile) (v w : List ℕ) (order₁ order₁′ table₁ table₁′ order₂ order₂′ table₂ table₂′ : List ℕ)
+    (first : judge-refusal p v (length order₁) (length table₁) ≡ none) (second : judge-refusal p w (length order₂) (length table₂) ≡ none)
+    (same : Same (independent (p .masks)) v w) where
+  -- the two answers have the same order, or none
+  orders : order-of p v ≡ order-of p w
+  orders = same-answer p v w (admitted p v order₁ table₁ first) (admitted p w order₂ table₂ second) same .0
+
+  pub judged-same : (i j : Judged) → Promise p v order₁ order₁′ table₁ table₁′ i → Promise p w order₂ order₂′ table₂ table₂′ j
+      → (verdict-number i ≡ verdict-number j) × (told-prefixes i ≡ told-prefixes j) × (verdict-number i ≡ some 1 → take (length v) order₁′ ≡ take (length w) order₂′)
+  judged-same (Refused r) j g h = absurd (Option·some-ne-none r (g .refused ∙ first))
+  judged-same (NoOrder P n) (Refused r) g h = absurd (Option·some-ne-none r (h .refused ∙ second))
+  judged-same (NoOrder P n) (NoOrder Q m) g h = (refl, counts, λ e. absurd (zero-one e))
+    where
+      counts : _≡_ {A = Option ℕ} (some P) (some Q)
+      counts = ap some (g .told .2 .prefixes ∙ same-answer p v w (admitted p v order₁ table₁ first) (admitted p w order₂ table₂ second) same .1 ∙ sym (h .told .2 .prefixes))
+  judged-same (NoOrder P n) (Order Q m) g h = absurd (Option·none-ne-some _ (sym (g .told .0) ∙ orders ∙ h .told .1))
+  judged-same (Order P n) (Refused r) g h = absurd (Option·some-ne-none r (h .refused ∙ second))
+  judged-same (Order P n) (NoOrder Q m) g h = absurd (Option·none-ne-some _ (sym (h .told .0) ∙ sym orders ∙ g .told .1))
+  judged-same (Order P n) (Order Q m) g h = (refl, counts, λ e. bytes)
+    where
+      counts : _≡_ {A = Option ℕ} (some P) (some Q)
+      counts = ap some (g .told .3 .prefixes ∙ same-answer p v w (admitted p v order₁ table₁ first) (admitted p w order₂ table₂ second) same .1 ∙ sym (h .told .3 .prefixes))
+
+      bytes : take (length v) order₁′ ≡ take (length w) order₂′
+      bytes =
+          ap (take (length v)) (g .told .2) ∙ take-at (g .told .0) (drop (length v) order₁) (length v) (order-length p v (g .told .1))
+          ∙ Option·some-injective (g .told .0) (h .told .0) (sym (g .told .1) ∙ orders ∙ h .told .1)
+          ∙ sym (ap (take (length w)) (h .told .2) ∙ take-at (h .told .0) (drop (length w) order₂) (length w) (order-length p w (h .told .1)))
