@@ -14,7 +14,8 @@ use Rattle.profile.proofs.Lists.{below-suc, flat-map-length}
 use Rattle.profile.proofs.Looks.{flat-map-append}
 use Rattle.records.specs.Records.{put-record}
 use Rattle.records.proofs.Drafts.{draft, put-draft}
-use Rattle.forward.specs.Forward.{begun, drafted, forward-set, letters-set, of-total, totals}
+use Rattle.forward.specs.Forward.{drafted, forward-set, letters-set}
+use Rattle.forward.specs.Merging.{begun, of-total, totals}
 
 module _ (p : Profile) (w : List ℕ) where
   pub totals-suc : (t : ℕ) → totals p w (suc t) ≡ totals p w t ++ of-total p w t
@@ -45,10 +46,6 @@ module _ (p : Profile) (w : List ℕ) where
 
   drafted-append : (C D : List (List ℕ)) → drafted p w (C ++ D) ≡ drafted p w C ++ drafted p w D
   drafted-append = flat-map-append (draft (forward-set p w) (letters-set p w))
-
-  pub begun-length : (C : List (List ℕ)) (t : List ℕ) → record-length layout * length C ≤ length t → length (begun p w C t) ≡ length t
-  begun-length C t h =
-      omega (arith, length-append (drafted p w C) (drop (record-length layout * length C) t), drafted-length C, length-drop (record-length layout * length C) t)
 
   -- more records over those of C
   pub begun-again : (C D : List (List ℕ)) (t : List ℕ) → begun p w (C ++ D) (begun p w C t) ≡ begun p w (C ++ D) t

@@ -3,10 +3,9 @@ use mathlib.Core.Path.{_≡_, refl, sym, _∙_, ap, ap₂, subst}
 use mathlib.Core.Bool.{Bool}
 use mathlib.Core.Logic.{⊎-elim}
 use mathlib.Core.List.{List, [], _∷_, _++_, append-assoc, append-nil}
-use Prim.Native.Nat.{ℕ, suc, _+_, _-_, _*_, _≤_, _<_}
+use Prim.Native.Nat.{ℕ, suc, _+_, _*_, _≤_, _<_}
 use native.Mathlib.Numerals.{add-one}
 use native.Mathlib.Omega.{arith}
-use borrow.Rule.Slice.PartMut.{midOf}
 use lib.ListN.{length, getD, take, drop, length-append, length-map}
 use lib.Seq.{length-take-le, take-all, take-suc}
 use Rattle.profile.specs.Automata.{Profile}
@@ -21,7 +20,8 @@ use Rattle.profile.proofs.Looks.{looks-by-total, pairs-append, pairs-cons}
 use Rattle.profile.proofs.Prefixes.{addable?}
 use Rattle.merge.specs.Merge.{seek-from, started}
 use Rattle.merge.proofs.Cursors.{cursors-length}
-use Rattle.forward.specs.Forward.{Begun, Forward, Grows, Merging, Placed, Ready, Steps, begun, drafted, in-order, of-total, pairs, totals}
+use Rattle.forward.specs.Forward.{Forward, Ready, drafted, in-order}
+use Rattle.forward.specs.Merging.{Begun, Grows, Merging, Placed, Steps, begun, of-total, pairs, records-between, totals}
 use Rattle.forward.specs.declared.Filled.{Filled}
 use Rattle.forward.specs.declared.Filled.the-variants as filled
 use Rattle.forward.specs.declared.Merged.the-variants as merged
@@ -39,7 +39,7 @@ filter-length q (a ∷ l) =
     ⊎-elim (λ t. omega (arith, ap length (filter-yes q a l t), filter-length q l)) (λ t. omega (arith, ap length (filter-no q a l t), filter-length q l)) (test (q a))
 
 -- at most 16 letters to each
-pub pairs-few : (p : Profile) (w : List ℕ) → p .k ≤ 16 → (C : List (List ℕ)) → pairs p w C ≤ 16 * length C
+pairs-few : (p : Profile) (w : List ℕ) → p .k ≤ 16 → (C : List (List ℕ)) → pairs p w C ≤ 16 * length C
 pairs-few p w few [] = omega arith
 pairs-few p w few (c ∷ C) = omega (
   arith,
@@ -65,7 +65,7 @@ pub record Filling (p : Profile) (w before table : List ℕ) (room t first j n :
 module _ {p : Profile} {w : List ℕ} {m room : ℕ} {starts places : List ℕ} (r : Ready p w m room starts places) {before : List ℕ}
     {t from first : ℕ} (b : Begun p w before room t from first) where
   pub filling-start : (cursors : List ℕ) → length cursors ≡ 16
-      → Filling p w before before room t first 0 0 (started (p .k) (midOf (record-length layout * from) (record-length layout * first - record-length layout * from) before) cursors)
+      → Filling p w before before room t first 0 0 (started (p .k) (records-between before from first) cursors)
   filling-start cursors e = record {
     kept = refl;
     inside = omega (arith, b .inside);
@@ -77,7 +77,7 @@ module _ {p : Profile} {w : List ℕ} {m room : ℕ} {starts places : List ℕ} 
   }
     where
       part : List ℕ
-      part = midOf (record-length layout * from) (record-length layout * first - record-length layout * from) before
+      part = records-between before from first
 
       few : p .k ≤ length cursors
       few = omega (arith, r .profile .relation .most)
@@ -96,7 +96,7 @@ module _ {p : Profile} {w : List ℕ} {m room : ℕ} {starts places : List ℕ} 
       inside = f .inside;
       come = f .come;
       written = f .written ∙ sym (ap (begun p w (totals p w (suc t) ++ take j E)) (f .written) ∙ begun-same p w (totals p w (suc t) ++ take j E) before);
-      long = omega (arith, f .sixteen, r .profile .relation .most);
+      long = omega (arith, f .sixteen);
       placed = f .placed;
     }
 
@@ -151,6 +151,10 @@ pub record Reaching (p : Profile) (w before table : List ℕ) (room t from first
   pub written : table ≡ begun p w (totals p w (suc t)) before
   pub paired : n ≡ pairs p w (totals p w (suc t))
 
+pub reaching-start : {p : Profile} {w before : List ℕ} {room t from first : ℕ} (n : ℕ) → Begun p w before room t from first → t ≤ length w
+    → n ≡ pairs p w (totals p w (suc t)) → Reaching p w before before room t from first n
+reaching-start n b le e = record { kept = refl; up-to = le; begins = b; written = b .written; paired = e }
+
 module _ {p : Profile} {w : List ℕ} {m room : ℕ} {starts places : List ℕ} (r : Ready p w m room starts places) where
   -- records of all totals
   order-count : length (in-order p w) ≡ prefix-count (independent (p .masks)) (λ a. a) (p .k) w
@@ -158,9 +162,6 @@ module _ {p : Profile} {w : List ℕ} {m room : ℕ} {starts places : List ℕ} 
 
   pub some-prefix : 0 < prefix-count (independent (p .masks)) (λ a. a) (p .k) w
   some-prefix = omega (arith, order-count, totals-le p w 1 (suc (length w)) (omega arith), first-length r)
-
-  pub reaching-start : (before : List ℕ) (n : ℕ) → Begun p w before room 0 0 1 → n ≡ pairs p w (totals p w 1) → Reaching p w before before room 0 0 1 n
-  reaching-start before n b e = record { kept = refl; up-to = omega arith; begins = b; written = b .written; paired = e }
 
   module _ {before table : List ℕ} {t from first n : ℕ} (f : Reaching p w before table room t from first n) where
     next-first : first ≡ length (totals p w (suc t))

@@ -2,9 +2,8 @@
 use mathlib.Core.Path.{_≡_, sym, _∙_, ap, ap₂, subst}
 use mathlib.Core.List.{List, [], _∷_, _++_, append-assoc}
 use mathlib.Core.Option.{none, some}
-use Prim.Native.Nat.{ℕ, suc, _+_, _-_, _*_, _^_, _≤_, _<_}
+use Prim.Native.Nat.{ℕ, suc, _+_, _*_, _^_, _≤_, _<_}
 use native.Mathlib.Omega.{arith}
-use borrow.Rule.Slice.PartMut.{midOf}
 use lib.ListN.{length, getD, take, length-append}
 use lib.Seq.{length-take-le, take-suc}
 use Rattle.profile.specs.Automata.{Profile, union}
@@ -14,7 +13,8 @@ use Rattle.profile.proofs.Lists.{mem-getD}
 use Rattle.letters.specs.Letters.{letters-by}
 use Rattle.merge.specs.Merge.{advanced, least-of, united}
 use Rattle.records.specs.Records.{put-record}
-use Rattle.forward.specs.Forward.{Merging, Placed, Ready, Steps, begun, drafted, of-total, totals}
+use Rattle.forward.specs.Forward.{Ready, drafted}
+use Rattle.forward.specs.Merging.{Merging, Placed, Steps, begun, of-total, records-between, totals}
 use Rattle.forward.specs.declared.Merged.the-variants.{Put}
 use Rattle.forward.proofs.Drafts.{begun-part, begun-put, totals-suc}
 use Rattle.forward.proofs.Steps.{next-forward, next-none, next-placed, next-some}
@@ -23,7 +23,7 @@ use Rattle.forward.proofs.Totals.{found-letters, record-found}
 -- the total before lies between records `from` and `first`, with records D behind it
 pub level-part : (p : Profile) (w table : List ℕ) (t from first : ℕ) (D : List (List ℕ)) → from ≡ length (totals p w t) → first ≡ from + length (of-total p w t)
     → table ≡ begun p w (totals p w (suc t) ++ D) table
-    → midOf (record-length layout * from) (record-length layout * first - record-length layout * from) table ≡ drafted p w (of-total p w t)
+    → records-between table from first ≡ drafted p w (of-total p w t)
 level-part p w table t from first D b e h =
     let l = length-append (totals p w t) (of-total p w t) in
     begun-part p w (totals p w t) (of-total p w t) D table (record-length layout * from) (record-length layout * first)
@@ -35,17 +35,20 @@ module _ {p : Profile} {w : List ℕ} {room : ℕ} {starts places : List ℕ} {t
   E = of-total p w (suc t)
 
   abbrev part : List ℕ
-  part = midOf (record-length layout * from) (record-length layout * first - record-length layout * from) table
+  part = records-between table from first
 
   part-drafted : part ≡ drafted p w (of-total p w t)
   part-drafted = level-part p w table t from first (take j E) (h .before) (h .behind) (h .written)
 
+  long : p .k ≤ length cursors
+  long = omega (arith, h .long, r .profile .relation .most)
+
   pub merge-none : least-of part (p .k) cursors ≡ none → j ≡ length E
-  merge-none = next-none r t part part-drafted cursors (h .long) j (h .placed) (h .come)
+  merge-none = next-none r t part part-drafted cursors long j (h .placed) (h .come)
 
   module _ (v : List ℕ) (least : least-of part (p .k) cursors ≡ some v) where
     pub merge-full : room ≤ first + j → room < first + length E
-    merge-full le = omega (arith, next-some r t part part-drafted cursors (h .long) j (h .placed) v least .0)
+    merge-full le = omega (arith, next-some r t part part-drafted cursors long j (h .placed) v least .0)
 
     -- as many records as stand before the new one
     written-length : length (totals p w (suc t) ++ take j E) ≡ first + j
@@ -66,10 +69,10 @@ module _ {p : Profile} {w : List ℕ} {room : ℕ} {starts places : List ℕ} {t
         → after ≡ put-record table (first + j) (v ++ (S ∷ L ∷ []))
         → Steps p w room t first j table after next (Put n)
     merge-put S L n after next lt s a l m put =
-        let q = next-some r t part part-drafted cursors (h .long) j (h .placed) v least in
+        let q = next-some r t part part-drafted cursors long j (h .placed) v least in
         let e = getD E j [] in
         let i = mem-getD E j [] (q .0) in
-        let f = s ∙ ap (united (p .k) (p .s) (p .moves) part cursors) (q .1) ∙ next-forward r t part part-drafted cursors (h .long) j (h .placed) (q .0) in
+        let f = s ∙ ap (united (p .k) (p .s) (p .moves) part cursors) (q .1) ∙ next-forward r t part part-drafted cursors long j (h .placed) (q .0) in
         let D = totals p w (suc t) ++ take j E in (
           lt,
           q .0,
@@ -77,5 +80,5 @@ module _ {p : Profile} {w : List ℕ} {room : ℕ} {starts places : List ℕ} {t
           put ∙ ap₂ (put-record table) (sym written-length) (record-found r (suc t) e i v (q .1) S L f l) ∙ begun-put p w D e table (h .written)
               ∙ ap (λ C. begun p w C table) (append-assoc (totals p w (suc t)) (take j E) (e ∷ []) ∙ ap (λ C. totals p w (suc t) ++ C) (sym (take-suc E j [] (q .0)))),
           subst (Placed p w t (suc j)) (sym (a ∙ ap (advanced (p .k) part cursors) (q .1)))
-              (next-placed r t part part-drafted cursors (h .long) j (h .placed) (q .0)),
+              (next-placed r t part part-drafted cursors long j (h .placed) (q .0)),
         )

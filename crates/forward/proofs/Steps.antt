@@ -22,7 +22,8 @@ use Rattle.counts.proofs.Packed.{Small}
 use Rattle.letters.proofs.Additions.{letters-bit}
 use Rattle.merge.specs.Merge.{advanced, least-of, started, united}
 use Rattle.merge.proofs.Levels.{level-advanced, level-least, level-least-none, level-started, level-united}
-use Rattle.forward.specs.Forward.{Placed, Ready, drafted, forward-set, letters-set, of-total}
+use Rattle.forward.specs.Forward.{Ready, drafted, forward-set, letters-set}
+use Rattle.forward.specs.Merging.{Placed, of-total}
 use Rattle.forward.proofs.Totals.{apart, counted}
 
 module _ {p : Profile} {w : List ℕ} {m room : ℕ} {starts places : List ℕ} (r : Ready p w m room starts places) (n : ℕ) (t : List ℕ)
@@ -69,7 +70,7 @@ module _ {p : Profile} {w : List ℕ} {m room : ℕ} {starts places : List ℕ} 
       cursor-at x h = subst (λ R. Cursor C add x R (at cursors x)) (drop-cons E j [] lt) (placed x h)
 
       -- the least counts that the cursors give
-      pub next-least : least-of t (p .k) cursors ≡ some (packed layout e)
+      next-least : least-of t (p .k) cursors ≡ some (packed layout e)
       next-least =
           let hit = some-hits grown (take j E) e (drop (suc j) E) (split-at E j [] lt) (at cursors) cursor-at in
           level-least (forward-set p w) (letters-set p w) C t written (p .k) (r .profile .relation .most) sizes cursors stands e

@@ -23,7 +23,8 @@ use Rattle.letters.specs.Letters.{letters-by}
 use Rattle.letters.proofs.Additions.{letters-placed}
 use Rattle.records.specs.Records.{put-record}
 use Rattle.records.proofs.Drafts.{draft}
-use Rattle.forward.specs.Forward.{Ready, begun, forward-set, letters-of, letters-set, of-total, pairs, totals}
+use Rattle.forward.specs.Forward.{Ready, forward-set, letters-of, letters-set}
+use Rattle.forward.specs.Merging.{begun, of-total, pairs, totals}
 use Rattle.forward.proofs.Drafts.{begun-put}
 
 -- no count exceeds the total

@@ -1,13 +1,15 @@
 // The forward pass: the records of all prefixes, one total after the other; document 01, "Prefixes and their table".
 ghost use mathlib.Core.Path.{_≡_};
 ghost use mathlib.Core.List.{[], _∷_, _++_};
-ghost use Prim.Native.Nat.{_+_, _*_, _≤_};
-ghost use lib.ListN.{length};
+ghost use Prim.Native.Nat.{suc, _+_, _*_, _≤_};
+ghost use lib.ListN.{length, replicate};
 ghost use Rattle.profile.specs.Automata.{profile-of};
 ghost use Rattle.profile.specs.Tables.{layout, record-length};
 ghost use Rattle.counts.specs.Counts.{words};
+ghost use Rattle.merge.specs.Merge.{started};
 ghost use Rattle.records.specs.Records.{put-record};
-ghost use Rattle.forward.specs.Forward.{Begun, Comes, Forward, Grows, Merging, Ready, Steps, begun, pairs, totals};
+ghost use Rattle.forward.specs.Forward.{Forward, Ready};
+ghost use Rattle.forward.specs.Merging.{Comes, Grows, Halfway, Standing, Steps, begun, pairs, records-between, totals};
 use counts::Counts;
 use merge::Least;
 use profile::Shape;
@@ -21,10 +23,18 @@ pub enum Filled {
     Done { records: usize, looks: u64 },
 }
 
-// The records of a total are put, with the pairs of one of them and a letter that can be added to it; or they do not fit.
+// Where total t stands in a table that `room` records fit: from record `from` to before record `first`, at which the next total begins.
+struct Part {
+    room: usize,
+    t: usize,
+    from: usize,
+    first: usize,
+}
+
+// The records of a total are put, so many, with the pairs of one of them and a letter that can be added to it; or they do not fit.
 enum Total {
     Full,
-    Put { records: usize, pairs: u64 },
+    Put(usize, u64),
 }
 
 // The next record of a total is put, with the number of letters that can be added; or there is none; or it does not fit.
@@ -51,8 +61,7 @@ fn put_first(
     starts: &[u16],
     places: &[u8],
 ) -> u32
-    requires { ⌜ Ready (profile-of shape (now masks) (now moves)) (now log) (length (now table)) room (now starts) (now places) ⌝ }
-    requires { ⌜ 1 ≤ room ⌝ }
+    requires { ⌜ Ready (profile-of shape (now masks) (now moves)) (now log) (length (now table)) room (now starts) (now places) × (1 ≤ room) ⌝ }
     ensures { λ r. ⌜ (r ≡ pairs (profile-of shape (now (masks .entry)) (now (moves .entry))) (now (log .entry)) (totals (profile-of shape (now (masks .entry)) (now (moves .entry))) (now (log .entry)) 1))
         × (now (table .exit) ≡ begun (profile-of shape (now (masks .entry)) (now (moves .entry))) (now (log .entry)) (totals (profile-of shape (now (masks .entry)) (now (moves .entry))) (now (log .entry)) 1) (now (table .entry))) ⌝ }
 {
@@ -66,7 +75,7 @@ fn put_first(
 
 // The next counts by the cursors, of the total after the one in `level`; their cursors move on.
 fn next_counts(level: &[u32], k: usize, s: usize, moves: &[u32], cursors: &mut [usize]) -> Next
-    requires { ⌜ (k ≤ 16) × (s ≤ 32) × (k ≤ length (now cursors)) ⌝ }
+    requires { ⌜ (k ≤ 16) × (s ≤ 32) × (16 ≤ length (now cursors)) ⌝ }
     ensures { λ r. ⌜ Comes k s (now (moves .entry)) (now (level .entry)) (now (cursors .entry)) (now (cursors .exit)) r ⌝ }
 {
     let least = merge::least_counts(level, k, cursors);
@@ -89,13 +98,10 @@ fn put_in(table: &mut [u32], first: usize, j: usize, c: Counts, forward: u32, la
     records::put(&mut table[at..], j, c, forward, last);
 }
 
-// Puts record j of total t + 1, if there is one; those of total t begin at record `from` and end before record `first`.
+// Puts record j of the total behind the part, if there is one.
 fn merge_next(
     table: &mut [u32],
-    room: usize,
-    t: usize,
-    from: usize,
-    first: usize,
+    part: Part,
     j: usize,
     shape: Shape,
     masks: &[u16],
@@ -105,13 +111,14 @@ fn merge_next(
     places: &[u8],
     cursors: &mut [usize],
 ) -> Merged
-    requires { ⌜ Ready (profile-of shape (now masks) (now moves)) (now log) (length (now table)) room (now starts) (now places) ⌝ }
-    requires { ⌜ Merging (profile-of shape (now masks) (now moves)) (now log) (now table) room t from first j (now cursors) ⌝ }
-    ensures { λ r. ⌜ Steps (profile-of shape (now (masks .entry)) (now (moves .entry))) (now (log .entry)) room t first j (now (table .entry)) (now (table .exit)) (now (cursors .exit)) r ⌝ }
+    requires { ⌜ Halfway (profile-of shape (now masks) (now moves)) (now log) (now table) part j (now cursors) (now starts) (now places) ⌝ }
+    ensures { λ r. ⌜ Steps (profile-of shape (now (masks .entry)) (now (moves .entry))) (now (log .entry)) (part .room) (part .t) (part .first) j (now (table .entry)) (now (table .exit)) (now (cursors .exit)) r ⌝ }
 {
     let k = shape.k;
     let s = shape.s;
-    let start = RECORD * from;
+    let room = part.room;
+    let first = part.first;
+    let start = RECORD * part.from;
     let end = RECORD * first;
     let next = next_counts(&table[start..end], k, s, moves, cursors);
     match next {
@@ -128,13 +135,22 @@ fn merge_next(
     }
 }
 
-// Puts the records of total t + 1, where `room` records fit; those of total t begin at record `from` and end before record `first`.
+// The cursor of each letter below k, at the first record of the part to which the letter can be added.
+fn first_cursors(table: &[u32], part: Part, k: usize) -> [usize; 16]
+    requires { ⌜ (k ≤ 16) × (part .from ≤ part .first) × (record-length layout * part .first ≤ length (now table)) ⌝ }
+    ensures { λ r. ⌜ r ≡ started k (records-between (now (table .entry)) (part .from) (part .first)) (replicate 16 0) ⌝ }
+{
+    let start = RECORD * part.from;
+    let end = RECORD * part.first;
+    let mut cursors = [0usize; 16];
+    merge::start_cursors(&table[start..end], k, &mut cursors);
+    cursors
+}
+
+// Puts the records of the total behind the part.
 fn fill_total(
     table: &mut [u32],
-    room: usize,
-    t: usize,
-    from: usize,
-    first: usize,
+    part: Part,
     shape: Shape,
     masks: &[u16],
     moves: &[u32],
@@ -142,23 +158,16 @@ fn fill_total(
     starts: &[u16],
     places: &[u8],
 ) -> Total
-    requires { ⌜ Ready (profile-of shape (now masks) (now moves)) (now log) (length (now table)) room (now starts) (now places) ⌝ }
-    requires { ⌜ Begun (profile-of shape (now masks) (now moves)) (now log) (now table) room t from first ⌝ }
-    ensures { λ r. ⌜ Grows (profile-of shape (now (masks .entry)) (now (moves .entry))) (now (log .entry)) room t first (now (table .entry)) (now (table .exit)) r ⌝ }
+    requires { ⌜ Standing (profile-of shape (now masks) (now moves)) (now log) (now table) part (now starts) (now places) ⌝ }
+    ensures { λ r. ⌜ Grows (profile-of shape (now (masks .entry)) (now (moves .entry))) (now (log .entry)) (part .room) (part .t) (part .first) (now (table .entry)) (now (table .exit)) r ⌝ }
 {
-    let start = RECORD * from;
-    let end = RECORD * first;
-    let mut cursors = [0usize; 16];
-    merge::start_cursors(&table[start..end], shape.k, &mut cursors);
+    let mut cursors = first_cursors(table, part, shape.k);
     let mut pairs = 0u64;
     let mut j = 0;
     loop {
         let merged = merge_next(
             table,
-            room,
-            t,
-            from,
-            first,
+            part,
             j,
             shape,
             masks,
@@ -169,15 +178,8 @@ fn fill_total(
             &mut cursors,
         );
         match merged {
-            Merged::Nothing => {
-                return Total::Put {
-                    records: j,
-                    pairs: pairs,
-                };
-            }
-            Merged::Full => {
-                return Total::Full;
-            }
+            Merged::Nothing => return Total::Put(j, pairs),
+            Merged::Full => return Total::Full,
             Merged::Put(n) => {
                 pairs += n as u64;
                 j += 1;
@@ -186,10 +188,10 @@ fn fill_total(
     }
 }
 
-// Puts the records of the totals from 1 on, behind that of total 0, to which `number` letters can be added.
+// Puts the records of the totals behind the part, where those up to it have `number` pairs of a record and a letter that can be added.
 fn fill_totals(
     table: &mut [u32],
-    room: usize,
+    part: Part,
     number: u32,
     shape: Shape,
     masks: &[u16],
@@ -198,43 +200,30 @@ fn fill_totals(
     starts: &[u16],
     places: &[u8],
 ) -> Filled
-    requires { ⌜ Ready (profile-of shape (now masks) (now moves)) (now log) (length (now table)) room (now starts) (now places) ⌝ }
-    requires { ⌜ Begun (profile-of shape (now masks) (now moves)) (now log) (now table) room 0 0 1 ⌝ }
-    requires { ⌜ number ≡ pairs (profile-of shape (now masks) (now moves)) (now log) (totals (profile-of shape (now masks) (now moves)) (now log) 1) ⌝ }
-    ensures { λ r. ⌜ Forward (profile-of shape (now (masks .entry)) (now (moves .entry))) (now (log .entry)) room (now (table .entry)) (now (table .exit)) r ⌝ }
+    requires { ⌜ Standing (profile-of shape (now masks) (now moves)) (now log) (now table) part (now starts) (now places) ⌝ }
+    requires { ⌜ (part .t ≤ length (now log)) × (number ≡ pairs (profile-of shape (now masks) (now moves)) (now log) (totals (profile-of shape (now masks) (now moves)) (now log) (suc (part .t)))) ⌝ }
+    ensures { λ r. ⌜ Forward (profile-of shape (now (masks .entry)) (now (moves .entry))) (now (log .entry)) (part .room) (now (table .entry)) (now (table .exit)) r ⌝ }
 {
-    let mut from = 0;
-    let mut first = 1;
+    let mut at = part;
     let mut looks = number as u64;
-    let mut t = 0;
-    while t < log.len() {
-        let total = fill_total(
-            table,
-            room,
-            t,
-            from,
-            first,
-            shape,
-            masks,
-            moves,
-            log,
-            starts,
-            places,
-        );
+    while at.t < log.len() {
+        let total = fill_total(table, at, shape, masks, moves, log, starts, places);
         match total {
-            Total::Full => {
-                return Filled::Full;
-            }
-            Total::Put { records, pairs } => {
-                from = first;
-                first += records;
+            Total::Full => return Filled::Full,
+            Total::Put(records, pairs) => {
+                let next = Part {
+                    room: at.room,
+                    t: at.t + 1,
+                    from: at.first,
+                    first: at.first + records,
+                };
+                at = next;
                 looks += pairs;
             }
         }
-        t += 1;
     }
     Filled::Done {
-        records: first,
+        records: at.first,
         looks: looks,
     }
 }
@@ -257,9 +246,15 @@ pub fn fill_forward(
         return Filled::Full;
     }
     let number = put_first(table, room, shape, masks, moves, log, starts, places);
+    let part = Part {
+        room: room,
+        t: 0,
+        from: 0,
+        first: 1,
+    };
     fill_totals(
         table,
-        room,
+        part,
         number,
         shape,
         masks,

@@ -1,10 +1,10 @@
 -- `forward::fill_forward` meets its contract.
 use mathlib.Core.Path.{sym, subst}
+use native.Mathlib.Omega.{arith}
+use borrow.Author.Needs.{needs}
 use Rattle.profile.specs.Automata.{profile-of}
 use Rattle.forward.specs.Forward.{Ready}
 use Rattle.forward.proofs.Fills.{first-begun, from-first, some-prefix}
-use native.Mathlib.Omega.{arith}
-use borrow.Author.Needs.{needs}
 use Rattle.forward.proofs.fill_forward.Statement.{statement}
 use Rattle.forward.proofs.fill_forward.Tie as tie
 
@@ -18,8 +18,13 @@ fill-totals-requires : tie.Need-fill-totals-requires
 fill-totals-requires c κs =
     let a = c .before .before .before .before .before .before .before .before .before .before .before .before .args in
     let h = c .before .before .before .before .before .before .before .before .before .before .before .before .pre in
-    let x = c .before .before .before .put-first in
-    (subst (λ m. Ready (profile-of (a .shape) (a .masks .now) (a .moves .now)) (a .log .now) m (a .room) (a .starts .now) (a .places .now)) (sym (x .kept .0)) h, (first-begun h (omega arith) (a .table .now) (x .last .0) (x .ensures .1), x .ensures .0))
+    let x = c .before .before .before .put-first in (
+      (
+        subst (λ m. Ready (profile-of (a .shape) (a .masks .now) (a .moves .now)) (a .log .now) m (a .room) (a .starts .now) (a .places .now)) (sym (x .kept .0)) h,
+        first-begun h (omega arith) (a .table .now) (x .last .0) (x .ensures .1),
+      ),
+      (omega arith, x .ensures .0),
+    )
 
 same-length : tie.Need-same-length
 same-length c = search needs

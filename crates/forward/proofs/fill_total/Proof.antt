@@ -1,62 +1,42 @@
--- `forward::fill_total` meets its contract.
-use borrow.Author.Needs.{needs}
-use Prim.Native.Nat.{_+_, _-_}
-use Rattle.profile.specs.Automata.{profile-of}
-use Rattle.forward.proofs.Fills.{Filling, filling-done, filling-few, filling-merging, filling-next, filling-start}
+-- `forward::fill_total` meets its contract. The loop's invariant: the first j records are put, and their pairs counted.
 use mathlib.Core.Path.{refl, sym, subst}
-use lib.ListN.{replicate}
-use Rattle.forward.specs.Forward.{Ready, Steps}
+use Prim.Native.Nat.{_+_, _-_}
 use native.Mathlib.Omega.{arith}
+use borrow.Author.Needs.{needs}
+use lib.ListN.{replicate}
+use Rattle.profile.specs.Automata.{profile-of}
+use Rattle.forward.specs.Forward.{Ready}
+use Rattle.forward.specs.Merging.{Steps}
+use Rattle.forward.proofs.Fills.{Filling, filling-done, filling-few, filling-merging, filling-next, filling-start}
 use Rattle.forward.proofs.fill_total.Statement.{statement}
 use Rattle.forward.proofs.fill_total.Tie as tie
 
 abbrev Inv-loop : tie.InvT-loop
-Inv-loop table₀ room t from first shape masks moves log starts places start end cursors₀ pairs₀ j₀ table cursors pairs j =
-    Filling (profile-of shape masks moves) log table₀ table room t first j pairs cursors
+Inv-loop table₀ part shape masks moves log starts places cursors₀ pairs₀ j₀ table cursors pairs j =
+    Filling (profile-of shape masks moves) log table₀ table (part .room) (part .t) (part .first) j pairs cursors
 
 abbrev μ-loop : tie.MeasureT-loop
-μ-loop table₀ room t from first shape masks moves log starts places start end cursors₀ pairs₀ j₀ table cursors pairs j =
-    room - (first + j)
+μ-loop table₀ part shape masks moves log starts places cursors₀ pairs₀ j₀ table cursors pairs j =
+    part .room - (part .first + j)
 
-mul-start : tie.Need-mul-start Inv-loop μ-loop
-mul-start c = search needs
-
-mul-end : tie.Need-mul-end Inv-loop μ-loop
-mul-end c = search needs
-
-mul-start-cursors : tie.Need-mul-start-cursors Inv-loop μ-loop
-mul-start-cursors c = search needs
-
-sub-start-cursors : tie.Need-sub-start-cursors Inv-loop μ-loop
-sub-start-cursors c = search needs
-
-part-start-cursors-start : tie.Need-part-start-cursors-start Inv-loop μ-loop
-part-start-cursors-start c = search needs
-
-part-start-cursors-end : tie.Need-part-start-cursors-end Inv-loop μ-loop
-part-start-cursors-end c = search needs
-
-slice-aggregate-start-cursors : tie.Need-slice-aggregate-start-cursors Inv-loop μ-loop
-slice-aggregate-start-cursors c = search needs
-
-start-cursors-requires : tie.Need-start-cursors-requires Inv-loop μ-loop
-start-cursors-requires c κs = search needs
+first-cursors-requires : tie.Need-first-cursors-requires Inv-loop μ-loop
+first-cursors-requires c κs = search needs
 
 loop-holds : tie.Need-loop-holds Inv-loop μ-loop
 loop-holds c =
-    let a = c .before .before .before .before .before .before .before .before .before .before .before .args in
-    let h = c .before .before .before .before .before .before .before .before .before .before .before .pre in
-    subst (Filling (profile-of (a .shape) (a .masks .now) (a .moves .now)) (a .log .now) (a .table .now) (a .table .now) (a .room) (a .t) (a .first) 0 0) (sym (c .before .start-cursors .ensures)) (filling-start (h .0) (h .1) (replicate 16 0) refl)
+    let a = c .before .before .before .before .before .before .before .before .args in
+    let h = c .before .before .before .before .before .before .before .before .pre in
+    subst (Filling (profile-of (a .shape) (a .masks .now) (a .moves .now)) (a .log .now) (a .table .now) (a .table .now) (a .part .room) (a .part .t) (a .part .first) 0 0) (sym (c .first-cursors .ensures)) (filling-start (h .0) (h .1) (replicate 16 0) refl)
 
 slice-aggregate-merge-next : tie.Need-slice-aggregate-merge-next Inv-loop μ-loop
 slice-aggregate-merge-next c = search needs
 
 merge-next-requires : tie.Need-merge-next-requires Inv-loop μ-loop
 merge-next-requires c κs =
-    let a = c .before .before .before .before .before .before .before .before .before .before .before .before .before .before .args in
-    let h = c .before .before .before .before .before .before .before .before .before .before .before .before .before .before .pre in
+    let a = c .before .before .before .before .before .before .before .before .before .before .before .args in
+    let h = c .before .before .before .before .before .before .before .before .before .before .before .pre in
     let f = c .before .before .loop .inv in
-    (subst (λ m. Ready (profile-of (a .shape) (a .masks .now) (a .moves .now)) (a .log .now) m (a .room) (a .starts .now) (a .places .now)) (sym (f .kept)) (h .0), filling-merging (h .0) (h .1) f)
+    (subst (λ m. Ready (profile-of (a .shape) (a .masks .now) (a .moves .now)) (a .log .now) m (a .part .room) (a .starts .now) (a .places .now)) (sym (f .kept)) (h .0), filling-merging (h .0) (h .1) f)
 
 enum-told : tie.Need-enum-told Inv-loop μ-loop
 enum-told c = search needs
@@ -66,12 +46,12 @@ same-length c = search needs
 
 returns : tie.Need-returns Inv-loop μ-loop
 returns c =
-    let a = c .before .before .before .before .before .before .before .before .before .before .before .before .before .before .before .before .before .before .before .before .args in
-    let h = c .before .before .before .before .before .before .before .before .before .before .before .before .before .before .before .before .before .before .before .before .pre in
+    let a = c .before .before .before .before .before .before .before .before .before .before .before .before .before .before .before .before .before .args in
+    let h = c .before .before .before .before .before .before .before .before .before .before .before .before .before .before .before .before .before .pre in
     let l = c .before .before .before .before .before .before .before .before .loop in
     let x = c .before .before .before .before .before .merge-next in
-    let s = subst (Steps (profile-of (a .shape) (a .masks .now) (a .moves .now)) (a .log .now) (a .room) (a .t) (a .first) (l .j) (l .table) (x .last .0) (x .last .1 .1 .1 .1 .1 .1 .1 .1 .1 .1 .1 .1 .0)) (c .enum-told .given .1) (x .ensures) in
-    filling-done (h .0) (h .1) (l .inv) (x .last .0) (x .last .1 .1 .1 .1 .1 .1 .1 .1 .1 .1 .1 .1 .0) s
+    let s = subst (Steps (profile-of (a .shape) (a .masks .now) (a .moves .now)) (a .log .now) (a .part .room) (a .part .t) (a .part .first) (l .j) (l .table) (x .last .0) (x .last .1 .1 .1 .1 .1 .1 .1 .1 .1 .0)) (c .enum-told .given .1) (x .ensures) in
+    filling-done (h .0) (h .1) (l .inv) (x .last .0) (x .last .1 .1 .1 .1 .1 .1 .1 .1 .1 .0) s
 
 enum-told-2 : tie.Need-enum-told-2 Inv-loop μ-loop
 enum-told-2 c = search needs
@@ -81,12 +61,10 @@ same-length-2 c = search needs
 
 returns-2 : tie.Need-returns-2 Inv-loop μ-loop
 returns-2 c =
-    let a = c .before .before .before .before .before .before .before .before .before .before .before .before .before .before .before .before .before .before .before .before .args in
-    let h = c .before .before .before .before .before .before .before .before .before .before .before .before .before .before .before .before .before .before .before .before .pre in
+    let a = c .before .before .before .before .before .before .before .before .before .before .before .before .before .before .before .before .before .args in
     let l = c .before .before .before .before .before .before .before .before .loop in
     let x = c .before .before .before .before .before .merge-next in
-    let s = subst (Steps (profile-of (a .shape) (a .masks .now) (a .moves .now)) (a .log .now) (a .room) (a .t) (a .first) (l .j) (l .table) (x .last .0) (x .last .1 .1 .1 .1 .1 .1 .1 .1 .1 .1 .1 .1 .0)) (c .enum-told2 .given .1) (x .ensures) in
-    s
+    subst (Steps (profile-of (a .shape) (a .masks .now) (a .moves .now)) (a .log .now) (a .part .room) (a .part .t) (a .part .first) (l .j) (l .table) (x .last .0) (x .last .1 .1 .1 .1 .1 .1 .1 .1 .1 .0)) (c .enum-told2 .given .1) (x .ensures)
 
 enum-known-merged : tie.Need-enum-known-merged Inv-loop μ-loop
 enum-known-merged c = search needs
@@ -96,18 +74,18 @@ cast-pairs c = search needs
 
 loop-again : tie.Need-loop-again Inv-loop μ-loop
 loop-again c =
-    let a = c .before .before .before .before .before .before .before .before .before .before .before .before .before .before .before .before .before .before .before .before .before .args in
-    let h = c .before .before .before .before .before .before .before .before .before .before .before .before .before .before .before .before .before .before .before .before .before .pre in
+    let a = c .before .before .before .before .before .before .before .before .before .before .before .before .before .before .before .before .before .before .args in
+    let h = c .before .before .before .before .before .before .before .before .before .before .before .before .before .before .before .before .before .before .pre in
     let l = c .before .before .before .before .before .before .before .before .before .loop in
     let x = c .before .before .before .before .before .before .merge-next in
-    let s = subst (Steps (profile-of (a .shape) (a .masks .now) (a .moves .now)) (a .log .now) (a .room) (a .t) (a .first) (l .j) (l .table) (x .last .0) (x .last .1 .1 .1 .1 .1 .1 .1 .1 .1 .1 .1 .1 .0)) (c .before .merged .given .1) (x .ensures) in
-    filling-next (h .0) (h .1) (l .inv) (c .before .merged .given .0 .0) (x .last .0) (x .last .1 .1 .1 .1 .1 .1 .1 .1 .1 .1 .1 .1 .0) s (x .kept .0) (x .kept .1 .1 .1 .1 .1 .1 .1 .1 .1 .1 .1 .1 .0)
+    let s = subst (Steps (profile-of (a .shape) (a .masks .now) (a .moves .now)) (a .log .now) (a .part .room) (a .part .t) (a .part .first) (l .j) (l .table) (x .last .0) (x .last .1 .1 .1 .1 .1 .1 .1 .1 .1 .0)) (c .before .merged .given .1) (x .ensures) in
+    filling-next (h .0) (h .1) (l .inv) (c .before .merged .given .0 .0) (x .last .0) (x .last .1 .1 .1 .1 .1 .1 .1 .1 .1 .0) s (x .kept .0) (x .kept .1 .1 .1 .1 .1 .1 .1 .1 .1 .0)
 
 add-pairs : tie.Need-add-pairs Inv-loop μ-loop
-add-pairs c = let h = c .before .before .before .before .before .before .before .before .before .before .before .before .before .before .before .before .before .before .before .before .before .pre in omega (arith, filling-few (h .0) (h .1) (loop-again c), h .0 .few)
+add-pairs c = let h = c .before .before .before .before .before .before .before .before .before .before .before .before .before .before .before .before .before .before .pre in omega (arith, filling-few (h .0) (h .1) (loop-again c), h .0 .few)
 
 add-j : tie.Need-add-j Inv-loop μ-loop
-add-j c = omega (arith, loop-again c .inside, c .before .before .before .before .before .before .before .before .before .before .before .before .before .before .before .before .before .before .before .before .before .pre .0 .few)
+add-j c = omega (arith, loop-again c .inside, c .before .before .before .before .before .before .before .before .before .before .before .before .before .before .before .before .before .before .pre .0 .few)
 
 loop-less : tie.Need-loop-less Inv-loop μ-loop
 loop-less c = omega (arith, loop-again c .inside)
@@ -118,14 +96,7 @@ fill-total-spec =
     (tie.spec
     Inv-loop
     μ-loop
-    mul-start
-    mul-end
-    mul-start-cursors
-    sub-start-cursors
-    part-start-cursors-start
-    part-start-cursors-end
-    slice-aggregate-start-cursors
-    start-cursors-requires
+    first-cursors-requires
     loop-holds
     slice-aggregate-merge-next
     merge-next-requires

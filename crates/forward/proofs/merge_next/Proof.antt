@@ -1,11 +1,10 @@
 -- `forward::merge_next` meets its contract.
 use mathlib.Core.Path.{refl, subst}
-use Prim.Native.Nat.{_-_, _*_}
-use borrow.Rule.Slice.PartMut.{midOf}
-use Rattle.counts.specs.Counts.{words}
-use Rattle.forward.specs.Forward.{Comes}
-use Rattle.forward.proofs.Puts.{merge-full, merge-none, merge-put}
+use native.Mathlib.Omega.{arith}
 use borrow.Author.Needs.{needs}
+use Rattle.counts.specs.Counts.{words}
+use Rattle.forward.specs.Merging.{Comes, records-between}
+use Rattle.forward.proofs.Puts.{merge-full, merge-none, merge-put}
 use Rattle.forward.proofs.merge_next.Statement.{statement}
 use Rattle.forward.proofs.merge_next.Tie as tie
 
@@ -43,7 +42,7 @@ addable-requires : tie.Need-addable-requires
 addable-requires c κs = search needs
 
 put-in-requires : tie.Need-put-in-requires
-put-in-requires c κs = search needs
+put-in-requires c κs = omega (arith, c .before .before .if1 .taken, c .before .before .before .before .before .before .before .before .before .before .before .before .before .before .before .before .before .before .before .before .pre .0 .fits)
 
 same-length : tie.Need-same-length
 same-length c = search needs
@@ -53,10 +52,11 @@ same-length-2 c = search needs
 
 returns : tie.Need-returns
 returns c =
-    let a = c .before .before .before .before .before .before .before .before .before .before .before .before .before .before .before .args in
+    let a = c .before .before .before .before .before .before .before .before .before .before .before .before .before .before .before .before .args in
+    let h = c .before .before .before .before .before .before .before .before .before .before .before .before .before .before .before .before .pre in
     let x = c .before .before .before .before .next-counts in
-    let g = subst (Comes (a .shape .k) (a .shape .s) (a .moves .now) (midOf (6 * a .from) (6 * a .first - 6 * a .from) (a .table .now)) (a .cursors .now) (x .last .1 .1 .1 .1 .0)) (c .enum-told .given .1) (x .ensures) in
-    let h = c .before .before .before .before .before .before .before .before .before .before .before .before .before .before .before .pre in
+    let level = records-between (a .table .now) (a .part .from) (a .part .first) in
+    let g = subst (Comes (a .shape .k) (a .shape .s) (a .moves .now) level (a .cursors .now) (x .last .1 .1 .1 .1 .0)) (c .enum-told .given .1) (x .ensures) in
     (merge-none (h .0) (h .1) g, refl)
 
 same-length-3 : tie.Need-same-length-3
@@ -68,12 +68,15 @@ same-length-4 c = search needs
 returns-2 : tie.Need-returns-2
 returns-2 c =
     let q = c .before .before .before .before .before .before .before .next .given in
-    let a = c .before .before .before .before .before .before .before .before .before .before .before .before .before .before .before .before .before .before .before .before .before .before .args in
+    let a = c .before .before .before .before .before .before .before .before .before .before .before .before .before .before .before .before .before .before .before .before .before .before .before .args in
+    let h = c .before .before .before .before .before .before .before .before .before .before .before .before .before .before .before .before .before .before .before .before .before .before .before .pre in
     let x = c .before .before .before .before .before .before .before .before .before .before .before .next-counts in
-    let g = subst (Comes (a .shape .k) (a .shape .s) (a .moves .now) (midOf (6 * a .from) (6 * a .first - 6 * a .from) (a .table .now)) (a .cursors .now) (x .last .1 .1 .1 .1 .0)) (q .1) (x .ensures) in
-    let h = c .before .before .before .before .before .before .before .before .before .before .before .before .before .before .before .before .before .before .before .before .before .before .pre in
-    merge-put (h .0) (h .1) (words (q .0 .0)) (g .0) (q .0 .1 .0) (c .before .before .before .before .addable .result .set) (c .before .before .before .before .addable .result .number)
-    (c .before .before .put-in .last .0) (x .last .1 .1 .1 .1 .0) (c .before .before .before .before .before .if1 .taken) (g .1) (g .2) (c .before .before .before .before .addable .ensures .0) (c .before .before .before .before .addable .ensures .1) (c .before .before .put-in .ensures)
+    let level = records-between (a .table .now) (a .part .from) (a .part .first) in
+    let g = subst (Comes (a .shape .k) (a .shape .s) (a .moves .now) level (a .cursors .now) (x .last .1 .1 .1 .1 .0)) (q .1) (x .ensures) in
+    let y = c .before .before .before .before .addable in
+    let z = c .before .before .put-in in
+    merge-put (h .0) (h .1) (words (q .0 .0)) (g .0) (q .0 .1 .0) (y .result .set) (y .result .number) (z .last .0) (x .last .1 .1 .1 .1 .0)
+    (c .before .before .before .before .before .if1 .taken) (g .1) (g .2) (y .ensures .0) (y .ensures .1) (z .ensures)
 
 same-length-5 : tie.Need-same-length-5
 same-length-5 c = search needs
@@ -84,10 +87,11 @@ same-length-6 c = search needs
 returns-3 : tie.Need-returns-3
 returns-3 c =
     let q = c .before .before .next .given in
-    let a = c .before .before .before .before .before .before .before .before .before .before .before .before .before .before .before .before .before .args in
+    let a = c .before .before .before .before .before .before .before .before .before .before .before .before .before .before .before .before .before .before .args in
+    let h = c .before .before .before .before .before .before .before .before .before .before .before .before .before .before .before .before .before .before .pre in
     let x = c .before .before .before .before .before .before .next-counts in
-    let g = subst (Comes (a .shape .k) (a .shape .s) (a .moves .now) (midOf (6 * a .from) (6 * a .first - 6 * a .from) (a .table .now)) (a .cursors .now) (x .last .1 .1 .1 .1 .0)) (q .1) (x .ensures) in
-    let h = c .before .before .before .before .before .before .before .before .before .before .before .before .before .before .before .before .before .pre in
+    let level = records-between (a .table .now) (a .part .from) (a .part .first) in
+    let g = subst (Comes (a .shape .k) (a .shape .s) (a .moves .now) level (a .cursors .now) (x .last .1 .1 .1 .1 .0)) (q .1) (x .ensures) in
     merge-full (h .0) (h .1) (words (q .0 .0)) (g .0) (c .if1 .left)
 
 pub merge-next-spec : {M : Type 1} → statement M

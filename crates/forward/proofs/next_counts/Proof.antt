@@ -1,7 +1,7 @@
 -- `forward::next_counts` meets its contract.
 use mathlib.Core.Path.{sym, _∙_, ap}
-use Rattle.merge.specs.Merge.{least-words}
 use borrow.Author.Needs.{needs}
+use Rattle.merge.specs.Merge.{least-words}
 use Rattle.forward.proofs.next_counts.Statement.{statement}
 use Rattle.forward.proofs.next_counts.Tie as tie
 

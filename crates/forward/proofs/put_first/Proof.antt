@@ -1,8 +1,8 @@
 -- `forward::put_first` meets its contract.
 use mathlib.Core.Path.{refl, _∙_}
+use borrow.Author.Needs.{needs}
 use Rattle.counts.specs.Counts.{words}
 use Rattle.forward.proofs.Totals.{first-pairs, first-record}
-use borrow.Author.Needs.{needs}
 use Rattle.forward.proofs.put_first.Statement.{statement}
 use Rattle.forward.proofs.put_first.Tie as tie
 

@@ -3,10 +3,10 @@ use mathlib.Core.Path.{_∙_, ap}
 use mathlib.Core.List.{[], _∷_, _++_}
 use Prim.Native.Nat.{_-_, _*_}
 use borrow.Rule.Slice.PartMut.{putMid}
+use borrow.Author.Needs.{needs}
 use lib.ListN.{length}
 use Rattle.counts.specs.Counts.{words}
 use Rattle.forward.proofs.Drafts.{put-part}
-use borrow.Author.Needs.{needs}
 use Rattle.forward.proofs.put_in.Statement.{statement}
 use Rattle.forward.proofs.put_in.Tie as tie
 

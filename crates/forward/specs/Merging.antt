@@ -1,0 +1,99 @@
+-- Between one total and the next, for the functions that the forward pass is made of: a total is put record by record, by a merge of the total before it.
+use mathlib.Core.Path.{_≡_}
+use mathlib.Core.List.{List, [], _++_}
+use mathlib.Core.Option.{none, some}
+use Prim.Native.Nat.{ℕ, suc, _+_, _-_, _*_, _≤_, _<_}
+use lib.ListN.{length, getD, take, drop}
+use Rattle.profile.specs.Automata.{Profile}
+use Rattle.profile.specs.Lists.{below, flat-map}
+use Rattle.profile.specs.Prefixes.{at}
+use Rattle.profile.specs.Tables.{layout, record-length}
+use Rattle.profile.specs.Traces.{independent}
+use Rattle.profile.proofs.Levels.{level}
+use Rattle.profile.proofs.Looks.{pairs-in}
+use Rattle.profile.proofs.Merge.{Cursor, extends?}
+use Rattle.counts.specs.Counts.{words}
+use Rattle.merge.specs.Merge.{advanced, least-of, united}
+use Rattle.forward.specs.declared.Merged.{Merged}
+use Rattle.forward.specs.declared.Merged.the-variants as merged
+use Rattle.forward.specs.declared.Next.{Next}
+use Rattle.forward.specs.declared.Next.the-variants as next
+use Rattle.forward.specs.declared.Total.{Total}
+use Rattle.forward.specs.declared.Total.the-variants as total
+use Rattle.forward.specs.declared.Part.{Part}
+use Rattle.forward.specs.Forward.{Ready, drafted, letters-of}
+
+module _ (p : Profile) (w : List ℕ) where
+  -- the prefixes of total n, and those of the totals below t
+  abbrev pub of-total : ℕ → List (List ℕ)
+  of-total n = level (independent (p .masks)) (λ a. a) (p .k) w n
+
+  abbrev pub totals : ℕ → List (List ℕ)
+  totals t = flat-map of-total (below t)
+
+  -- the pairs of counts in C and a letter that can be added to them
+  abbrev pub pairs : List (List ℕ) → ℕ
+  pairs C = pairs-in (independent (p .masks)) (λ a. a) (p .k) w C
+
+  -- a table that begins with the records of C and is t behind them
+  abbrev pub begun : List (List ℕ) → List ℕ → List ℕ
+  begun C t = drafted p w C ++ drop (record-length layout * length C) t
+
+-- the records of the table from record a on and before record b
+abbrev pub records-between : List ℕ → ℕ → ℕ → List ℕ
+records-between t a b = take (record-length layout * b - record-length layout * a) (drop (record-length layout * a) t)
+
+-- the totals up to t are put: the records of total t begin at record `from` and end before record `first`; the same of a part of a table that is ready
+pub record Begun (p : Profile) (w table : List ℕ) (room t from first : ℕ) : Type 0 where
+  pub before : from ≡ length (totals p w t)
+  pub behind : first ≡ from + length (of-total p w t)
+  pub inside : first ≤ room
+  pub written : table ≡ begun p w (totals p w (suc t)) table
+
+abbrev pub Standing : Profile → List ℕ → List ℕ → Part → List ℕ → List ℕ → Type 0
+Standing p w table a starts places = Ready p w (length table) (a .room) starts places × Begun p w table (a .room) (a .t) (a .from) (a .first)
+
+-- total t + 1 is put behind them, or does not fit
+abbrev pub Grows : Profile → List ℕ → ℕ → ℕ → ℕ → List ℕ → List ℕ → Total → Type 0
+Grows p w room t first before after total.Full = room < first + length (of-total p w (suc t))
+Grows p w room t first before after (total.Put m n) =
+    (m ≡ length (of-total p w (suc t)))
+    × (first + m ≤ room)
+    × (n ≡ pairs p w (of-total p w (suc t)))
+    × (after ≡ begun p w (totals p w (suc (suc t))) before)
+
+-- each cursor stands where the first j prefixes of total t + 1 have come
+abbrev pub Placed : Profile → List ℕ → ℕ → ℕ → List ℕ → Type 0
+Placed p w t j cursors =
+    (x : ℕ) → x < p .k → Cursor (of-total p w t) (extends? (independent (p .masks)) (λ a. a) w) x (drop j (of-total p w (suc t))) (at cursors x)
+
+-- the first j records of total t + 1 are put; the same behind a part of a table that is ready
+pub record Merging (p : Profile) (w table : List ℕ) (room t from first j : ℕ) (cursors : List ℕ) : Type 0 where
+  pub before : from ≡ length (totals p w t)
+  pub behind : first ≡ from + length (of-total p w t)
+  pub inside : first + j ≤ room
+  pub come : j ≤ length (of-total p w (suc t))
+  pub written : table ≡ begun p w (totals p w (suc t) ++ take j (of-total p w (suc t))) table
+  pub long : 16 ≤ length cursors
+  pub placed : Placed p w t j cursors
+
+abbrev pub Halfway : Profile → List ℕ → List ℕ → Part → ℕ → List ℕ → List ℕ → List ℕ → Type 0
+Halfway p w table a j cursors starts places =
+    Ready p w (length table) (a .room) starts places × Merging p w table (a .room) (a .t) (a .from) (a .first) j cursors
+
+-- record j of total t + 1 is put, or there is none, or it does not fit
+abbrev pub Steps : Profile → List ℕ → ℕ → ℕ → ℕ → ℕ → List ℕ → List ℕ → List ℕ → Merged → Type 0
+Steps p w room t first j before after cursors merged.Nothing = (j ≡ length (of-total p w (suc t))) × (after ≡ before)
+Steps p w room t first j before after cursors merged.Full = room < first + length (of-total p w (suc t))
+Steps p w room t first j before after cursors (merged.Put n) =
+    (first + j < room)
+    × (j < length (of-total p w (suc t)))
+    × (n ≡ length (letters-of p w (getD (of-total p w (suc t)) j [])))
+    × (after ≡ begun p w (totals p w (suc t) ++ take (suc j) (of-total p w (suc t))) before)
+    × Placed p w t (suc j) cursors
+
+-- the counts that come next by the cursors, and their forward set; their cursors move on
+abbrev pub Comes : ℕ → ℕ → List ℕ → List ℕ → List ℕ → List ℕ → Next → Type 0
+Comes k s moves t before after next.Nothing = least-of t k before ≡ none
+Comes k s moves t before after (next.At c S) =
+    (least-of t k before ≡ some (words c)) × (S ≡ united k s moves t before (words c)) × (after ≡ advanced k t before (words c))
