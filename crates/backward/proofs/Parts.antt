@@ -2,12 +2,11 @@
 use mathlib.Core.Path.{_≡_, refl, sym, _∙_, ap, ap₂, subst, fun-ext}
 use mathlib.Core.Bool.{Bool, cond}
 use mathlib.Core.Logic.{⊎-elim, _≢_}
-use mathlib.Core.List.{List, [], _∷_, _++_, map, append-assoc, List·Memᴰ·head, List·Memᴰ·tail}
+use mathlib.Core.List.{List, [], _∷_, _++_, map, append-assoc}
 use Prim.Native.Nat.{ℕ, suc, _+_, _-_, _*_, _^_, _≤_, _<_}
 use native.Mathlib.Nat.{add-zero}
 use native.Mathlib.Numerals.{add-one}
 use native.Mathlib.Omega.{arith}
-use lib.Bits.{bitOr}
 use lib.Dec.{T, ltb, lt→ltb}
 use lib.ListN.{length, getD, set, take, drop, length-append, length-drop}
 use lib.Seq.{drop-at, drop-cons, drop-length, getD-append-add, length-take-le, split-at, take-length, take-suc}
@@ -16,21 +15,18 @@ use Rattle.profile.specs.Lists.{Mem, below, equal?, filter, flat-map}
 use Rattle.profile.specs.Prefixes.{total}
 use Rattle.profile.specs.Tables.{layout, packed, record-length}
 use Rattle.profile.specs.Traces.{bit, independent}
-use Rattle.profile.proofs.Levels.{bump, level-next}
-use Rattle.profile.proofs.Lists.{all-of, below-at, below-of, filter-agree, filter-at, filter-of, flat-map-length, is-false, is-true, mem-getD, test}
+use Rattle.profile.proofs.Levels.{bump, le-total, level-next}
+use Rattle.profile.proofs.Lists.{all-of, below-at, below-of, filter-agree, filter-at, filter-of, is-false, is-true, mem-getD, test}
 use Rattle.profile.proofs.Merge.{Behind, backward-level, behind-find, behind-skip, extends?, level-at, level-grown, level-left, seek}
 use Rattle.profile.proofs.Profiles.{distinct, lawful}
 use Rattle.profile.proofs.Refusals.{GoodLog, GoodProfile}
-use Rattle.profile.proofs.Sets.{T-eq, bit-self, bit-single, union-at, union-of}
+use Rattle.profile.proofs.Sets.{T-eq, bit-self, bit-single, union-agree, union-at, union-of}
 use Rattle.counts.specs.Counts.{add-count}
 use Rattle.counts.proofs.Packed.{Small, add-packed, same-packed}
 use Rattle.records.specs.Records.{counts-at, last-at, records-in}
-use Rattle.records.proofs.Drafts.{counts-of-draft, draft, last-of-draft, put-last-draft}
+use Rattle.records.proofs.Drafts.{counts-of-draft, draft, drafts-length, last-of-draft, put-last-draft}
 use Rattle.backward.specs.Backward.{Leads, back-from, backward-set, drafted, filled, forward-set, letters-set, moved, next-at, of-total}
 use Rattle.backward.proofs.Scans.{scan-part}
-
-pub drafts-length : (f g : List ℕ → ℕ) (D : List (List ℕ)) → length (flat-map (draft f g) D) ≡ record-length layout * length D
-drafts-length f g D = flat-map-length (draft f g) (record-length layout) (λ c. refl) D
 
 -- ---- records behind m others
 
@@ -58,15 +54,6 @@ letters-in q k x h = T-eq (bit (union (λ y. 2 ^ y) (filter q (below k))) x) (q 
     let n = union-at (λ y. 2 ^ y) (filter q (below k)) x t in
     subst (λ y. T (q y)) (bit-single (n .0) x (n .2)) (filter-at q (below k) (n .1) .1))
     (λ t. union-of (λ y. 2 ^ y) x (filter-of q (below-of k x h) t) (bit-self x))
-
-union-agree : (f g : ℕ → ℕ) (l : List ℕ) → ((x : ℕ) → Mem x l → f x ≡ g x) → union f l ≡ union g l
-union-agree f g [] h = refl
-union-agree f g (x ∷ l) h = ap₂ bitOr (h x (List·Memᴰ·head refl)) (union-agree f g l (λ y m. h y (List·Memᴰ·tail m)))
-
--- no count exceeds the total
-le-total : {v : ℕ} {c : List ℕ} → Mem v c → v ≤ total c
-le-total (List·Memᴰ·head {x = n} {xs = c} e) = omega arith
-le-total (List·Memᴰ·tail {x = n} {xs = c} m) = omega (arith, le-total m)
 
 -- total n halfway, in the part t of the table that begins at it, with `tail` behind its records: the last numbers of the records before record j are put, and the
 -- cursor of each letter, in the next total's records, has not passed what a later record leads to by that letter

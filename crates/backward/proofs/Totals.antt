@@ -14,16 +14,15 @@ use Rattle.profile.specs.Prefixes.{count, total}
 use Rattle.profile.specs.Tables.{layout, packed, record-length}
 use Rattle.profile.specs.Traces.{independent}
 use Rattle.profile.proofs.Levels.{by-total-length}
-use Rattle.profile.proofs.Lists.{below-at, below-suc, flat-map-at, mem-getD}
-use Rattle.profile.proofs.Looks.{flat-map-append}
+use Rattle.profile.proofs.Lists.{below-at, below-suc, flat-map-append, flat-map-at, mem-getD}
 use Rattle.profile.proofs.Merge.{backward-whole, level-whole}
 use Rattle.profile.proofs.Profiles.{lawful}
 use Rattle.profile.proofs.Refusals.{GoodLog, GoodProfile}
 use Rattle.counts.specs.Counts.{counts-in}
 use Rattle.counts.proofs.Packed.{total-packed}
-use Rattle.records.proofs.Drafts.{counts-of-draft, draft}
+use Rattle.records.proofs.Drafts.{counts-of-draft, draft, drafts-length}
 use Rattle.backward.specs.Backward.{Drafted, FromTotal, backward-set, drafted, filled, forward-set, in-order, letters-set, of-total, start-of, total-at}
-use Rattle.backward.proofs.Parts.{apart, behind-total, counted, drafts-length}
+use Rattle.backward.proofs.Parts.{apart, behind-total, counted}
 use Rattle.backward.proofs.Scans.{row-is}
 
 module _ (p : Profile) (w : List ℕ) where

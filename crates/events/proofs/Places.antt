@@ -2,7 +2,7 @@
 use mathlib.Core.Path.{_≡_, refl, sym, _∙_, ap, ap₂, subst}
 use mathlib.Core.Bool.{not}
 use mathlib.Core.Logic.{_⊎_, inl, inr, ⊎-elim, _≢_}
-use mathlib.Core.List.{List, [], _∷_, _++_, map, map-append, append-assoc, append-nil, List·Memᴰ·cases-cons, List·Memᴰ·eq-of-singleton}
+use mathlib.Core.List.{List, [], _∷_, _++_, map, map-append, append-nil, List·Memᴰ·cases-cons, List·Memᴰ·eq-of-singleton}
 use Prim.Native.Nat.{ℕ, zero, suc, _+_, _-_, _≤_, _<_}
 use native.Mathlib.Omega.{arith}
 use native.Mathlib.Numerals.{add-one}
@@ -12,7 +12,7 @@ use lib.Seq.{sets, drop-append-add, drop-cons, drop-drop, getD-append-add, sets-
 use Rattle.profile.specs.Lists.{Mem, below, filter, flat-map, range}
 use Rattle.profile.specs.Prefixes.{count, one}
 use Rattle.profile.specs.Traces.{letters-below}
-use Rattle.profile.proofs.Lists.{below-suc, filter-no, filter-none, filter-yes, fst-of, is-false, is-true, lt-or-le, snd-of, test}
+use Rattle.profile.proofs.Lists.{below-suc, filter-no, filter-none, filter-yes, flat-map-append, fst-of, is-false, is-true, lt-or-le, snd-of, test}
 use Rattle.profile.proofs.Prefixes.{one-other, one-same}
 use Rattle.profile.proofs.Counting.{at-map, length-range}
 use Rattle.events.specs.Events.{place-start, place-table, places-from, places-of}
@@ -57,11 +57,6 @@ pub places-left-end : (w : List ℕ) (i x : ℕ) → length w ≤ i → places-f
 places-left-end w i x h = ap (places-from i x) (drop-of-length-le w h)
 
 -- ---- the table
-
-module _ {A B : Type 0} where
-  flat-map-append : (f : A → List B) (l r : List A) → flat-map f (l ++ r) ≡ flat-map f l ++ flat-map f r
-  flat-map-append f [] r = refl
-  flat-map-append f (a ∷ l) r = ap (λ t. f a ++ t) (flat-map-append f l r) ∙ sym (append-assoc (f a) (flat-map f l) (flat-map f r))
 
 pub place-table-suc : (k : ℕ) (w : List ℕ) → place-table (suc k) w ≡ place-table k w ++ places-of w k
 place-table-suc k w =

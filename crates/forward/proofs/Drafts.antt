@@ -10,8 +10,7 @@ use lib.Seq.{drop-append-add, drop-at, drop-drop, take-add, take-all, take-at}
 use Rattle.profile.specs.Automata.{Profile}
 use Rattle.profile.specs.Lists.{below, flat-map}
 use Rattle.profile.specs.Tables.{layout, record-length}
-use Rattle.profile.proofs.Lists.{below-suc, flat-map-length}
-use Rattle.profile.proofs.Looks.{flat-map-append}
+use Rattle.profile.proofs.Lists.{below-suc, flat-map-append, flat-map-length}
 use Rattle.records.specs.Records.{put-record}
 use Rattle.records.proofs.Drafts.{draft, put-draft}
 use Rattle.forward.specs.Forward.{drafted, forward-set, letters-set}

@@ -1,8 +1,8 @@
 -- The prefixes of a total, for a good profile and log: their counts, their records, and the first of them.
 use mathlib.Core.Path.{_≡_, refl, sym, _∙_, ap, ap₂, subst}
 use mathlib.Core.Logic.{_≢_}
-use mathlib.Core.List.{List, [], _∷_, _++_, map, append-nil, List·Memᴰ·head, List·Memᴰ·tail}
-use Prim.Native.Nat.{ℕ, _*_, _%_, _^_, _≤_}
+use mathlib.Core.List.{List, [], _∷_, _++_, map, append-nil, List·Memᴰ·head}
+use Prim.Native.Nat.{ℕ, _*_, _%_, _^_}
 use native.Mathlib.Nat.{one-mul}
 use native.Mathlib.Omega.{arith}
 use lib.Dec.{T, ltb, lt→ltb}
@@ -10,7 +10,7 @@ use lib.ListN.{length, drop}
 use lib.Pow.{shl-exact}
 use Rattle.profile.specs.Automata.{Profile, automaton, union}
 use Rattle.profile.specs.Lists.{Mem, below}
-use Rattle.profile.specs.Prefixes.{IsPrefix, at, total}
+use Rattle.profile.specs.Prefixes.{IsPrefix, at}
 use Rattle.profile.specs.Tables.{layout, packed}
 use Rattle.profile.specs.Traces.{independent}
 use Rattle.profile.proofs.Lists.{all-of}
@@ -26,11 +26,7 @@ use Rattle.records.proofs.Drafts.{draft}
 use Rattle.forward.specs.Forward.{Ready, forward-set, letters-of, letters-set}
 use Rattle.forward.specs.Merging.{begun, of-total, pairs, totals}
 use Rattle.forward.proofs.Drafts.{begun-put}
-
--- no count exceeds the total
-le-total : {v : ℕ} {c : List ℕ} → Mem v c → v ≤ total c
-le-total (List·Memᴰ·head {x = n} {xs = c} e) = omega arith
-le-total (List·Memᴰ·tail {x = n} {xs = c} m) = omega (arith, le-total m)
+use Rattle.profile.proofs.Levels.{le-total}
 
 module _ {p : Profile} {w : List ℕ} {m room : ℕ} {starts places : List ℕ} (r : Ready p w m room starts places) where
   pub apart : (a b : ℕ) → T (independent (p .masks) a b) → a ≢ b

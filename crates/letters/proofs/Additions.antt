@@ -1,7 +1,7 @@
 -- The letters that can be added: for the counts of a prefix and the places of the log's events, those of which one more gives a prefix again.
 use mathlib.Core.Path.{_≡_, refl, sym, _∙_, ap, ap₂, subst}
 use mathlib.Core.Bool.{Bool, not, _||_}
-use mathlib.Core.Logic.{⊎-elim, _≢_}
+use mathlib.Core.Logic.{_≢_}
 use mathlib.Core.List.{List, [], _∷_, _++_, map, map-append, append-assoc, List·Memᴰ·head, List·Memᴰ·tail}
 use Prim.Native.Nat.{ℕ, suc, _+_, _^_, _≤_, _<_}
 use native.Mathlib.Nat.{zero-add}
@@ -14,14 +14,14 @@ use lib.Pow.{pow-pos, pow-lt}
 use lib.Seq.{drop-cons, ext-getD, set-at}
 use Rattle.profile.specs.Automata.{union}
 use Rattle.profile.specs.Lists.{Mem, all, below, filter}
-use Rattle.profile.specs.Prefixes.{IsPrefix, at, count, one}
+use Rattle.profile.specs.Prefixes.{IsPrefix, at}
 use Rattle.profile.specs.Tables.{count-field, layout, packed}
 use Rattle.profile.specs.Traces.{bit, letters-below}
 use Rattle.profile.proofs.Counting.{at-map, length-range}
 use Rattle.profile.proofs.Lists.{all-at, all-of, below-at, below-of, below-suc, both, filter-agree, filter-at, filter-last-no, filter-last-yes, filter-of, fst-of, mem-place, snd-of}
 use Rattle.profile.proofs.Looks.{additions}
 use Rattle.profile.proofs.Packing.{field-packed}
-use Rattle.profile.proofs.Prefixes.{one-cases, one-same}
+use Rattle.profile.proofs.Prefixes.{count-le}
 use Rattle.profile.proofs.Sets.{T-eq, bit-self, bit-single, union-at, union-of}
 use Rattle.counts.proofs.Packed.{Small}
 use Rattle.events.specs.Events.{comes-next?, lets-by?, next-places, place-start, place-table, places-of}
@@ -70,15 +70,11 @@ letters-first may k n starts places t r =
 
 -- ---- the letters of a prefix
 
-count-le : (w : List ℕ) (x : ℕ) → count (λ a. a) w x ≤ length w
-count-le [] x = omega arith
-count-le (a ∷ w) x = ⊎-elim (λ e. omega (arith, count-le w x, subst (λ y. one a y ≡ 1) e (one-same a))) (λ z. omega (arith, count-le w x)) (one-cases a x)
-
 -- counts of a prefix of a log of at most 255 events are below 256
 prefix-small : (may : ℕ → ℕ → Bool) (w v : List ℕ) → length w ≤ 255 → IsPrefix may (λ a. a) w (at v) → Small layout v
 prefix-small may w v h p = all-of (λ n. ltb n (2 ^ layout .width)) v (λ n m.
     let i = mem-place 0 m in
-    let le : n ≤ 255 = omega (arith, i .2, p .fits (i .0), count-le w (i .0)) in
+    let le : n ≤ 255 = omega (arith, i .2, p .fits (i .0), count-le may (λ a. a) w (i .0)) in
     lt→ltb n (2 ^ layout .width) (omega arith))
 
 module _ (may : ℕ → ℕ → Bool) (k : ℕ) (w v s p : List ℕ) (short : length w ≤ 255) (few : k ≤ 16) (prefix : IsPrefix may (λ a. a) w (at v)) where

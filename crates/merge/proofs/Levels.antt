@@ -3,12 +3,11 @@
 use mathlib.Core.Path.{_≡_, refl, sym, _∙_, ap, ap₂, subst}
 use mathlib.Core.Bool.{Bool, true, false, _&&_, not, cond}
 use mathlib.Core.Logic.{_⊎_, inl, inr, ⊎-elim}
-use mathlib.Core.List.{List, [], _∷_, _++_, append-nil, List·Memᴰ·head, List·Memᴰ·tail}
+use mathlib.Core.List.{List, [], _∷_, _++_, append-nil}
 use mathlib.Core.Option.{Option, none, some}
 use Prim.Native.Nat.{ℕ, zero, suc, _+_, _-_, _≤_, _<_}
 use native.Mathlib.Omega.{arith}
 use borrow.Author.Tests.{le-ltb, lt-ltb}
-use lib.Bits.{bitOr}
 use lib.Dec.{T, ltb}
 use lib.ListN.{length, getD, drop, drop-of-length-le, length-set}
 use lib.Seq.{drop-cons}
@@ -28,16 +27,13 @@ use Rattle.records.specs.Records.{forward-at, last-at, records-in}
 use Rattle.records.proofs.Drafts.{counts-of-draft, draft, forward-of-draft, last-of-draft, records-of-drafts}
 use Rattle.merge.specs.Merge.{advanced, better, candidate, chosen?, grown, least-of, moved-on, seek-from, started, united}
 use Rattle.merge.proofs.Cursors.{cursor-of}
+use Rattle.profile.proofs.Sets.{union-agree}
 
 -- two searches that agree at the first elements and behind them
 first-agree : {A B : Type 0} (p : A → Bool) (q : B → Bool) (a : A) (b : B) (l : List A) (m : List B) (c : Bool)
     → p a ≡ c → q b ≡ c → first-place p l ≡ first-place q m → first-place p (a ∷ l) ≡ first-place q (b ∷ m)
 first-agree p q a b l m true e d h = rw (e, d, first-place)
 first-agree p q a b l m false e d h = rw (e, d, first-place) (ap suc h)
-
-union-agree : (f g : ℕ → ℕ) (l : List ℕ) → ((x : ℕ) → Mem x l → f x ≡ g x) → union f l ≡ union g l
-union-agree f g [] h = refl
-union-agree f g (x ∷ l) h = ap₂ bitOr (h x (List·Memᴰ·head refl)) (union-agree f g l (λ y m. h y (List·Memᴰ·tail m)))
 
 module _ (f g : List ℕ → ℕ) (C : List (List ℕ)) (t : List ℕ) (drafts : t ≡ flat-map (draft f g) C) where
   whole : t ≡ flat-map (draft f g) C ++ []

@@ -18,7 +18,7 @@ use Rattle.profile.specs.Traces.{independent}
 use Rattle.profile.proofs.Counting.{at-map}
 use Rattle.profile.proofs.Earliest.{Greedy, end, first-greedy, greedy-append, greedy-takes, take}
 use Rattle.profile.proofs.Lists.{below-suc, is-true}
-use Rattle.profile.proofs.Prefixes.{addable-at, addable-of, addable?, all-of-pick, count-append, more, more-of-pick, one-cases, one-same, prefix-of-takes}
+use Rattle.profile.proofs.Prefixes.{addable-at, addable-of, addable?, all-of-pick, count-append, count-le, more, more-of-pick, one-cases, one-same, prefix-of-takes}
 use Rattle.profile.proofs.Profiles.{distinct}
 use Rattle.profile.proofs.Refusals.{GoodLog, Relation}
 use Rattle.profile.proofs.Traces.{Pick, Takes, first, takes-length}
@@ -152,10 +152,6 @@ pub record Chosen (k : ℕ) (masks w before next used out : List ℕ) (t : ℕ) 
   pub spent : (x : ℕ) → x < k → getD used x 0 ≡ counts taken x
   pub written : out ≡ taken ++ drop t before
 
-count-le : (w : List ℕ) (x : ℕ) → counts w x ≤ length w
-count-le [] x = omega arith
-count-le (a ∷ w) x = ⊎-elim (λ e. omega (arith, ap (one a) e, one-same a, count-le w x)) (λ z. omega (arith, count-le w x)) (one-cases a x)
-
 -- the place of the first event of each letter, by the tables
 pub first-coming : (k : ℕ) (w starts places : List ℕ) → (s : List ℕ) × (starts ≡ map (place-start w) (below k) ++ s) → (p : List ℕ) × (places ≡ place-table k w ++ p)
     → map (λ x. getD places (getD starts x 0 + 0) 0) (below k) ≡ next-places k w (λ x. 0)
@@ -214,7 +210,7 @@ module _ (k : ℕ) (masks w : List ℕ) (R : Relation k masks) (G : GoodLog k w)
     fits = rw same (letter-fits k masks w R G (C .taken) (C .rest) (C .smallest) u<)
 
     pub chosen-fits : getD used a 0 + 1 ≤ 255
-    chosen-fits = omega (arith, fits, C .spent a chosen-below, count-le w a, G .short)
+    chosen-fits = omega (arith, fits, C .spent a chosen-below, count-le (independent masks) (λ a. a) w a, G .short)
 
     -- one letter more
     pub chosen-more : (starts places : List ℕ) → (s : List ℕ) × (starts ≡ map (place-start w) (below k) ++ s) → (p : List ℕ) × (places ≡ place-table k w ++ p)

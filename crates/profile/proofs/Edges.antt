@@ -5,15 +5,15 @@ use mathlib.Core.List.{List, [], _∷_}
 use mathlib.Core.Option.{Option, none, some}
 use Prim.Native.Nat.{ℕ}
 use lib.Dec.{T}
-use lib.ListN.{replicate}
-use Rattle.profile.specs.Lists.{Mem, all, equal?}
+use lib.ListN.{replicate, take}
+use Rattle.profile.specs.Lists.{Mem, all, any, equal?}
 use Rattle.profile.specs.Traces.{independent}
-use Rattle.profile.specs.Automata.{Profile}
+use Rattle.profile.specs.Automata.{Profile, automaton}
 use Rattle.profile.specs.Tables.{capacity, layout}
-use Rattle.profile.specs.Orders.{first-order, same?}
+use Rattle.profile.specs.Orders.{accepted-order, first-order, same?}
 use Rattle.profile.specs.Refusals.{first-order-refusal, judge-refusal, refusal-number, refusal-place, same-refusal}
 use Rattle.profile.specs.declared.Refusal.{Refusal}
-use Rattle.profile.proofs.Lists.{all-at, equal-test}
+use Rattle.profile.proofs.Lists.{all-at, any-at, equal-test}
 use Rattle.profile.proofs.Cases.{ab, alt, free}
 
 abbrev M7 : List ℕ
@@ -85,6 +85,18 @@ calls-computed = tt
 pub refused : (c : Call) → Mem c calls → answer-of c ≡ c .answer
 unfolding answered?
 refused c m = equal-test (answer-of c) (c .answer) .0 (all-at answered? calls-computed m)
+
+-- the list has a call for each refusal that the judge gives, so that none of its promises is empty
+pub every-refusal : (n : ℕ) → Mem n (2 ∷ 4 ∷ 5 ∷ 6 ∷ 7 ∷ 8 ∷ 9 ∷ 10 ∷ []) → (c : Call) × Mem c calls × T (equal? (take 1 (answer-of c)) (n ∷ []))
+every-refusal n m = any-at (λ c. equal? (take 1 (answer-of c)) (n ∷ [])) calls (all-at (λ n. any (λ c. equal? (take 1 (answer-of c)) (n ∷ [])) calls) met m)
+  where
+    met : T (all (λ n. any (λ c. equal? (take 1 (answer-of c)) (n ∷ [])) calls) (2 ∷ 4 ∷ 5 ∷ 6 ∷ 7 ∷ 8 ∷ 9 ∷ 10 ∷ []))
+    met = unfold calls call shape in tt
+
+-- calls that are not refused get both verdicts: M3 none, M2 an order
+pub both-verdicts : (told (judge-refusal (alt ab) (1 ∷ 0 ∷ 1 ∷ []) 3 36) ≡ []) × (accepted-order (independent ab) (λ a. a) (automaton (alt ab)) (1 ∷ 0 ∷ 1 ∷ []) ≡ none)
+    × (told (judge-refusal (alt ab) (1 ∷ 1 ∷ 0 ∷ 0 ∷ []) 4 54) ≡ []) × (accepted-order (independent ab) (λ a. a) (automaton (alt ab)) (1 ∷ 1 ∷ 0 ∷ 0 ∷ []) ≡ some (0 ∷ 1 ∷ 0 ∷ 1 ∷ []))
+both-verdicts = (refl, refl, refl, refl)
 
 -- no table has place for more than 715,827,882 records
 pub capacity-most : capacity layout 18446744073709551615 ≡ 715827882

@@ -2,7 +2,7 @@
 use mathlib.Core.Path.{_≡_, refl, sym, _∙_, ap, subst, fun-ext}
 use mathlib.Core.Bool.{Bool}
 use mathlib.Core.Logic.{_⊎_, inl, inr, ⊎-elim, _≢_}
-use mathlib.Core.List.{List, [], _∷_, map}
+use mathlib.Core.List.{List, [], _∷_, map, List·Memᴰ·head, List·Memᴰ·tail}
 use Prim.Native.Nat.{ℕ, zero, suc, _+_, _≤_, _<_}
 use native.Mathlib.Omega.{arith}
 use native.Mathlib.Nat.{zero-add}
@@ -24,6 +24,11 @@ abbrev pub by-total : (ℕ → ℕ → Bool) → (ℕ → ℕ) → ℕ → List 
 by-total may letter k w = flat-map (level may letter k w) (below (suc (length w)))
 
 -- ---- totals
+
+-- no count exceeds the total
+pub le-total : {v : ℕ} {c : List ℕ} → Mem v c → v ≤ total c
+le-total (List·Memᴰ·head {x = n} {xs = c} e) = omega arith
+le-total (List·Memᴰ·tail {x = n} {xs = c} m) = omega (arith, le-total m)
 
 total-add : (f g : ℕ → ℕ) (l : List ℕ) → total (map (λ x. f x + g x) l) ≡ total (map f l) + total (map g l)
 total-add f g [] = refl

@@ -2,7 +2,7 @@
 use mathlib.Core.Path.{_≡_, refl, sym, _∙_, ap, ap₂, subst}
 use mathlib.Core.Bool.{Bool, true, false, _&&_, _||_, not}
 use mathlib.Core.Logic.{_⊎_, inl, inr, ⊎-elim, _↔_}
-use mathlib.Core.List.{List, [], _∷_, _++_, map, append-nil, List·Memᴰ·head, List·Memᴰ·tail, List·Memᴰ·cases-cons, List·Memᴰ·not-nil, Memᴰ·cast, Memᴰ·of-map, Memᴰ·append-left, Memᴰ·append-right, List·Memᴰ·append-cases}
+use mathlib.Core.List.{List, [], _∷_, _++_, map, append-nil, List·Memᴰ·head, List·Memᴰ·tail, List·Memᴰ·cases-cons, List·Memᴰ·not-nil, Memᴰ·cast, Memᴰ·of-map, Memᴰ·append-left, Memᴰ·append-right, List·Memᴰ·append-cases, append-assoc}
 use Prim.Native.Nat.{ℕ, zero, suc, _+_, _*_, _≤_, _<_}
 use native.Mathlib.Omega.{arith}
 use native.Mathlib.Nat.{zero-add}
@@ -238,6 +238,10 @@ module _ {A B : Type 0} where
     (λ m. let n = Memᴰ·of-map f l m in d .0 (Memᴰ·cast (inj a (n .0) (List·Memᴰ·head refl) (List·Memᴰ·tail (n .1)) (sym (n .2))) (n .1))),
     map-nodup-on f l (λ b c p q. inj b c (List·Memᴰ·tail p) (List·Memᴰ·tail q)) (d .1),
   )
+
+  pub flat-map-append : (f : A → List B) (l r : List A) → flat-map f (l ++ r) ≡ flat-map f l ++ flat-map f r
+  flat-map-append f [] r = refl
+  flat-map-append f (a ∷ l) r = ap (λ z. f a ++ z) (flat-map-append f l r) ∙ sym (append-assoc (f a) (flat-map f l) (flat-map f r))
 
   pub flat-map-agree : (f g : A → List B) (l : List A) → ((a : A) → Mem a l → f a ≡ g a) → flat-map f l ≡ flat-map g l
   flat-map-agree f g [] h = refl

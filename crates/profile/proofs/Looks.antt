@@ -2,7 +2,7 @@
 use mathlib.Core.Path.{_≡_, refl, sym, _∙_, ap, subst}
 use mathlib.Core.Bool.{Bool}
 use mathlib.Core.Logic.{_≢_}
-use mathlib.Core.List.{List, [], _∷_, _++_, map, append-assoc, append-nil, List·Memᴰ·head, List·Memᴰ·tail, Memᴰ·cast, Memᴰ·map, Memᴰ·of-map}
+use mathlib.Core.List.{List, [], _∷_, _++_, map, append-nil, List·Memᴰ·head, List·Memᴰ·tail, Memᴰ·cast, Memᴰ·map, Memᴰ·of-map}
 use Prim.Native.Nat.{ℕ, zero, suc, _+_, _*_, _^_, _≤_, _<_}
 use native.Mathlib.Nat.{mul-le-mul-right}
 use native.Mathlib.Omega.{arith}
@@ -16,7 +16,7 @@ use Rattle.profile.specs.Traces.{Reachable, letters-below}
 use Rattle.profile.proofs.Comparison.{back-over, over, prefixes-same}
 use Rattle.profile.proofs.Counting.{length-range, prefixes-at, prefixes-nodup}
 use Rattle.profile.proofs.Levels.{bump, by-total, by-total-at, by-total-nodup, by-total-of, level, level-last}
-use Rattle.profile.proofs.Lists.{below-of, below-suc, filter-agree, filter-at, filter-nodup, filter-of, flat-map-agree, flat-map-at, flat-map-nodup, flat-map-of, map-nodup, nodup-length, range-nodup}
+use Rattle.profile.proofs.Lists.{below-of, below-suc, filter-agree, filter-at, filter-nodup, filter-of, flat-map-agree, flat-map-append, flat-map-at, flat-map-nodup, flat-map-of, map-nodup, nodup-length, range-nodup}
 use Rattle.profile.proofs.Prefixes.{addable-at, addable-of, addable?}
 use Rattle.profile.proofs.Sets.{T-eq}
 
@@ -38,10 +38,6 @@ grown may letter k w = flat-map (λ c. map (bump c) (additions may letter k w c)
 -- ---- lengths of lists one after the other
 
 module _ {A B : Type 0} where
-  pub flat-map-append : (f : A → List B) (l r : List A) → flat-map f (l ++ r) ≡ flat-map f l ++ flat-map f r
-  flat-map-append f [] r = refl
-  flat-map-append f (a ∷ l) r = ap (λ z. f a ++ z) (flat-map-append f l r) ∙ sym (append-assoc (f a) (flat-map f l) (flat-map f r))
-
   -- where no list f a has more than n elements
   flat-map-length-le : (f : A → List B) (n : ℕ) → ((a : A) → length (f a) ≤ n) → (l : List A) → length (flat-map f l) ≤ length l * n
   flat-map-length-le f n le [] = omega arith

@@ -7,7 +7,6 @@ use mathlib.Core.List.{List, [], _∷_, _++_, map, List·Memᴰ·head, List·Mem
 use Prim.Native.Nat.{ℕ, zero, suc, _+_, _-_, _≤_, _<_}
 use native.Mathlib.Omega.{arith}
 use lib.Dec.{T, T-not, eqb, eqb→eq, eqb-refl, ltb, ltb→lt, lt→ltb}
-use lib.Bits.{bitOr}
 use lib.ListN.{List·getD-eq-default, length, getD, drop, drop-of-length-le, length-drop}
 use lib.Seq.{ext-getD, getD-drop, drop-cons}
 use Rattle.profile.specs.Lists.{Mem, below, equal?, filter, first-place, flat-map, range}
@@ -23,7 +22,7 @@ use Rattle.profile.proofs.Prefixes.{addable-of, addable?, all-of-pick, 
 use Rattle.profile.proofs.Counting.{at-map, count-above, length-range, prefixes-at, prefixes-of}
 use Rattle.profile.proofs.Levels.{at-bump, bump, debump, level, level-last, level-next, total-prefix}
 use Rattle.profile.proofs.Automata.{Lawful, backward-all, backward-eq, forward-eq, forward-none}
-use Rattle.profile.proofs.Sets.{T-eq}
+use Rattle.profile.proofs.Sets.{T-eq, union-agree}
 
 -- ---- lists of counts in their order
 
@@ -368,10 +367,6 @@ sorted-only [] a s m f = absurd (List·Memᴰ·not-nil m)
 sorted-only (b ∷ []) a s m f = ap (λ c. c ∷ []) (f b (List·Memᴰ·head refl))
 sorted-only (b ∷ c ∷ l) a s m f =
     absurd (s .0 c (List·Memᴰ·head refl) .1 (f b (List·Memᴰ·head refl) ∙ sym (f c (List·Memᴰ·tail (List·Memᴰ·head refl)))))
-
-union-agree : (f g : ℕ → ℕ) (l : List ℕ) → ((x : ℕ) → Mem x l → f x ≡ g x) → union f l ≡ union g l
-union-agree f g [] h = refl
-union-agree f g (x ∷ l) h = ap₂ bitOr (h x (List·Memᴰ·head refl)) (union-agree f g l (λ y m. h y (List·Memᴰ·tail m)))
 
 module _ (may : ℕ → ℕ → Bool) (letter : ℕ → ℕ) (k : ℕ) (w : List ℕ) where
   pub level-sorted : (n : ℕ) → Sorted (level may letter k w n)

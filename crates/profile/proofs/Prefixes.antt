@@ -159,6 +159,11 @@ module _ (may : ℕ → ℕ → Bool) (letter : ℕ → ℕ) where
   count-front (mark f) x = omega (arith, count-front f x)
   count-front (keep h f) x = omega (arith, count-front f x)
 
+  -- no letter is counted more often than there are events
+  pub count-le : (w : List ℕ) (x : ℕ) → count letter w x ≤ length w
+  count-le [] x = omega arith
+  count-le (a ∷ w) x = omega (arith, one-le-one (letter a) x, count-le w x)
+
   -- as many as asked are marked, where w has them
   pub count-marked : (w : List ℕ) (c : ℕ → ℕ) → ((x : ℕ) → c x ≤ count letter w x) → (x : ℕ) → count letter (marked letter w c) x ≡ c x
   count-marked [] c h x = omega (arith, h x)

@@ -1,5 +1,5 @@
 -- Sets of states as numbers: members, equality, unions, meets.
-use mathlib.Core.Path.{_≡_, refl, sym, _∙_, ap, subst}
+use mathlib.Core.Path.{_≡_, refl, sym, _∙_, ap, ap₂, subst}
 use mathlib.Core.Bool.{Bool, true, false, not, _&&_, _||_, true≢false}
 use mathlib.Core.Logic.{_⊎_, inl, inr, ⊎-elim}
 use mathlib.Core.List.{List, [], _∷_, _++_, List·Memᴰ·head, List·Memᴰ·tail}
@@ -173,3 +173,8 @@ union-yes f S n t = ap (λ k. union f (filter (bit S) (below k))) (add-one n) �
 pub union-no : (f : ℕ → ℕ) (S n : ℕ) → T (not (bit S n)) → union f (filter (bit S) (below (n + 1))) ≡ union f (filter (bit S) (below n))
 union-no f S n t = ap (λ k. union f (filter (bit S) (below k))) (add-one n) ∙ ap (λ l. union f (filter (bit S) l)) (below-suc n)
     ∙ ap (union f) (filter-last-no (bit S) (below n) n t)
+
+-- sets that agree on l have the same union
+pub union-agree : (f g : ℕ → ℕ) (l : List ℕ) → ((x : ℕ) → Mem x l → f x ≡ g x) → union f l ≡ union g l
+union-agree f g [] h = refl
+union-agree f g (x ∷ l) h = ap₂ bitOr (h x (List·Memᴰ·head refl)) (union-agree f g l (λ y m. h y (List·Memᴰ·tail m)))

@@ -7,8 +7,7 @@ use lib.ListN.{length, getD, set, drop, length-append, List·getD-append}
 use lib.Seq.{drop-append-add, set-at, take-at}
 use Rattle.profile.specs.Lists.{flat-map}
 use Rattle.profile.specs.Tables.{layout, packed, record-length}
-use Rattle.profile.proofs.Lists.{flat-map-getD, flat-map-length}
-use Rattle.profile.proofs.Looks.{flat-map-append}
+use Rattle.profile.proofs.Lists.{flat-map-append, flat-map-getD, flat-map-length}
 use Rattle.records.specs.Records.{counts-at, forward-at, last-at, put-record, records-in}
 
 -- a record of the counts c: its numbers of counts, then f and g of them
@@ -16,7 +15,7 @@ abbrev pub draft : (List ℕ → ℕ) → (List ℕ → ℕ) → List ℕ → Li
 draft f g c = packed layout c ++ (f c ∷ g c ∷ [])
 
 module _ (f g : List ℕ → ℕ) (C : List (List ℕ)) where
-  drafts-length : length (flat-map (draft f g) C) ≡ record-length layout * length C
+  pub drafts-length : length (flat-map (draft f g) C) ≡ record-length layout * length C
   drafts-length = flat-map-length (draft f g) (record-length layout) (λ c. refl) C
 
   module _ (t rest : List ℕ) (e : t ≡ flat-map (draft f g) C ++ rest) where
