@@ -24,9 +24,10 @@ use Rattle.profile.proofs.Sets.{T-eq, bit-self, bit-single, union-agree, union-
 use Rattle.counts.specs.Counts.{add-count}
 use Rattle.counts.proofs.Packed.{Small, add-packed, same-packed}
 use Rattle.records.specs.Records.{counts-at, last-at, records-in}
-use Rattle.records.proofs.Drafts.{counts-of-draft, draft, drafts-length, last-of-draft, put-last-draft}
-use Rattle.backward.specs.Backward.{Leads, back-from, backward-set, drafted, filled, forward-set, letters-set, moved, next-at, of-total}
+use Rattle.records.proofs.Drafts.{counts-of-draft, drafts-length, last-of-draft, put-last-draft}
+use Rattle.backward.specs.Backward.{Leads, back-from, moved, next-at}
 use Rattle.backward.proofs.Scans.{scan-part}
+use Rattle.records.specs.Drafts.{backward-set, draft, drafted, filled, forward-set, letters-set, of-total}
 
 -- ---- records behind m others
 

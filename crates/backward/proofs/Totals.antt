@@ -20,10 +20,11 @@ use Rattle.profile.proofs.Profiles.{lawful}
 use Rattle.profile.proofs.Refusals.{GoodLog, GoodProfile}
 use Rattle.counts.specs.Counts.{counts-in}
 use Rattle.counts.proofs.Packed.{total-packed}
-use Rattle.records.proofs.Drafts.{counts-of-draft, draft, drafts-length}
-use Rattle.backward.specs.Backward.{Drafted, FromTotal, backward-set, drafted, filled, forward-set, in-order, letters-set, of-total, start-of, total-at}
+use Rattle.records.proofs.Drafts.{counts-of-draft, drafts-length}
+use Rattle.backward.specs.Backward.{Drafted, FromTotal, start-of, total-at}
 use Rattle.backward.proofs.Parts.{apart, behind-total, counted}
 use Rattle.backward.proofs.Scans.{row-is}
+use Rattle.records.specs.Drafts.{backward-set, draft, drafted, filled, forward-set, in-order, letters-set, of-total}
 
 module _ (p : Profile) (w : List ℕ) where
   -- the prefixes of the totals below n, and of the totals from n on

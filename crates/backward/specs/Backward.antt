@@ -2,53 +2,27 @@
 use mathlib.Core.Path.{_≡_}
 use mathlib.Core.Bool.{Bool, true, false, cond}
 use mathlib.Core.List.{List, _++_}
-use Prim.Native.Nat.{ℕ, zero, suc, _*_, _^_, _≤_, _<_}
+use Prim.Native.Nat.{ℕ, zero, suc, _*_, _≤_, _<_}
 use lib.Dec.{T, eqb}
 use lib.ListN.{length, drop}
-use Rattle.profile.specs.Automata.{Profile, automaton, backward-step, union}
-use Rattle.profile.specs.Lists.{below, equal?, filter, flat-map}
-use Rattle.profile.specs.Prefixes.{at, backward, forward, prefix-count, total}
-use Rattle.profile.specs.Tables.{layout, record-length, record-of}
+use Rattle.profile.specs.Automata.{Profile, backward-step, union}
+use Rattle.profile.specs.Lists.{below, equal?, filter}
+use Rattle.profile.specs.Prefixes.{prefix-count, total}
+use Rattle.profile.specs.Tables.{layout, record-length}
 use Rattle.profile.specs.Traces.{bit, independent}
-use Rattle.profile.proofs.Levels.{by-total, level}
 use Rattle.profile.proofs.Merge.{seek}
-use Rattle.profile.proofs.Prefixes.{addable?}
 use Rattle.profile.proofs.Refusals.{GoodLog, GoodProfile}
 use Rattle.counts.specs.Counts.{add-count, counts-in}
 use Rattle.records.specs.Records.{counts-at, last-at, records-in}
-use Rattle.records.proofs.Drafts.{draft}
+use Rattle.records.specs.Drafts.{drafted, filled, in-order, of-total}
 
 module _ (p : Profile) (w : List ℕ) where
-  -- the forward and the backward set of counts, and the set of the letters that can be added to them
-  abbrev pub forward-set : List ℕ → ℕ
-  forward-set c = forward (independent (p .masks)) (λ a. a) (automaton p) w (at c)
-
-  abbrev pub backward-set : List ℕ → ℕ
-  backward-set c = backward (independent (p .masks)) (λ a. a) (automaton p) w (at c)
-
-  abbrev pub letters-set : List ℕ → ℕ
-  letters-set c = union (λ x. 2 ^ x) (filter (addable? (independent (p .masks)) (λ a. a) w (at c)) (below (p .k)))
-
-  -- the records of C with the letters that can be added for their last number, and with the backward set
-  abbrev pub drafted : List (List ℕ) → List ℕ
-  drafted C = flat-map (draft forward-set letters-set) C
-
-  abbrev pub filled : List (List ℕ) → List ℕ
-  filled C = flat-map (record-of layout (independent (p .masks)) (λ a. a) (automaton p) w) C
-
-  -- the prefixes of total n, and all by rising total
-  abbrev pub of-total : ℕ → List (List ℕ)
-  of-total n = level (independent (p .masks)) (λ a. a) (p .k) w n
-
-  abbrev pub in-order : List (List ℕ)
-  in-order = by-total (independent (p .masks)) (λ a. a) (p .k) w
-
   -- the records of total n, and of all prefixes, filled
   abbrev pub filled-total : ℕ → List ℕ
-  filled-total n = filled (of-total n)
+  filled-total n = filled p w (of-total p w n)
 
   abbrev pub filled-all : List ℕ
-  filled-all = filled in-order
+  filled-all = filled p w (in-order p w)
 
 -- a good profile and log, and a table t whose first records are those of all prefixes, drafted
 pub record Drafted (p : Profile) (w t : List ℕ) (records : ℕ) : Type 0 where

@@ -23,9 +23,10 @@ use Rattle.counts.specs.Counts.{add-count}
 use Rattle.counts.proofs.Packed.{Small, add-packed}
 use Rattle.records.specs.Records.{counts-at, last-at}
 use Rattle.earliest.specs.Earliest.{Table, added-letter, added?, record-count, smallest, taken-letter}
-use Rattle.earliest.proofs.Records.{ChosenFrom, at-total, backward-of, different, find-record, left-of, of-total, of-total-at, of-total-small, prefix-at, record-backward, record-counts, record-of-total, small-of}
+use Rattle.earliest.proofs.Records.{ChosenFrom, at-total, backward-of, different, find-record, left-of, of-total-at, of-total-small, prefix-at, record-backward, record-counts, record-of-total, small-of}
 use Rattle.earliest.proofs.First.{first-le, first-passes}
 use Rattle.earliest.proofs.Totals.{Begins, between-at, between-of}
+use Rattle.records.specs.Drafts.{of-total}
 
 -- ---- the smallest of some numbers
 

@@ -28,9 +28,10 @@ use Rattle.profile.proofs.Sets.{T-eq}
 use Rattle.counts.specs.Counts.{add-count}
 use Rattle.records.specs.Records.{last-at}
 use Rattle.earliest.specs.Earliest.{Table, found?, order-of, record-count, smallest, taken-letter, total-end, with-order}
-use Rattle.earliest.proofs.Records.{ChosenFrom, backward-of, different, first-record, left-of, of-total, only-empty, record-backward}
+use Rattle.earliest.proofs.Records.{ChosenFrom, backward-of, different, first-record, left-of, only-empty, record-backward}
 use Rattle.earliest.proofs.Totals.{Begins, begins-first, begins-next}
 use Rattle.earliest.proofs.Choices.{add-letter, leads-on, next-chosen}
+use Rattle.records.specs.Drafts.{of-total}
 
 module _ {p : Profile} {w t : List ℕ} (tab : Table p w t) where
   -- ---- the verdict

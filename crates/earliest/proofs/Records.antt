@@ -12,7 +12,6 @@ use Rattle.profile.specs.Automata.{Profile, automaton}
 use Rattle.profile.specs.Prefixes.{IsPrefix, at, backward, prefixes, total, unmarked}
 use Rattle.profile.specs.Tables.{layout, packed, record-length}
 use Rattle.profile.proofs.Lists.{all-of, filter-at, filter-of, mem-place}
-use Rattle.profile.proofs.Levels.{level}
 use Rattle.profile.proofs.Merge.{level-at, level-first, level-left}
 use Rattle.profile.proofs.Profiles.{distinct, lawful}
 use Rattle.profile.proofs.Judgement.{Chosen}
@@ -21,12 +20,9 @@ use Rattle.counts.specs.Counts.{counts-in}
 use Rattle.counts.proofs.Packed.{Small, total-packed}
 use Rattle.records.specs.Records.{counts-at, last-at}
 use Rattle.earliest.specs.Earliest.{Table, record-count, total-at}
+use Rattle.records.specs.Drafts.{of-total}
 
 -- ---- of a profile and a log
-
--- the prefixes of total n
-abbrev pub of-total : Profile → List ℕ → ℕ → List (List ℕ)
-of-total p w n = level (independent (p .masks)) (λ a. a) (p .k) w n
 
 -- the backward set of counts; what is left of w behind them
 abbrev pub backward-of : Profile → List ℕ → (ℕ → ℕ) → ℕ

@@ -12,9 +12,9 @@ use Rattle.profile.specs.Lists.{below, flat-map}
 use Rattle.profile.specs.Tables.{layout, record-length}
 use Rattle.profile.proofs.Lists.{below-suc, flat-map-append, flat-map-length}
 use Rattle.records.specs.Records.{put-record}
-use Rattle.records.proofs.Drafts.{draft, put-draft}
-use Rattle.forward.specs.Forward.{drafted, forward-set, letters-set}
-use Rattle.forward.specs.Merging.{begun, of-total, totals}
+use Rattle.records.proofs.Drafts.{put-draft}
+use Rattle.forward.specs.Merging.{begun, totals}
+use Rattle.records.specs.Drafts.{draft, drafted, forward-set, letters-set, of-total}
 
 module _ (p : Profile) (w : List ℕ) where
   pub totals-suc : (t : ℕ) → totals p w (suc t) ≡ totals p w t ++ of-total p w t

@@ -20,8 +20,8 @@ use Rattle.profile.proofs.Looks.{looks-by-total, pairs-append, pairs-cons}
 use Rattle.profile.proofs.Prefixes.{addable?}
 use Rattle.merge.specs.Merge.{seek-from, started}
 use Rattle.merge.proofs.Cursors.{cursors-length}
-use Rattle.forward.specs.Forward.{Forward, Ready, drafted, in-order}
-use Rattle.forward.specs.Merging.{Begun, Grows, Merging, Placed, Steps, begun, of-total, pairs, records-between, totals}
+use Rattle.forward.specs.Forward.{Forward, Ready}
+use Rattle.forward.specs.Merging.{Begun, Grows, Merging, Placed, Steps, begun, pairs, records-between, totals}
 use Rattle.forward.specs.declared.Filled.{Filled}
 use Rattle.forward.specs.declared.Filled.the-variants as filled
 use Rattle.forward.specs.declared.Merged.the-variants as merged
@@ -30,6 +30,7 @@ use Rattle.forward.proofs.Drafts.{begun-again, begun-same, totals-le, t
 use Rattle.forward.proofs.Puts.{level-part}
 use Rattle.forward.proofs.Steps.{placed-start}
 use Rattle.forward.proofs.Totals.{first-length}
+use Rattle.records.specs.Drafts.{drafted, in-order, of-total}
 
 -- ---- pairs
 

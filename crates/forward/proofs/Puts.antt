@@ -13,12 +13,13 @@ use Rattle.profile.proofs.Lists.{mem-getD}
 use Rattle.letters.specs.Letters.{letters-by}
 use Rattle.merge.specs.Merge.{advanced, least-of, united}
 use Rattle.records.specs.Records.{put-record}
-use Rattle.forward.specs.Forward.{Ready, drafted}
-use Rattle.forward.specs.Merging.{Merging, Placed, Steps, begun, of-total, records-between, totals}
+use Rattle.forward.specs.Forward.{Ready}
+use Rattle.forward.specs.Merging.{Merging, Placed, Steps, begun, records-between, totals}
 use Rattle.forward.specs.declared.Merged.the-variants.{Put}
 use Rattle.forward.proofs.Drafts.{begun-part, begun-put, totals-suc}
 use Rattle.forward.proofs.Steps.{next-forward, next-none, next-placed, next-some}
 use Rattle.forward.proofs.Totals.{found-letters, record-found}
+use Rattle.records.specs.Drafts.{drafted, of-total}
 
 -- the total before lies between records `from` and `first`, with records D behind it
 pub level-part : (p : Profile) (w table : List ℕ) (t from first : ℕ) (D : List (List ℕ)) → from ≡ length (totals p w t) → first ≡ from + length (of-total p w t)

@@ -22,9 +22,10 @@ use Rattle.counts.proofs.Packed.{Small}
 use Rattle.letters.proofs.Additions.{letters-bit}
 use Rattle.merge.specs.Merge.{advanced, least-of, started, united}
 use Rattle.merge.proofs.Levels.{level-advanced, level-least, level-least-none, level-started, level-united}
-use Rattle.forward.specs.Forward.{Ready, drafted, forward-set, letters-set}
-use Rattle.forward.specs.Merging.{Placed, of-total}
+use Rattle.forward.specs.Forward.{Ready}
+use Rattle.forward.specs.Merging.{Placed}
 use Rattle.forward.proofs.Totals.{apart, counted}
+use Rattle.records.specs.Drafts.{drafted, forward-set, letters-set, of-total}
 
 module _ {p : Profile} {w : List ℕ} {m room : ℕ} {starts places : List ℕ} (r : Ready p w m room starts places) (n : ℕ) (t : List ℕ)
     (written : t ≡ drafted p w (of-total p w n)) (cursors : List ℕ) (long : p .k ≤ length cursors) where

@@ -22,11 +22,11 @@ use Rattle.counts.proofs.Packed.{Small}
 use Rattle.letters.specs.Letters.{letters-by}
 use Rattle.letters.proofs.Additions.{letters-placed}
 use Rattle.records.specs.Records.{put-record}
-use Rattle.records.proofs.Drafts.{draft}
-use Rattle.forward.specs.Forward.{Ready, forward-set, letters-of, letters-set}
-use Rattle.forward.specs.Merging.{begun, of-total, pairs, totals}
+use Rattle.forward.specs.Forward.{Ready}
+use Rattle.forward.specs.Merging.{begun, pairs, totals}
 use Rattle.forward.proofs.Drafts.{begun-put}
 use Rattle.profile.proofs.Levels.{le-total}
+use Rattle.records.specs.Drafts.{draft, forward-set, letters-of, letters-set, of-total}
 
 module _ {p : Profile} {w : List ℕ} {m room : ℕ} {starts places : List ℕ} (r : Ready p w m room starts places) where
   pub apart : (a b : ℕ) → T (independent (p .masks) a b) → a ≢ b

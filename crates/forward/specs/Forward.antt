@@ -2,39 +2,19 @@
 -- last number of a record is the set of the letters that can be added.
 use mathlib.Core.Path.{_≡_}
 use mathlib.Core.List.{List, _++_, map}
-use Prim.Native.Nat.{ℕ, _*_, _^_, _≤_, _<_}
+use Prim.Native.Nat.{ℕ, _*_, _≤_, _<_}
 use lib.ListN.{length, drop}
-use Rattle.profile.specs.Automata.{Profile, automaton, union}
-use Rattle.profile.specs.Lists.{below, flat-map}
-use Rattle.profile.specs.Prefixes.{at, forward, prefix-count}
+use Rattle.profile.specs.Automata.{Profile}
+use Rattle.profile.specs.Lists.{below}
+use Rattle.profile.specs.Prefixes.{prefix-count}
 use Rattle.profile.specs.Tables.{layout, record-length}
 use Rattle.profile.specs.Traces.{independent}
-use Rattle.profile.proofs.Levels.{by-total}
-use Rattle.profile.proofs.Looks.{additions, looks}
+use Rattle.profile.proofs.Looks.{looks}
 use Rattle.profile.proofs.Refusals.{GoodLog, GoodProfile}
 use Rattle.events.specs.Events.{place-start, place-table}
-use Rattle.records.proofs.Drafts.{draft}
 use Rattle.forward.specs.declared.Filled.{Filled}
 use Rattle.forward.specs.declared.Filled.the-variants as filled
-
-module _ (p : Profile) (w : List ℕ) where
-  -- the letters that can be added to counts, their set, and the forward set of counts
-  abbrev pub letters-of : List ℕ → List ℕ
-  letters-of c = additions (independent (p .masks)) (λ a. a) (p .k) w c
-
-  abbrev pub letters-set : List ℕ → ℕ
-  letters-set c = union (λ x. 2 ^ x) (letters-of c)
-
-  abbrev pub forward-set : List ℕ → ℕ
-  forward-set c = forward (independent (p .masks)) (λ a. a) (automaton p) w (at c)
-
-  -- all prefixes by rising total
-  abbrev pub in-order : List (List ℕ)
-  in-order = by-total (independent (p .masks)) (λ a. a) (p .k) w
-
-  -- the records of C, with the letters that can be added for their last number
-  abbrev pub drafted : List (List ℕ) → List ℕ
-  drafted C = flat-map (draft forward-set letters-set) C
+use Rattle.records.specs.Drafts.{drafted, in-order}
 
 -- a good profile and log, a table of n numbers that `room` records fit, and the places of the log's events
 pub record Ready (p : Profile) (w : List ℕ) (n room : ℕ) (starts places : List ℕ) : Type 0 where

@@ -9,7 +9,6 @@ use Rattle.profile.specs.Lists.{below, flat-map}
 use Rattle.profile.specs.Prefixes.{at}
 use Rattle.profile.specs.Tables.{layout, record-length}
 use Rattle.profile.specs.Traces.{independent}
-use Rattle.profile.proofs.Levels.{level}
 use Rattle.profile.proofs.Looks.{pairs-in}
 use Rattle.profile.proofs.Merge.{Cursor, extends?}
 use Rattle.counts.specs.Counts.{words}
@@ -21,15 +20,12 @@ use Rattle.forward.specs.declared.Next.the-variants as next
 use Rattle.forward.specs.declared.Total.{Total}
 use Rattle.forward.specs.declared.Total.the-variants as total
 use Rattle.forward.specs.declared.Part.{Part}
-use Rattle.forward.specs.Forward.{Ready, drafted, letters-of}
+use Rattle.forward.specs.Forward.{Ready}
+use Rattle.records.specs.Drafts.{drafted, letters-of, of-total}
 
 module _ (p : Profile) (w : List ℕ) where
-  -- the prefixes of total n, and those of the totals below t
-  abbrev pub of-total : ℕ → List (List ℕ)
-  of-total n = level (independent (p .masks)) (λ a. a) (p .k) w n
-
   abbrev pub totals : ℕ → List (List ℕ)
-  totals t = flat-map of-total (below t)
+  totals t = flat-map (of-total p w) (below t)
 
   -- the pairs of counts in C and a letter that can be added to them
   abbrev pub pairs : List (List ℕ) → ℕ

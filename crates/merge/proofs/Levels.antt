@@ -24,10 +24,11 @@ use Rattle.profile.proofs.Merge.{hits, hits-at, seek}
 use Rattle.counts.specs.Counts.{add-count, before?}
 use Rattle.counts.proofs.Packed.{Small, add-packed, before-packed, same-packed}
 use Rattle.records.specs.Records.{forward-at, last-at, records-in}
-use Rattle.records.proofs.Drafts.{counts-of-draft, draft, forward-of-draft, last-of-draft, records-of-drafts}
+use Rattle.records.proofs.Drafts.{counts-of-draft, forward-of-draft, last-of-draft, records-of-drafts}
 use Rattle.merge.specs.Merge.{advanced, better, candidate, chosen?, grown, least-of, moved-on, seek-from, started, united}
 use Rattle.merge.proofs.Cursors.{cursor-of}
 use Rattle.profile.proofs.Sets.{union-agree}
+use Rattle.records.specs.Drafts.{draft}
 
 -- two searches that agree at the first elements and behind them
 first-agree : {A B : Type 0} (p : A → Bool) (q : B → Bool) (a : A) (b : B) (l : List A) (m : List B) (c : Bool)

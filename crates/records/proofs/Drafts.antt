@@ -9,10 +9,7 @@ use Rattle.profile.specs.Lists.{flat-map}
 use Rattle.profile.specs.Tables.{layout, packed, record-length}
 use Rattle.profile.proofs.Lists.{flat-map-append, flat-map-getD, flat-map-length}
 use Rattle.records.specs.Records.{counts-at, forward-at, last-at, put-record, records-in}
-
--- a record of the counts c: its numbers of counts, then f and g of them
-abbrev pub draft : (List ℕ → ℕ) → (List ℕ → ℕ) → List ℕ → List ℕ
-draft f g c = packed layout c ++ (f c ∷ g c ∷ [])
+use Rattle.records.specs.Drafts.{draft}
 
 module _ (f g : List ℕ → ℕ) (C : List (List ℕ)) where
   pub drafts-length : length (flat-map (draft f g) C) ≡ record-length layout * length C

@@ -25,12 +25,12 @@ use Rattle.profile.specs.Tables.{Looks}
 use Rattle.profile.proofs.Lists.{flat-map-length}
 use Rattle.profile.proofs.Looks.{looks-within}
 use Rattle.profile.proofs.Profiles.{distinct}
-use Rattle.records.proofs.Drafts.{draft}
-use Rattle.forward.specs.Forward.{Forward, drafted, forward-set, in-order, letters-set}
+use Rattle.forward.specs.Forward.{Forward}
 use Rattle.forward.specs.declared.Filled.the-variants.{Done, Full}
-use Rattle.backward.specs.Backward.{Drafted, filled}
+use Rattle.backward.specs.Backward.{Drafted}
 use Rattle.table.specs.Table.{Promise, Sound, build-refusals}
 use Rattle.table.specs.declared.Built.the-variants.{Filled, Refused}
+use Rattle.records.specs.Drafts.{draft, drafted, filled, forward-set, in-order, letters-set}
 
 -- a list that begins with a is a and what it has behind it
 pub behind-own : (a b l : List ℕ) (n : ℕ) → length a ≡ n → l ≡ a ++ b → l ≡ a ++ drop n l

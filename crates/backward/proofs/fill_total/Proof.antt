@@ -8,9 +8,10 @@ use borrow.Author.Needs.{needs}
 use Rattle.profile.specs.Automata.{Profile, profile-of}
 use Rattle.profile.specs.Tables.{layout, record-length}
 use Rattle.backward.proofs.Parts.{Halfway, behind-total, halfway-back, halfway-end, halfway-leads, halfway-next, halfway-start}
-use Rattle.backward.specs.Backward.{Leads, drafted, filled, of-total}
+use Rattle.backward.specs.Backward.{Leads}
 use Rattle.backward.proofs.fill_total.Statement.{statement}
 use Rattle.backward.proofs.fill_total.Tie as tie
+use Rattle.records.specs.Drafts.{drafted, filled, of-total}
 
 abbrev Inv-loop : tie.InvT-loop
 Inv-loop part₀ len t shape masks moves log cursors₀ j₀ part cursors j =
