@@ -13,7 +13,8 @@ use Rattle.profile.specs.Refusals.{first-order-refusal, log-refusals, lowest, o
 use Rattle.profile.specs.Traces.{independent}
 use Rattle.profile.proofs.Refusals.{lowest-append, lowest-first}
 use Rattle.order.specs.declared.Compared.the-variants.{Refused}
-use Rattle.order.specs.Order.{compared-as, comparison, first-letters, ordered-as, ordered-buffer, ordering, unless-refused}
+use Rattle.order.specs.Order.{compared-as, compared-values, comparison, first-letters, ordered-as, ordered-buffer, ordered-values, ordering, unless-refused}
+use Rattle.profile.proofs.Edges.{told, told-same}
 
 -- the lowest refusal, with a log
 of-log-none : (n : ℕ) (l : List (Bool × Refusal)) → lowest l ≡ none → lowest (of-log n l) ≡ none
@@ -93,3 +94,22 @@ module _ (k : ℕ) (masks w : List ℕ) (n : ℕ) where
 pub answers : (k : ℕ) (masks w before : List ℕ) {o : Option Refusal} → first-order-refusal k masks w (length before) ≡ o
     → (ordered-as o ≡ ordering k masks w (length before)) × (unless-refused o (first-letters masks w ++ drop (length w) before) before ≡ ordered-buffer k masks w before)
 answers k masks w before e = (ap ordered-as (sym e), ap (λ o. unless-refused o (first-letters masks w ++ drop (length w) before) before) (sym e))
+
+-- ---- document 01's values
+
+-- a comparison tells 1 for the same and 0 for different logs, and of a refusal number, place and log
+pub comparison-told : (k : ℕ) (masks v w : List ℕ) → compared-values (comparison k masks v w) ≡ told-same (same-refusal k masks v w) (same? (independent masks) k v w)
+comparison-told k masks v w = go (same-refusal k masks v w) (same? (independent masks) k v w)
+  where
+    go : (o : Option (Refusal × ℕ)) (b : Bool) → compared-values (compared-as o b) ≡ told-same o b
+    go none true = refl
+    go none false = refl
+    go (some r) b = refl
+
+-- a first order tells of a refusal number and place
+pub ordering-told : (k : ℕ) (masks w : List ℕ) (n : ℕ) → ordered-values (ordering k masks w n) ≡ told (first-order-refusal k masks w n)
+ordering-told k masks w n = go (first-order-refusal k masks w n)
+  where
+    go : (o : Option Refusal) → ordered-values (ordered-as o) ≡ told o
+    go none = refl
+    go (some r) = refl
