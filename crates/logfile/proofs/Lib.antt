@@ -1,0 +1,6 @@
+-- Laws for the proofs of this crate, and the round trip.
+pub mod Bytes
+pub mod Sections
+pub mod Answers
+pub mod RoundTrip
+pub mod FileCases

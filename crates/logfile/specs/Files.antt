@@ -1,0 +1,172 @@
+-- Document 01, "Log file": what a file holds, why it is refused, what the reader gives and what the writer puts. A file is a list of bytes.
+use mathlib.Core.Path.{_≡_}
+use mathlib.Core.Bool.{Bool, _||_, not}
+use mathlib.Core.List.{List, [], _∷_, _++_, map}
+use mathlib.Core.Option.{Option, none, some}
+use Prim.Native.Nat.{ℕ, zero, suc, _+_, _-_, _*_, _/_, _%_, _≤_, _<_}
+use lib.Dec.{eqb, leb, ltb}
+use lib.ListN.{length, getD, take, drop}
+use Rattle.profile.specs.Lists.{below, flat-map}
+use Rattle.profile.specs.Automata.{Profile, profile-of}
+use Rattle.profile.specs.Tables.{pack}
+use Rattle.profile.specs.Refusals.{asymmetric, log-refusals, lowest, mask-bit, profile-out-of-range, profile-refusals, short-buffer, state-bit}
+use Rattle.profile.specs.declared.Shape.{Shape}
+use Rattle.profile.specs.declared.Refusal.{Refusal}
+use Rattle.profile.specs.declared.Refusal.the-variants.{Asymmetric, Distance, MaskBit, OutOfRange, ShortBuffer, ShortFile, StateBit}
+use Rattle.logfile.specs.declared.reader.Reading.{Reading}
+use Rattle.logfile.specs.declared.writer.Writing.{Writing}
+use Rattle.logfile.specs.declared.writer.Writing.the-variants.{Length}
+use Rattle.logfile.specs.declared.reader.Reading.the-variants.{Told}
+
+-- "Low byte first": the number of b bytes at place i; of two, of four
+abbrev pub number : ℕ → List ℕ → ℕ → ℕ
+number b f i = pack 8 (take b (drop i f))
+
+abbrev pub half : List ℕ → ℕ → ℕ
+half f i = number 2 f i
+
+abbrev pub word : List ℕ → ℕ → ℕ
+word f i = number 4 f i
+
+-- "a 16-byte trailer at the very end": where it begins
+abbrev pub trailer : List ℕ → ℕ
+trailer f = length f - 16
+
+-- "Trailer byte" i
+abbrev pub field : List ℕ → ℕ → ℕ
+field f i = getD f (trailer f + i) 0
+
+-- "k, s, start state, log length n", and "final set"
+abbrev pub file-shape : List ℕ → Shape
+file-shape f = record { k = field f 0; s = field f 1; start = field f 2; finals = word f (trailer f + 12) }
+
+abbrev pub log-length : List ℕ → ℕ
+log-length f = field f 3
+
+-- "distance back from trailer start", at trailer byte i, and where its section begins
+abbrev pub distance : List ℕ → ℕ → ℕ
+distance f i = half f (trailer f + i)
+
+abbrev pub section : List ℕ → ℕ → ℕ
+section f i = trailer f - distance f i
+
+-- n numbers of b bytes each, from place i on
+abbrev pub numbers-from : ℕ → List ℕ → ℕ → ℕ → List ℕ
+numbers-from b f i n = map (λ j. number b f (i + b * j)) (below n)
+
+-- "the masks (2k bytes)", "the moves (4 × s × k bytes)", "the log (n bytes)"
+abbrev pub file-masks : List ℕ → List ℕ
+file-masks f = numbers-from 2 f (section f 4) (field f 0)
+
+abbrev pub file-moves : List ℕ → List ℕ
+file-moves f = numbers-from 4 f (section f 6) (field f 1 * field f 0)
+
+abbrev pub file-log : List ℕ → List ℕ
+file-log f = take (log-length f) (drop (section f 8) f)
+
+-- the profile of a file
+abbrev pub file-profile : List ℕ → Profile
+file-profile f = profile-of (file-shape f) (file-masks f) (file-moves f)
+
+-- 1: "File under 16 bytes"
+abbrev pub short-file : List ℕ → Bool
+short-file f = ltb (length f) 16
+
+-- 2, of the numbers: "k, s or start out of range"
+abbrev pub numbers-out-of-range : ℕ → ℕ → ℕ → Bool
+numbers-out-of-range k s start = ltb k 1 || (ltb 16 k || (ltb s 1 || (ltb 32 s || leb s start)))
+
+-- 2: "k, s or start out of range; trailer bytes 10–11 not zero"
+abbrev pub file-out-of-range : List ℕ → Bool
+file-out-of-range f = profile-out-of-range (file-profile f) || not (eqb (half f (trailer f + 10)) 0)
+
+-- 3: "A distance out of its range": not "at least its section's size and at most the trailer's own offset"
+abbrev pub outside : List ℕ → ℕ → ℕ → Bool
+outside f i size = ltb (distance f i) size || ltb (trailer f) (distance f i)
+
+abbrev pub distance-out-of-range : List ℕ → Bool
+distance-out-of-range f = outside f 4 (2 * field f 0) || (outside f 6 (4 * (field f 1 * field f 0)) || outside f 8 (log-length f))
+
+-- the conditions of a file, by rising number, of its content and in all; 7 holds of none, since n is one byte
+abbrev pub content-refusals : Profile → List ℕ → List (Bool × Refusal)
+content-refusals p w = (mask-bit (p .k) (p .masks), MaskBit) ∷ (asymmetric (p .masks), Asymmetric) ∷ (state-bit p, StateBit) ∷ log-refusals (p .k) w
+
+abbrev pub file-refusals : List ℕ → List (Bool × Refusal)
+file-refusals f = (short-file f, ShortFile) ∷ (file-out-of-range f, OutOfRange) ∷ (distance-out-of-range f, Distance) ∷ content-refusals (file-profile f) (file-log f)
+
+-- 9: "An output buffer shorter than what it must receive": the masks or the moves
+abbrev pub short-buffers : List ℕ → ℕ → ℕ → Bool
+short-buffers f a b = short-buffer a (file-masks f) || short-buffer b (file-moves f)
+
+-- the reader's refusals, with a places for masks and b for moves
+abbrev pub read-refusals : List ℕ → ℕ → ℕ → List (Bool × Refusal)
+read-refusals f a b = file-refusals f ++ ((short-buffers f a b, ShortBuffer) ∷ [])
+
+abbrev pub read-refusal : List ℕ → ℕ → ℕ → Option Refusal
+read-refusal f a b = lowest (read-refusals f a b)
+
+-- the one where nothing is refused, the other where something is
+module _ {A : Type 0} where
+  abbrev pub unless : Option Refusal → A → A → A
+  unless none x y = x
+  unless (some r) x y = y
+
+-- "The reader tells k, s, start state, final set and n", or refuses
+abbrev pub reading : Option Refusal → Shape → ℕ → Reading
+reading none h n = Told h n
+reading (some r) h n = Reading.Refused r
+
+-- "a lent … buffer": l from its start, "further elements unchanged"; refused, it is as before
+abbrev pub filled : Option Refusal → List ℕ → List ℕ → List ℕ
+filled r l before = unless r (l ++ drop (length l) before) before
+
+-- "handed back as that part of the file"; "A file refused by 1 to 8 hands back an empty part"
+abbrev pub log-part-of : List ℕ → List ℕ
+log-part-of f = unless (lowest (file-refusals f)) (file-log f) []
+
+-- "Low byte first": the b low bytes of n
+abbrev pub low-bytes : ℕ → ℕ → List ℕ
+low-bytes zero n = []
+low-bytes (suc b) n = n % 256 ∷ low-bytes b (n / 256)
+
+-- where the writer puts the sections: the distances back to the moves, of s × k words, and to the masks, of k halves
+abbrev pub moves-distance : Profile → List ℕ → ℕ
+moves-distance p w = 4 * (p .s * p .k) + length w
+
+abbrev pub masks-distance : Profile → List ℕ → ℕ
+masks-distance p w = 2 * p .k + moves-distance p w
+
+-- the numbers of a profile
+abbrev pub shape : Profile → Shape
+shape p = record { k = p .k; s = p .s; start = p .start; finals = p .finals }
+
+-- the trailer, with the distances back to the masks and to the moves; that to the log is its length n
+abbrev pub trailer-of : Shape → ℕ → ℕ → ℕ → List ℕ
+trailer-of h n masks moves =
+    h .k ∷ h .s ∷ h .start ∷ n ∷ (low-bytes 2 masks ++ (low-bytes 2 moves ++ (low-bytes 2 n ++ (0 ∷ 0 ∷ low-bytes 4 (h .finals)))))
+
+abbrev pub trailer-bytes : Profile → List ℕ → List ℕ
+trailer-bytes p w = trailer-of (shape p) (length w) (masks-distance p w) (moves-distance p w)
+
+-- "The writer puts masks, moves, log, trailer, without gaps"
+abbrev pub file-bytes : Profile → List ℕ → List ℕ
+file-bytes p w = flat-map (low-bytes 2) (p .masks) ++ (flat-map (low-bytes 4) (p .moves) ++ (w ++ trailer-bytes p w))
+
+-- the writer's refusals, with m places for the file
+abbrev pub write-refusals : Profile → List ℕ → ℕ → List (Bool × Refusal)
+write-refusals p w m = profile-refusals p ++ (log-refusals (p .k) w ++ ((short-buffer m (file-bytes p w), ShortBuffer) ∷ []))
+
+abbrev pub write-refusal : Profile → List ℕ → ℕ → Option Refusal
+write-refusal p w m = lowest (write-refusals p w m)
+
+-- "tells the file's length", or refuses
+abbrev pub writing : Option Refusal → ℕ → Writing
+writing none n = Length n
+writing (some r) n = Writing.Refused r
+
+-- what the writer knows of a call that nothing refuses
+pub record Fit (h : Shape) (masks moves w out : List ℕ) : Type 0 where
+  pub letters : (length masks ≡ h .k) × (h .k ≤ 16)
+  pub states : (length moves ≡ h .s * h .k) × (h .s ≤ 32) × (h .start < h .s)
+  pub log : length w ≤ 255
+  pub room : length (file-bytes (profile-of h masks moves) w) ≤ length out
