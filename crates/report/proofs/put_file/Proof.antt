@@ -1,0 +1,144 @@
+-- `report::put_file` meets its contract: what is judged is the file's profile and log.
+use borrow.Author.Needs.{needs}
+use mathlib.Core.Path.{_≡_, sym, _∙_, ap, ap₂}
+use mathlib.Core.List.{List}
+use mathlib.Core.Option.{none}
+use Prim.Native.Nat.{ℕ, _-_, _*_, _≤_}
+use native.Mathlib.Omega.{arith}
+use lib.ListN.{take, drop, replicate}
+use Rattle.profile.specs.Automata.{profile-of}
+use Rattle.profile.specs.Refusals.{lowest}
+use Rattle.logfile.specs.Files.{field, file-log, file-masks, file-moves, file-profile, file-refusals, file-shape, filled, log-length, log-part-of, read-refusal, section}
+use Rattle.logfile.proofs.Bytes.{numbers-length}
+use Rattle.logfile.proofs.Sections.{first-part, open-file, shape-known}
+use Rattle.report.specs.Report.{file-text, judged-text, unless-refused}
+use Rattle.report.proofs.Printing.{file-good, log-told, refusal-read, shape-read}
+use Rattle.report.proofs.Texts.{put-as}
+use Rattle.report.proofs.put_file.Statement.{statement}
+use Rattle.report.proofs.put_file.Tie as tie
+
+abbrev entry : tie.After-reading2 → tie.Start
+entry c = c .before .before .before .before .before .before .before .before .before .before
+
+-- nothing is refused, and the numbers are the file's
+told : (c : tie.After-reading2) → let f = entry c .args .file .now in (read-refusal f 16 512 ≡ none) × (c .reading2 .given .0 .0 ≡ file-shape f)
+told c =
+    let f = entry c .args .file .now in
+    let e = sym (c .before .before .before .before .read-file .ensures .0) ∙ c .reading2 .given .1 in
+    (refusal-read (read-refusal f 16 512) (file-shape f) (log-length f) e, sym (shape-read (read-refusal f 16 512) (file-shape f) (log-length f) e))
+
+good : (c : tie.After-reading2) → lowest (file-refusals (entry c .args .file .now)) ≡ none
+good c = file-good (entry c .args .file .now) 16 512 (told c .0)
+
+-- k and s are in range
+known : (c : tie.After-reading2) → let f = entry c .args .file .now in let h = c .reading2 .given .0 .0 in
+    (h .k ≡ field f 0) × (h .s * h .k ≡ field f 1 * field f 0) × (h .k ≤ 16) × (h .s * h .k ≤ 512)
+known c = let f = entry c .args .file .now in shape-known f (told c .1) (open-file f (good c) .0)
+
+-- what is judged is the file's profile and log
+profile-read : (c : tie.After-reading2) {w : List ℕ} → let f = entry c .args .file .now in let h = c .reading2 .given .0 .0 in let l = c .before .before .before .before .read-file .last in
+    w ≡ log-part-of f → judged-text (profile-of h (take (h .k - 0) (drop 0 (l .1 .0))) (take (h .s * h .k - 0) (drop 0 (l .1 .1 .0)))) w ≡ file-text f
+profile-read c {w} e =
+    let f = entry c .args .file .now in
+    let h = c .reading2 .given .0 .0 in
+    let r = c .before .before .before .before .read-file in
+    let n = known c in
+    let t = told c in
+    let l = r .last .1 .0 in
+    let v = r .last .1 .1 .0 in
+    let masks = first-part (file-masks f) (replicate 16 0) l (r .ensures .1 ∙ ap (λ q. filled q (file-masks f) (replicate 16 0)) (t .0)) (numbers-length 2 f (section f 4) (field f 0) ∙ sym (n .0)) in
+    let moves = first-part (file-moves f) (replicate 512 0) v (r .ensures .2 ∙ ap (λ q. filled q (file-moves f) (replicate 512 0)) (t .0))
+    (numbers-length 4 f (section f 6) (field f 1 * field f 0) ∙ sym (n .1)) in
+    ap (λ g. judged-text (profile-of g (take (h .k - 0) (drop 0 l)) (take (h .s * h .k - 0) (drop 0 v))) w) (t .1)
+    ∙ ap₂ (λ x y. judged-text (profile-of (file-shape f) x y) w) masks moves ∙ ap (judged-text (file-profile f)) (e ∙ log-told f (good c))
+    ∙ sym (ap (λ q. unless-refused q (judged-text (file-profile f) (file-log f))) (t .0))
+
+slice-aggregate-read-file : tie.Need-slice-aggregate-read-file
+slice-aggregate-read-file c = search needs
+
+slice-aggregate-read-file-2 : tie.Need-slice-aggregate-read-file-2
+slice-aggregate-read-file-2 c = search needs
+
+read-file-requires : tie.Need-read-file-requires
+read-file-requires c κs = search needs
+
+enum-known-reading : tie.Need-enum-known-reading
+enum-known-reading c = search needs
+
+put-refused-requires : tie.Need-put-refused-requires
+put-refused-requires c κs = search needs
+
+enum-known-reading-2 : tie.Need-enum-known-reading-2
+enum-known-reading-2 c = search needs
+
+mul-count : tie.Need-mul-count
+mul-count c = omega (arith, known (c .before))
+
+log-part-requires : tie.Need-log-part-requires
+log-part-requires c κs = search needs
+
+sub-put-judged : tie.Need-sub-put-judged
+sub-put-judged c = search needs
+
+part-put-judged-start : tie.Need-part-put-judged-start
+part-put-judged-start c = search needs
+
+part-put-judged-end : tie.Need-part-put-judged-end
+part-put-judged-end c = omega (arith, known (c .before .before .before), c .before .before .before .before .before .before .before .read-file .kept .1 .0)
+
+sub-put-judged-2 : tie.Need-sub-put-judged-2
+sub-put-judged-2 c = search needs
+
+part-put-judged-start-2 : tie.Need-part-put-judged-start-2
+part-put-judged-start-2 c = search needs
+
+part-put-judged-end-2 : tie.Need-part-put-judged-end-2
+part-put-judged-end-2 c = omega (arith, known (c .before .before .before .before .before), c .before .before .before .before .before .before .before .before .before .read-file .kept .1 .1 .0)
+
+put-judged-requires : tie.Need-put-judged-requires
+put-judged-requires c κs = search needs
+
+same-length : tie.Need-same-length
+same-length c = search needs
+
+returns : tie.Need-returns
+returns c =
+    let r = c .before .before .before .before .before .before .before .before .before .read-file in
+    let f = c .before .before .before .before .before .before .before .before .before .before .before .before .before .before .before .args .file .now in
+    let e = refusal-read (read-refusal f 16 512) (file-shape f) (log-length f) (sym (r .ensures .0) ∙ c .before .before .before .before .before .reading .given .1) in
+    put-as (sym (ap (λ q. unless-refused q (judged-text (file-profile f) (file-log f))) e)) (c .before .before .put-refused .ensures)
+
+same-length-2 : tie.Need-same-length-2
+same-length-2 c = search needs
+
+same-length-3 : tie.Need-same-length-3
+same-length-3 c = search needs
+
+returns-2 : tie.Need-returns-2
+returns-2 c =
+    put-as (profile-read (c .before .before .before .before .before .before .before .before .before .before .before .before .before) (c .before .before .before .before .before .before .before .before .before .before .before .log-part .ensures)) (c .before .before .before .before .put-judged .ensures)
+
+pub put-file-spec : {M : Type 1} → statement M
+put-file-spec =
+    tie.close
+    (tie.spec
+    slice-aggregate-read-file
+    slice-aggregate-read-file-2
+    read-file-requires
+    enum-known-reading
+    put-refused-requires
+    enum-known-reading-2
+    mul-count
+    log-part-requires
+    sub-put-judged
+    part-put-judged-start
+    part-put-judged-end
+    sub-put-judged-2
+    part-put-judged-start-2
+    part-put-judged-end-2
+    put-judged-requires
+    same-length
+    returns
+    same-length-2
+    same-length-3
+    returns-2)

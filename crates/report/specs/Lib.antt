@@ -1,0 +1,2 @@
+-- The text that the program prints.
+pub mod Report

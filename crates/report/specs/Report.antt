@@ -1,0 +1,90 @@
+-- Document 01, "Program": the text that is printed for an input, as a list of bytes in ASCII.
+use mathlib.Core.Path.{_≡_}
+use mathlib.Core.Bool.{true, false}
+use mathlib.Core.List.{List, [], _∷_, _++_}
+use mathlib.Core.Option.{Option, none, some}
+use Prim.Native.Nat.{ℕ, zero, suc, _+_, _/_, _%_, _≤_}
+use lib.Dec.{ltb}
+use lib.ListN.{length}
+use lib.Seq.{sets}
+use Rattle.profile.specs.Lists.{flat-map}
+use Rattle.profile.specs.Traces.{independent}
+use Rattle.profile.specs.Automata.{Profile, automaton}
+use Rattle.profile.specs.Prefixes.{prefix-count}
+use Rattle.profile.specs.Orders.{accepted-order}
+use Rattle.profile.specs.Refusals.{judge-refusal, refusal-number}
+use Rattle.profile.specs.declared.Refusal.{Refusal}
+use Rattle.logfile.specs.Files.{file-log, file-profile, read-refusal}
+
+-- the decimal digits of n, most significant first, at most as many as the first number says
+abbrev pub digits-within : ℕ → ℕ → List ℕ
+digits-within zero n = []
+digits-within (suc m) n = elim (ltb n 10) [ true ↦ (48 + n) ∷ [] | false ↦ digits-within m (n / 10) ++ ((48 + n % 10) ∷ []) ]
+
+-- a number, decimal: the fewest digits that hold it
+abbrev pub decimal : ℕ → List ℕ
+decimal n = digits-within (suc n) n
+
+-- "verdict ", "prefixes ", "refused ", "order", "too long"
+abbrev pub verdict-word : List ℕ
+verdict-word = 118 ∷ 101 ∷ 114 ∷ 100 ∷ 105 ∷ 99 ∷ 116 ∷ 32 ∷ []
+
+abbrev pub prefixes-word : List ℕ
+prefixes-word = 112 ∷ 114 ∷ 101 ∷ 102 ∷ 105 ∷ 120 ∷ 101 ∷ 115 ∷ 32 ∷ []
+
+abbrev pub refused-word : List ℕ
+refused-word = 114 ∷ 101 ∷ 102 ∷ 117 ∷ 115 ∷ 101 ∷ 100 ∷ 32 ∷ []
+
+abbrev pub order-word : List ℕ
+order-word = 111 ∷ 114 ∷ 100 ∷ 101 ∷ 114 ∷ []
+
+abbrev pub too-long-line : List ℕ
+too-long-line = 116 ∷ 111 ∷ 111 ∷ 32 ∷ 108 ∷ 111 ∷ 110 ∷ 103 ∷ 10 ∷ []
+
+-- "each with a line end": a word and a number
+abbrev pub number-line : List ℕ → ℕ → List ℕ
+number-line word n = word ++ (decimal n ++ (10 ∷ []))
+
+-- a space and a number; those of a list
+abbrev pub spaced : ℕ → List ℕ
+spaced n = 32 ∷ decimal n
+
+-- `order 0 1 0 1`; "an empty order is the word `order` alone"
+abbrev pub order-line : List ℕ → List ℕ
+order-line v = order-word ++ (flat-map spaced v ++ (10 ∷ []))
+
+-- the lines of a verdict: `verdict 1`, `prefixes 9`, `order 0 1 0 1`; "Verdict 0 has no third line"
+abbrev pub verdict-lines : ℕ → ℕ → List ℕ
+verdict-lines v P = number-line verdict-word v ++ number-line prefixes-word P
+
+abbrev pub verdict-text : ℕ → Option (List ℕ) → List ℕ
+verdict-text P none = verdict-lines 0 P
+verdict-text P (some v) = verdict-lines 1 P ++ order-line v
+
+-- "A refusal prints one line, `refused` and its number"; else what is told is printed
+abbrev pub refusal-line : Refusal → List ℕ
+refusal-line r = number-line refused-word (refusal-number r)
+
+abbrev pub unless-refused : Option Refusal → List ℕ → List ℕ
+unless-refused none t = t
+unless-refused (some r) t = refusal-line r
+
+-- what is printed for a profile and a log, with an order buffer of 255 places and "a table of 16,380 numbers"
+abbrev pub judged-text : Profile → List ℕ → List ℕ
+judged-text p w =
+    unless-refused (judge-refusal p w 255 16380)
+    (verdict-text (prefix-count (independent (p .masks)) (λ a. a) (p .k) w) (accepted-order (independent (p .masks)) (λ a. a) (automaton p) w))
+
+-- what is printed for a file, whose masks and moves are read into buffers of 16 and 512 places
+abbrev pub file-text : List ℕ → List ℕ
+file-text f = unless-refused (read-refusal f 16 512) (judged-text (file-profile f) (file-log f))
+
+-- "reads up to 65,536 bytes …"; "Longer input prints the one line `too long`"
+abbrev pub printed : List ℕ → List ℕ
+printed f = elim (ltb 65536 (length f)) [ true ↦ too-long-line | false ↦ file-text f ]
+
+-- the text is put from place `at` on, the other bytes stay, and r is the place behind it
+pub record Put (before : List ℕ) (at : ℕ) (text after : List ℕ) (r : ℕ) : Type 0 where
+  pub put : after ≡ sets before at text
+  pub behind : r ≡ at + length text
+  pub room : r ≤ length before

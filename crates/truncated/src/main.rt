@@ -1,0 +1,59 @@
+// Prints what the program `judge` prints for document 01's file cut at every length, from none of its bytes to all of them.
+use libc::STDOUT_FILENO;
+
+fn show(file: &[u8]) {
+    let mut out = [0u8; 2048];
+    let mut work = [0u32; 16380];
+    let r = report::respond(file, &mut out, &mut work);
+    io::write_all(STDOUT_FILENO, &out[0..r]);
+}
+
+fn main() {
+    let file = [
+        2u8,
+        0,
+        1,
+        0,
+        2,
+        0,
+        0,
+        0,
+        0,
+        0,
+        0,
+        0,
+        0,
+        0,
+        0,
+        0,
+        1,
+        0,
+        0,
+        0,
+        1,
+        1,
+        0,
+        0,
+        2,
+        2,
+        0,
+        4,
+        24,
+        0,
+        20,
+        0,
+        4,
+        0,
+        0,
+        0,
+        1,
+        0,
+        0,
+        0,
+    ];
+    let mut n = 0;
+    while n <= 40 {
+        show(&file[0..n]);
+        n += 1;
+    }
+}
