@@ -10,8 +10,8 @@ use Rattle.profile.specs.Traces.{independent}
 use Rattle.profile.specs.Automata.{Profile, automaton, meets}
 use Rattle.profile.specs.Prefixes.{prefix-count, total}
 use Rattle.profile.specs.Tables.{Holds, layout, record-length}
-use Rattle.profile.specs.Orders.{accepted-order}
 use Rattle.profile.proofs.Refusals.{GoodLog, GoodProfile}
+pub use Rattle.profile.proofs.Demands.{order-of}
 use Rattle.counts.specs.Counts.{add-count, counts-in}
 use Rattle.records.specs.Records.{counts-at, last-at}
 
@@ -26,10 +26,6 @@ pub record Table (p : Profile) (w t : List ℕ) : Type 0 where
   pub before : List ℕ
   pub holds : Holds layout (independent (p .masks)) (λ a. a) (automaton p) (p .k) w before t
   pub room : record-length layout * record-count p w ≤ length t
-
--- the earliest accepted order of w, if there is one
-abbrev pub order-of : Profile → List ℕ → Option (List ℕ)
-order-of p w = accepted-order (independent (p .masks)) (λ a. a) (automaton p) w
 
 -- there is an order
 abbrev pub found? : Option (List ℕ) → Bool

@@ -4,7 +4,7 @@ ghost use Prim.Native.Nat.{_+_};
 ghost use lib.ListN.{length};
 ghost use Rattle.logreader.specs.Events.{event-of, place-behind};
 
-// A log part, and the place of its next event.
+// A log part, and the place of its next event: 0 for a new reader.
 pub struct LogReader<'a> {
     pub src: &'a [u8],
     pub at: usize,
@@ -21,7 +21,8 @@ pub fn event_at(s: &[u8], at: usize) -> Event
     ensures { λ r. ⌜ r ≡ event-of (now (s .entry)) at ⌝ }
 {
     if at < s.len() {
-        Event::Letter(s[at])
+        let letter = s[at];
+        Event::Letter(letter)
     } else {
         Event::End
     }
@@ -32,20 +33,6 @@ pub fn place_after(s: &[u8], at: usize) -> usize
     ensures { λ r. ⌜ r ≡ place-behind (now (s .entry)) at ⌝ }
 {
     if at < s.len() { at + 1 } else { at }
-}
-
-// A reader at the first event of a log part.
-pub fn new<'a>(src: &'a [u8]) -> LogReader<'a>
-    ensures { λ r. ⌜ (r .src ≡ src .entry) × (r .at ≡ 0) ⌝ }
-{
-    LogReader { src, at: 0 }
-}
-
-// The next event; the reader stays.
-pub fn next<'a>(r: LogReader<'a>) -> Event
-    ensures { λ s. ⌜ s ≡ event-of (now (r .entry .src)) (r .entry .at) ⌝ }
-{
-    event_at(r.src, r.at)
 }
 
 // The next event, and the reader advances one; at the end it stays there.
