@@ -15,11 +15,11 @@ use Rattle.profile.specs.Lists.{Mem, below, equal?, filter, flat-map}
 use Rattle.profile.specs.Prefixes.{total}
 use Rattle.profile.specs.Tables.{layout, packed, record-length}
 use Rattle.profile.specs.Traces.{bit, independent}
-use Rattle.profile.proofs.Levels.{bump, le-total, level-next}
+use Rattle.theory.proofs.Levels.{bump, le-total, level-next}
 use Rattle.profile.proofs.Lists.{all-of, below-at, below-of, filter-agree, filter-at, filter-of, is-false, is-true, mem-getD, test}
-use Rattle.profile.proofs.Merge.{Behind, backward-level, behind-find, behind-skip, extends?, level-at, level-grown, level-left, seek}
-use Rattle.profile.proofs.Profiles.{distinct, lawful}
-use Rattle.profile.proofs.Refusals.{GoodLog, GoodProfile}
+use Rattle.theory.proofs.Merge.{Behind, backward-level, behind-find, behind-skip, extends?, level-at, level-grown, level-left, seek}
+use Rattle.theory.proofs.Profiles.{distinct, lawful}
+use Rattle.theory.proofs.Refusals.{GoodLog, GoodProfile}
 use Rattle.profile.proofs.Sets.{T-eq, bit-self, bit-single, union-agree, union-at, union-of}
 use Rattle.counts.specs.Counts.{add-count}
 use Rattle.counts.proofs.Packed.{Small, add-packed, same-packed}

@@ -10,9 +10,9 @@ use native.Mathlib.Omega.{arith}
 use lib.Dec.{T}
 use lib.ListN.{length, getD, length-map, List·getD-map}
 use Rattle.profile.specs.Lists.{below}
-use Rattle.profile.proofs.Counting.{at-map, length-range}
+use Rattle.theory.proofs.Counting.{at-map, length-range}
 use Rattle.profile.proofs.Lists.{lt-or-le}
-use Rattle.profile.proofs.Merge.{seek, seek-end, seek-first, seek-no, seek-passes, seek-yes}
+use Rattle.theory.proofs.Merge.{seek, seek-end, seek-first, seek-no, seek-passes, seek-yes}
 use Rattle.backward.specs.Backward.{row-start}
 
 length-below : (n : ℕ) → length (below n) ≡ n

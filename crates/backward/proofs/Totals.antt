@@ -13,11 +13,11 @@ use Rattle.profile.specs.Lists.{Mem, below, flat-map, range}
 use Rattle.profile.specs.Prefixes.{count, total}
 use Rattle.profile.specs.Tables.{layout, packed, record-length}
 use Rattle.profile.specs.Traces.{independent}
-use Rattle.profile.proofs.Levels.{by-total-length}
+use Rattle.theory.proofs.Levels.{by-total-length}
 use Rattle.profile.proofs.Lists.{below-at, below-suc, flat-map-append, flat-map-at, mem-getD}
-use Rattle.profile.proofs.Merge.{backward-whole, level-whole}
-use Rattle.profile.proofs.Profiles.{lawful}
-use Rattle.profile.proofs.Refusals.{GoodLog, GoodProfile}
+use Rattle.theory.proofs.Merge.{backward-whole, level-whole}
+use Rattle.theory.proofs.Profiles.{lawful}
+use Rattle.theory.proofs.Refusals.{GoodLog, GoodProfile}
 use Rattle.counts.specs.Counts.{counts-in}
 use Rattle.counts.proofs.Packed.{total-packed}
 use Rattle.records.proofs.Drafts.{counts-of-draft, drafts-length}

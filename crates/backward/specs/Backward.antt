@@ -10,8 +10,8 @@ use Rattle.profile.specs.Lists.{below, equal?, filter}
 use Rattle.profile.specs.Prefixes.{prefix-count, total}
 use Rattle.profile.specs.Tables.{layout, record-length}
 use Rattle.profile.specs.Traces.{bit, independent}
-use Rattle.profile.proofs.Merge.{seek}
-use Rattle.profile.proofs.Refusals.{GoodLog, GoodProfile}
+use Rattle.theory.proofs.Merge.{seek}
+use Rattle.theory.proofs.Refusals.{GoodLog, GoodProfile}
 use Rattle.counts.specs.Counts.{add-count, counts-in}
 use Rattle.records.specs.Records.{counts-at, last-at, records-in}
 use Rattle.records.specs.Drafts.{drafted, filled, in-order, of-total}

@@ -6,7 +6,7 @@ ghost use lib.ListN.{length, getD, drop};
 ghost use Rattle.profile.specs.Automata.{profile-of};
 ghost use Rattle.profile.specs.Lists.{below, equal?};
 ghost use Rattle.profile.specs.Tables.{layout, record-length};
-ghost use Rattle.profile.proofs.Merge.{seek};
+ghost use Rattle.theory.proofs.Merge.{seek};
 ghost use Rattle.counts.specs.Counts.{words};
 ghost use Rattle.records.specs.Records.{counts-at, records-in};
 ghost use Rattle.backward.specs.Backward.{Drafted, FromTotal, Leads, back-from, filled-all, filled-total, moved, start-of};

@@ -12,9 +12,9 @@ use Rattle.profile.specs.Orders.{no-later?}
 use Rattle.profile.specs.Tables.{Layout}
 use Rattle.profile.proofs.Lists.{equal-test, is-false, is-true, test}
 use Rattle.profile.proofs.Sets.{T-eq}
-use Rattle.profile.proofs.Earliest.{ge-of-test, no-later-antisym, no-later-refl}
-use Rattle.profile.proofs.LetterOrder.{no-later-test}
-use Rattle.profile.proofs.Packing.{rank, rank-lt-at, rank-lt-of}
+use Rattle.theory.proofs.Earliest.{ge-of-test, no-later-antisym, no-later-refl}
+use Rattle.theory.proofs.LetterOrder.{no-later-test}
+use Rattle.theory.proofs.Packing.{rank, rank-lt-at, rank-lt-of}
 use Rattle.counts.specs.Counts.{word-counts}
 use Rattle.counts.proofs.Words.{word-counts-below, word-counts-inj, word-counts-length}
 

@@ -16,9 +16,9 @@ use Rattle.profile.specs.Prefixes.{at, total}
 use Rattle.profile.specs.Tables.{Layout, count-field, pack, packed}
 use Rattle.profile.proofs.Lists.{all-split, equal-test, is-false, is-true, lt-or-le, test}
 use Rattle.profile.proofs.Sets.{T-eq}
-use Rattle.profile.proofs.Counting.{at-map, length-range}
-use Rattle.profile.proofs.Levels.{bump}
-use Rattle.profile.proofs.Packing.{field-packed, pack-below, packed-bump, packed-inj, packed-length}
+use Rattle.theory.proofs.Counting.{at-map, length-range}
+use Rattle.theory.proofs.Levels.{bump}
+use Rattle.theory.proofs.Packing.{field-packed, pack-below, packed-bump, packed-inj, packed-length}
 use Rattle.counts.specs.Counts.{add-count, before?, counts-in}
 use Rattle.counts.proofs.Order.{no-later-append, no-later-self}
 

@@ -10,7 +10,7 @@ use lib.Pow.{mod-pow-add, pow-pos, shr-shr}
 use Rattle.profile.specs.Lists.{all, below, flat-map, range}
 use Rattle.profile.specs.Tables.{Layout, layout, pack}
 use Rattle.profile.proofs.Lists.{both}
-use Rattle.profile.proofs.Counting.{length-range}
+use Rattle.theory.proofs.Counting.{length-range}
 use Rattle.counts.specs.declared.Counts.{Counts}
 use Rattle.counts.specs.Counts.{counts-in, word-count, word-counts, words}
 

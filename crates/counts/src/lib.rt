@@ -8,7 +8,7 @@ ghost use Rattle.profile.specs.Lists.{equal?};
 ghost use Rattle.profile.specs.Orders.{no-later?};
 ghost use Rattle.profile.specs.Prefixes.{total};
 ghost use Rattle.profile.specs.Tables.{layout, count-field, packed};
-ghost use Rattle.profile.proofs.Packing.{rank};
+ghost use Rattle.theory.proofs.Packing.{rank};
 ghost use Rattle.counts.specs.Counts.{words, counts-in, add-count, before?, word-count, word-counts};
 
 // The bits of a count.

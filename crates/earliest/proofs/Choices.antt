@@ -13,12 +13,12 @@ use Rattle.profile.specs.Automata.{Profile, automaton, meets}
 use Rattle.profile.specs.Prefixes.{IsPrefix, at, one, total}
 use Rattle.profile.specs.Tables.{layout, packed}
 use Rattle.profile.proofs.Lists.{equal-test, is-true, lt-or-le}
-use Rattle.profile.proofs.Packing.{packed-inj}
-use Rattle.profile.proofs.Prefixes.{addable-of, addable?, more, one-cases, one-same}
-use Rattle.profile.proofs.Levels.{at-bump, bump, level-next}
-use Rattle.profile.proofs.Merge.{level-unmarked}
-use Rattle.profile.proofs.Judgement.{choice, some-choice}
-use Rattle.profile.proofs.Profiles.{lawful}
+use Rattle.theory.proofs.Packing.{packed-inj}
+use Rattle.theory.proofs.Prefixes.{addable-of, addable?, more, one-cases, one-same}
+use Rattle.theory.proofs.Levels.{at-bump, bump, level-next}
+use Rattle.theory.proofs.Merge.{level-unmarked}
+use Rattle.theory.proofs.Judgement.{choice, some-choice}
+use Rattle.theory.proofs.Profiles.{lawful}
 use Rattle.counts.specs.Counts.{add-count}
 use Rattle.counts.proofs.Packed.{Small, add-packed}
 use Rattle.records.specs.Records.{counts-at, last-at}

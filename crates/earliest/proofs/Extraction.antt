@@ -16,14 +16,14 @@ use Rattle.profile.specs.Traces.{independent}
 use Rattle.profile.specs.Automata.{Automaton, Profile, automaton, meets}
 use Rattle.profile.specs.Prefixes.{at}
 use Rattle.profile.specs.Tables.{layout, packed}
-use Rattle.profile.proofs.Automata.{prefix-none, unmarked-none, verdict-at}
-use Rattle.profile.proofs.Earliest.{end, greedy-append}
-use Rattle.profile.proofs.Judgement.{accepted-order-none, accepted-order-not, accepted-order-some, live, live-start}
-use Rattle.profile.proofs.Levels.{bump}
+use Rattle.theory.proofs.Automata.{prefix-none, unmarked-none, verdict-at}
+use Rattle.theory.proofs.Earliest.{end, greedy-append}
+use Rattle.theory.proofs.Judgement.{accepted-order-none, accepted-order-not, accepted-order-some, live, live-start}
+use Rattle.theory.proofs.Levels.{bump}
 use Rattle.profile.proofs.Lists.{test}
-use Rattle.profile.proofs.Merge.{at-prefix, level-left}
-use Rattle.profile.proofs.Packing.{packed-zero}
-use Rattle.profile.proofs.Profiles.{lawful}
+use Rattle.theory.proofs.Merge.{at-prefix, level-left}
+use Rattle.theory.proofs.Packing.{packed-zero}
+use Rattle.theory.proofs.Profiles.{lawful}
 use Rattle.profile.proofs.Sets.{T-eq}
 use Rattle.counts.specs.Counts.{add-count}
 use Rattle.records.specs.Records.{last-at}

@@ -7,8 +7,8 @@ use native.Mathlib.Omega.{arith}
 use lib.Dec.{T}
 use lib.ListN.{length, getD, length-map}
 use Rattle.profile.specs.Lists.{below, first-place}
-use Rattle.profile.proofs.Counting.{at-map, length-range}
-use Rattle.profile.proofs.Merge.{seek-first, seek-inside, seek-passes}
+use Rattle.theory.proofs.Counting.{at-map, length-range}
+use Rattle.theory.proofs.Merge.{seek-first, seek-inside, seek-passes}
 
 below-length : (n : ℕ) → length (below n) ≡ n
 below-length n = sym (length-map (below n) (λ x. x)) ∙ length-range (λ x. x) n 0

@@ -12,10 +12,10 @@ use Rattle.profile.specs.Automata.{Profile, automaton}
 use Rattle.profile.specs.Prefixes.{IsPrefix, at, backward, prefixes, total, unmarked}
 use Rattle.profile.specs.Tables.{layout, packed, record-length}
 use Rattle.profile.proofs.Lists.{all-of, filter-at, filter-of, mem-place}
-use Rattle.profile.proofs.Merge.{level-at, level-first, level-left}
-use Rattle.profile.proofs.Profiles.{distinct, lawful}
-use Rattle.profile.proofs.Judgement.{Chosen}
-use Rattle.profile.proofs.Tables.{holds-backward, holds-counts, holds-find, holds-prefix, holds-rises}
+use Rattle.theory.proofs.Merge.{level-at, level-first, level-left}
+use Rattle.theory.proofs.Profiles.{distinct, lawful}
+use Rattle.theory.proofs.Judgement.{Chosen}
+use Rattle.theory.proofs.Tables.{holds-backward, holds-counts, holds-find, holds-prefix, holds-rises}
 use Rattle.counts.specs.Counts.{counts-in}
 use Rattle.counts.proofs.Packed.{Small, total-packed}
 use Rattle.records.specs.Records.{counts-at, last-at}

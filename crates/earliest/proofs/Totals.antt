@@ -12,7 +12,7 @@ use Rattle.profile.specs.Automata.{Profile}
 use Rattle.profile.specs.Prefixes.{total}
 use Rattle.profile.specs.Lists.{Mem}
 use Rattle.profile.proofs.Lists.{lt-or-le}
-use Rattle.profile.proofs.Tables.{holds-once, holds-rises}
+use Rattle.theory.proofs.Tables.{holds-once, holds-rises}
 use Rattle.earliest.specs.Earliest.{Table, record-count, end-of, total-at, total-end}
 use Rattle.earliest.proofs.Records.{first-record, of-total-at, only-empty, prefix-at, record-total, record-of-total}
 use Rattle.records.specs.Drafts.{of-total}

@@ -10,8 +10,8 @@ use Rattle.profile.specs.Traces.{independent}
 use Rattle.profile.specs.Automata.{Profile, automaton, meets}
 use Rattle.profile.specs.Prefixes.{prefix-count, total}
 use Rattle.profile.specs.Tables.{Holds, layout, record-length}
-use Rattle.profile.proofs.Refusals.{GoodLog, GoodProfile}
-pub use Rattle.profile.proofs.Demands.{order-of}
+use Rattle.theory.proofs.Refusals.{GoodLog, GoodProfile}
+pub use Rattle.theory.proofs.Demands.{order-of}
 use Rattle.counts.specs.Counts.{add-count, counts-in}
 use Rattle.records.specs.Records.{counts-at, last-at}
 

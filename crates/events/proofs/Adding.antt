@@ -14,10 +14,10 @@ use Rattle.profile.specs.Lists.{Mem, all, below}
 use Rattle.profile.specs.Prefixes.{IsPrefix, at, count, less, one, unmarked}
 use Rattle.profile.specs.Traces.{letters-below}
 use Rattle.profile.proofs.Lists.{all-append, all-at, all-of, below-at, below-of, below-suc, both, either, fst-of, is-false, is-true, mem-getD, or-left, or-right, snd-of, test}
-use Rattle.profile.proofs.Prefixes.{addable-at, addable-of, addable?, more, more-of-pick, one-cases, one-other, one-same}
-use Rattle.profile.proofs.Scan.{scan-at, scan-of, scan?}
+use Rattle.theory.proofs.Prefixes.{addable-at, addable-of, addable?, more, more-of-pick, one-cases, one-other, one-same}
+use Rattle.theory.proofs.Scan.{scan-at, scan-of, scan?}
 use Rattle.profile.proofs.Traces.{Pick}
-use Rattle.profile.proofs.Counting.{at-map, length-range}
+use Rattle.theory.proofs.Counting.{at-map, length-range}
 use Rattle.events.specs.Events.{comes-next?, lets-by?, next-places, places-from, places-of}
 use Rattle.events.proofs.Places.{places-length, places-no, places-within, places-yes}
 

@@ -13,11 +13,11 @@ use Rattle.profile.specs.Lists.{below, filter}
 use Rattle.profile.specs.Prefixes.{at, prefix-count}
 use Rattle.profile.specs.Tables.{layout, record-length}
 use Rattle.profile.specs.Traces.{independent}
-use Rattle.profile.proofs.Counting.{length-range}
-use Rattle.profile.proofs.Levels.{by-total-length}
+use Rattle.theory.proofs.Counting.{length-range}
+use Rattle.theory.proofs.Levels.{by-total-length}
 use Rattle.profile.proofs.Lists.{filter-no, filter-yes, test}
-use Rattle.profile.proofs.Looks.{looks-by-total, pairs-append, pairs-cons}
-use Rattle.profile.proofs.Prefixes.{addable?}
+use Rattle.theory.proofs.Looks.{looks-by-total, pairs-append, pairs-cons}
+use Rattle.theory.proofs.Prefixes.{addable?}
 use Rattle.merge.specs.Merge.{seek-from, started}
 use Rattle.merge.proofs.Cursors.{cursors-length}
 use Rattle.forward.specs.Forward.{Forward, Ready}

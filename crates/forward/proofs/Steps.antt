@@ -13,11 +13,11 @@ use Rattle.profile.specs.Lists.{Mem}
 use Rattle.profile.specs.Prefixes.{at}
 use Rattle.profile.specs.Tables.{layout, packed}
 use Rattle.profile.specs.Traces.{bit, independent}
-use Rattle.profile.proofs.Levels.{bump}
+use Rattle.theory.proofs.Levels.{bump}
 use Rattle.profile.proofs.Lists.{lt-or-le, mem-getD}
-use Rattle.profile.proofs.Merge.{Cursor, Grown, cursor-end, cursor-next, cursor-start, extends?, forward-merge, least-of-all, level-grown, some-hits}
-use Rattle.profile.proofs.Prefixes.{addable?}
-use Rattle.profile.proofs.Profiles.{lawful}
+use Rattle.theory.proofs.Merge.{Cursor, Grown, cursor-end, cursor-next, cursor-start, extends?, forward-merge, least-of-all, level-grown, some-hits}
+use Rattle.theory.proofs.Prefixes.{addable?}
+use Rattle.theory.proofs.Profiles.{lawful}
 use Rattle.counts.proofs.Packed.{Small}
 use Rattle.letters.proofs.Additions.{letters-bit}
 use Rattle.merge.specs.Merge.{advanced, least-of, started, united}

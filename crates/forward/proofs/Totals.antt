@@ -14,10 +14,10 @@ use Rattle.profile.specs.Prefixes.{IsPrefix, at}
 use Rattle.profile.specs.Tables.{layout, packed}
 use Rattle.profile.specs.Traces.{independent}
 use Rattle.profile.proofs.Lists.{all-of}
-use Rattle.profile.proofs.Looks.{pairs-cons}
-use Rattle.profile.proofs.Merge.{forward-first, level-at, level-first, level-left}
-use Rattle.profile.proofs.Packing.{packed-zero}
-use Rattle.profile.proofs.Profiles.{distinct, lawful}
+use Rattle.theory.proofs.Looks.{pairs-cons}
+use Rattle.theory.proofs.Merge.{forward-first, level-at, level-first, level-left}
+use Rattle.theory.proofs.Packing.{packed-zero}
+use Rattle.theory.proofs.Profiles.{distinct, lawful}
 use Rattle.counts.proofs.Packed.{Small}
 use Rattle.letters.specs.Letters.{letters-by}
 use Rattle.letters.proofs.Additions.{letters-placed}
@@ -25,7 +25,7 @@ use Rattle.records.specs.Records.{put-record}
 use Rattle.forward.specs.Forward.{Ready}
 use Rattle.forward.specs.Merging.{begun, pairs, totals}
 use Rattle.forward.proofs.Drafts.{begun-put}
-use Rattle.profile.proofs.Levels.{le-total}
+use Rattle.theory.proofs.Levels.{le-total}
 use Rattle.records.specs.Drafts.{draft, forward-set, letters-of, letters-set, of-total}
 
 module _ {p : Profile} {w : List ℕ} {m room : ℕ} {starts places : List ℕ} (r : Ready p w m room starts places) where

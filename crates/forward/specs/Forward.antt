@@ -9,8 +9,8 @@ use Rattle.profile.specs.Lists.{below}
 use Rattle.profile.specs.Prefixes.{prefix-count}
 use Rattle.profile.specs.Tables.{layout, record-length}
 use Rattle.profile.specs.Traces.{independent}
-use Rattle.profile.proofs.Looks.{looks}
-use Rattle.profile.proofs.Refusals.{GoodLog, GoodProfile}
+use Rattle.theory.proofs.Looks.{looks}
+use Rattle.theory.proofs.Refusals.{GoodLog, GoodProfile}
 use Rattle.events.specs.Events.{place-start, place-table}
 use Rattle.forward.specs.declared.Filled.{Filled}
 use Rattle.forward.specs.declared.Filled.the-variants as filled

@@ -9,8 +9,8 @@ use Rattle.profile.specs.Lists.{below, flat-map}
 use Rattle.profile.specs.Prefixes.{at}
 use Rattle.profile.specs.Tables.{layout, record-length}
 use Rattle.profile.specs.Traces.{independent}
-use Rattle.profile.proofs.Looks.{pairs-in}
-use Rattle.profile.proofs.Merge.{Cursor, extends?}
+use Rattle.theory.proofs.Looks.{pairs-in}
+use Rattle.theory.proofs.Merge.{Cursor, extends?}
 use Rattle.counts.specs.Counts.{words}
 use Rattle.merge.specs.Merge.{advanced, least-of, united}
 use Rattle.forward.specs.declared.Merged.{Merged}

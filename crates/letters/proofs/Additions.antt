@@ -17,11 +17,11 @@ use Rattle.profile.specs.Lists.{Mem, all, below, filter}
 use Rattle.profile.specs.Prefixes.{IsPrefix, at}
 use Rattle.profile.specs.Tables.{count-field, layout, packed}
 use Rattle.profile.specs.Traces.{bit, letters-below}
-use Rattle.profile.proofs.Counting.{at-map, length-range}
+use Rattle.theory.proofs.Counting.{at-map, length-range}
 use Rattle.profile.proofs.Lists.{all-at, all-of, below-at, below-of, below-suc, both, filter-agree, filter-at, filter-last-no, filter-last-yes, filter-of, fst-of, mem-place, snd-of}
-use Rattle.profile.proofs.Looks.{additions}
-use Rattle.profile.proofs.Packing.{field-packed}
-use Rattle.profile.proofs.Prefixes.{count-le}
+use Rattle.theory.proofs.Looks.{additions}
+use Rattle.theory.proofs.Packing.{field-packed}
+use Rattle.theory.proofs.Prefixes.{count-le}
 use Rattle.profile.proofs.Sets.{T-eq, bit-self, bit-single, union-at, union-of}
 use Rattle.counts.proofs.Packed.{Small}
 use Rattle.events.specs.Events.{comes-next?, lets-by?, next-places, place-start, place-table, places-of}

@@ -15,7 +15,7 @@ use Rattle.profile.specs.declared.Refusal.{Refusal}
 use Rattle.profile.specs.declared.Refusal.the-variants.{ShortBuffer}
 use Rattle.profile.specs.declared.Shape.{Shape}
 use Rattle.profile.proofs.Lists.{all-at, flat-map-length}
-use Rattle.profile.proofs.Refusals.{GoodLog, GoodProfile, lowest-append}
+use Rattle.theory.proofs.Refusals.{GoodLog, GoodProfile, lowest-append}
 use Rattle.logfile.specs.Files.{Fit, field, file-bytes, file-masks, file-moves, file-refusals, file-shape, filled, log-length, low-bytes, read-refusal, read-refusals, reading, section, short-buffers, trailer-bytes, write-refusal, write-refusals, writing}
 use Rattle.logfile.specs.declared.reader.Reading.{Reading}
 use Rattle.logfile.specs.declared.reader.Reading.the-variants.{Told}

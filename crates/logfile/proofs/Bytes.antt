@@ -11,7 +11,7 @@ use lib.Pow.{pow-add}
 use lib.Seq.{sets, drop-cons, sets-eq, take-nil, take-suc}
 use Rattle.profile.specs.Lists.{below, flat-map}
 use Rattle.profile.specs.Tables.{pack}
-use Rattle.profile.proofs.Counting.{length-range}
+use Rattle.theory.proofs.Counting.{length-range}
 use Rattle.profile.proofs.Lists.{below-suc, flat-map-length, lt-or-le}
 use Rattle.logfile.specs.Files.{half, low-bytes, number, numbers-from, word}
 

@@ -20,9 +20,9 @@ use Rattle.profile.specs.Traces.{independent}
 use Rattle.profile.specs.declared.Refusal.{Refusal}
 use Rattle.profile.specs.declared.Refusal.the-variants.{Distance, OutOfRange, ShortBuffer, ShortFile}
 use Rattle.profile.specs.declared.Shape.{Shape}
-use Rattle.profile.proofs.Counting.{at-map, length-range}
+use Rattle.theory.proofs.Counting.{at-map, length-range}
 use Rattle.profile.proofs.Lists.{any-of, below-of, flat-map-length, mem-getD, mem-place, or-left, test}
-use Rattle.profile.proofs.Refusals.{GoodProfile, log-at, lowest-none, profile-at}
+use Rattle.theory.proofs.Refusals.{GoodProfile, log-at, lowest-none, profile-at}
 use Rattle.logfile.specs.Files.{content-refusals, distance, distance-out-of-range, field, file-bytes, file-log, file-masks, file-moves, file-out-of-range, file-profile, file-refusals, file-shape, log-length, log-part-of, low-bytes, masks-distance, moves-distance, number, numbers-from, outside, read-refusal, section, shape, short-file, trailer, trailer-bytes, unless, word, write-refusal}
 use Rattle.logfile.proofs.Answers.{buffers-long, file-length}
 use Rattle.logfile.proofs.Bytes.{low-length, pack-low}

@@ -15,7 +15,7 @@ use Rattle.profile.specs.Refusals.{asymmetric, log-refusals, lowest, mask-bit, 
 use Rattle.profile.specs.declared.Shape.{Shape}
 use Rattle.profile.specs.declared.Refusal.{Refusal}
 use Rattle.profile.specs.declared.Refusal.the-variants.{Asymmetric, MaskBit, StateBit}
-use Rattle.profile.proofs.Refusals.{lowest-append, lowest-first, lowest-none}
+use Rattle.theory.proofs.Refusals.{lowest-append, lowest-first, lowest-none}
 use Rattle.logfile.specs.Files.{content-refusals, distance, distance-out-of-range, field, file-log, file-masks, file-moves, file-out-of-range, file-profile, file-refusals, file-shape, log-length, numbers-from, numbers-out-of-range, outside, section, trailer}
 use Rattle.logfile.proofs.Bytes.{numbers-length}
 

@@ -14,6 +14,8 @@ use Rattle.profile.specs.declared.Shape.{Shape}
 use Rattle.profile.specs.declared.Refusal.{Refusal}
 use Rattle.profile.specs.declared.Refusal.the-variants.{Asymmetric, Distance, MaskBit, OutOfRange, ShortBuffer, ShortFile, StateBit}
 use Rattle.logfile.specs.declared.reader.Reading.{Reading}
+use Rattle.logfile.specs.declared.reader.Located.{Located}
+use Rattle.logfile.specs.declared.reader.Located.the-variants.{At}
 use Rattle.logfile.specs.declared.writer.Writing.{Writing}
 use Rattle.logfile.specs.declared.writer.Writing.the-variants.{Length}
 use Rattle.logfile.specs.declared.reader.Reading.the-variants.{Told}
@@ -119,6 +121,14 @@ reading (some r) h n = Reading.Refused r
 -- "a lent … buffer": l from its start, "further elements unchanged"; refused, it is as before
 abbrev pub filled : Option Refusal → List ℕ → List ℕ → List ℕ
 filled r l before = unless r (l ++ drop (length l) before) before
+
+-- where the log section stands: its first place and its length, or the refusal
+abbrev pub located : Option Refusal → ℕ → ℕ → Located
+located none i n = At i n
+located (some r) i n = Located.Refused r
+
+abbrev pub log-location : List ℕ → Located
+log-location f = located (lowest (file-refusals f)) (section f 8) (log-length f)
 
 -- "handed back as that part of the file"; "A file refused by 1 to 8 hands back an empty part"
 abbrev pub log-part-of : List ℕ → List ℕ

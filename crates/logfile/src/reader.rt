@@ -6,10 +6,16 @@ ghost use Prim.Native.Nat.{_+_, _*_, _≤_};
 ghost use lib.ListN.{length, getD, drop};
 ghost use Rattle.profile.specs.Refusals.{lowest};
 ghost use Rattle.checks.specs.Checks.{checked};
-ghost use Rattle.logfile.specs.Files.{content-refusals, distance-out-of-range, field, file-log, file-masks, file-moves, file-out-of-range, file-profile, file-refusals, file-shape, filled, half, log-length, log-part-of, numbers-from, numbers-out-of-range, outside, read-refusal, reading, section, trailer, word};
+ghost use Rattle.logfile.specs.Files.{content-refusals, distance-out-of-range, field, file-log, file-masks, file-moves, file-out-of-range, file-profile, file-refusals, file-shape, filled, half, log-length, log-location, log-part-of, numbers-from, numbers-out-of-range, outside, read-refusal, reading, section, trailer, word};
 use checks::Check;
 use profile::Refusal;
 use profile::Shape;
+
+// Where the log section of a file stands: why the file is refused, or the section's first place and its length.
+pub enum Located {
+    Refused(Refusal),
+    At(usize, usize),
+}
 
 // The answer of the reader: why the call is refused, or the file's numbers and its log's length.
 pub enum Reading {
@@ -227,6 +233,17 @@ fn check_file(f: &[u8]) -> Check
         return Check::Bad(Refusal::Distance);
     }
     check_content(f)
+}
+
+// Where the log section stands: its first place and its length, or the lowest of refusals 1 to 8.
+pub fn locate_log(file: &[u8]) -> Located
+    ensures { λ r. ⌜ r ≡ log-location (now (file .entry)) ⌝ }
+{
+    let check = check_file(file);
+    if let Check::Bad(r) = check {
+        return Located::Refused(r);
+    }
+    Located::At(section_at(file, 8), field_at(file, 3))
 }
 
 // The log section as that part of the file, uncopied; empty where the file is refused by 1 to 8.

@@ -12,7 +12,7 @@ use Rattle.profile.specs.Lists.{below, equal?, first-place, range}
 use Rattle.profile.specs.Traces.{bit}
 use Rattle.profile.specs.Prefixes.{at}
 use Rattle.profile.proofs.Lists.{below-suc, fst-of}
-use Rattle.profile.proofs.Counting.{at-map, length-range}
+use Rattle.theory.proofs.Counting.{at-map, length-range}
 use Rattle.records.specs.Records.{last-at, records-in}
 use Rattle.merge.specs.Merge.{gives?, grown, seek-from}
 

@@ -18,9 +18,9 @@ use Rattle.profile.specs.Automata.{forward-step, union}
 use Rattle.profile.specs.Prefixes.{at}
 use Rattle.profile.specs.Tables.{layout, packed}
 use Rattle.profile.proofs.Lists.{below-at, filter-agree, filter-at, is-false, is-true, lt-or-le, mem-getD, test}
-use Rattle.profile.proofs.Earliest.{ge-of-test, no-later-antisym, no-later-of-test}
-use Rattle.profile.proofs.Levels.{bump}
-use Rattle.profile.proofs.Merge.{hits, hits-at, seek}
+use Rattle.theory.proofs.Earliest.{ge-of-test, no-later-antisym, no-later-of-test}
+use Rattle.theory.proofs.Levels.{bump}
+use Rattle.theory.proofs.Merge.{hits, hits-at, seek}
 use Rattle.counts.specs.Counts.{add-count, before?}
 use Rattle.counts.proofs.Packed.{Small, add-packed, before-packed, same-packed}
 use Rattle.records.specs.Records.{forward-at, last-at, records-in}

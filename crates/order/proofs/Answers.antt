@@ -11,7 +11,7 @@ use Rattle.profile.specs.declared.Refusal.the-variants.{ShortBuffer}
 use Rattle.profile.specs.Orders.{same?}
 use Rattle.profile.specs.Refusals.{first-order-refusal, log-refusals, lowest, of-log, relation-refusals, same-refusal, short-buffer}
 use Rattle.profile.specs.Traces.{independent}
-use Rattle.profile.proofs.Refusals.{lowest-append, lowest-first}
+use Rattle.theory.proofs.Refusals.{lowest-append, lowest-first}
 use Rattle.order.specs.declared.Compared.the-variants.{Refused}
 use Rattle.order.specs.Order.{compared-as, compared-values, comparison, first-letters, ordered-as, ordered-buffer, ordered-values, ordering, unless-refused}
 use Rattle.profile.proofs.Edges.{told, told-same}

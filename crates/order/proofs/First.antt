@@ -15,12 +15,12 @@ use Rattle.profile.specs.Lists.{below, first-place, range}
 use Rattle.profile.specs.Orders.{first-order}
 use Rattle.profile.specs.Prefixes.{IsPrefix, count, one, unmarked}
 use Rattle.profile.specs.Traces.{independent}
-use Rattle.profile.proofs.Counting.{at-map}
-use Rattle.profile.proofs.Earliest.{Greedy, end, first-greedy, greedy-append, greedy-takes, take}
+use Rattle.theory.proofs.Counting.{at-map}
+use Rattle.theory.proofs.Earliest.{Greedy, end, first-greedy, greedy-append, greedy-takes, take}
 use Rattle.profile.proofs.Lists.{below-suc, is-true}
-use Rattle.profile.proofs.Prefixes.{addable-at, addable-of, addable?, all-of-pick, count-append, count-le, more, more-of-pick, one-cases, one-same, prefix-of-takes}
-use Rattle.profile.proofs.Profiles.{distinct}
-use Rattle.profile.proofs.Refusals.{GoodLog, Relation}
+use Rattle.theory.proofs.Prefixes.{addable-at, addable-of, addable?, all-of-pick, count-append, count-le, more, more-of-pick, one-cases, one-same, prefix-of-takes}
+use Rattle.theory.proofs.Profiles.{distinct}
+use Rattle.theory.proofs.Refusals.{GoodLog, Relation}
 use Rattle.profile.proofs.Traces.{Pick, Takes, first, takes-length}
 use Rattle.events.specs.Events.{comes-next?, next-places, place-start, place-table, places-of}
 use Rattle.events.proofs.Adding.{comes-next-addable, next-places-more}

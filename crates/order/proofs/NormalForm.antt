@@ -12,10 +12,10 @@ use lib.Seq.{take-at}
 use Rattle.profile.specs.Orders.{Same, first-order, same?}
 use Rattle.profile.specs.Refusals.{log-refusals, lowest, relation-refusals}
 use Rattle.profile.specs.Traces.{independent, orders}
-use Rattle.profile.proofs.Earliest.{earliest-at, first-of, first-same, same-first}
+use Rattle.theory.proofs.Earliest.{earliest-at, first-of, first-same, same-first}
 use Rattle.profile.proofs.Lists.{is-true}
-use Rattle.profile.proofs.Refusals.{log-at, relation-at}
-use Rattle.profile.proofs.Sameness.{same-test}
+use Rattle.theory.proofs.Refusals.{log-at, relation-at}
+use Rattle.theory.proofs.Sameness.{same-test}
 use Rattle.profile.proofs.Traces.{order-of-mem, takes-length}
 use Rattle.order.specs.declared.Compared.the-variants.{Equal}
 use Rattle.order.specs.Order.{comparison, first-letters, letters-or-none, ordered-buffer}

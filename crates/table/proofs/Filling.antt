@@ -19,12 +19,12 @@ use Rattle.profile.specs.Refusals.{full-table, log-refusals, lowest, profile-re
 use Rattle.profile.specs.declared.Refusal.{Refusal}
 use Rattle.profile.specs.declared.Refusal.the-variants.{FullTable}
 use Rattle.profile.proofs.Lists.{filter-at}
-use Rattle.profile.proofs.Levels.{by-total, by-total-at, by-total-length, by-total-nodup, by-total-of, level}
-use Rattle.profile.proofs.Refusals.{log-at, lowest-append, lowest-first, profile-at}
+use Rattle.theory.proofs.Levels.{by-total, by-total-at, by-total-length, by-total-nodup, by-total-of, level}
+use Rattle.theory.proofs.Refusals.{log-at, lowest-append, lowest-first, profile-at}
 use Rattle.profile.specs.Tables.{Looks}
 use Rattle.profile.proofs.Lists.{flat-map-length}
-use Rattle.profile.proofs.Looks.{looks-within}
-use Rattle.profile.proofs.Profiles.{distinct}
+use Rattle.theory.proofs.Looks.{looks-within}
+use Rattle.theory.proofs.Profiles.{distinct}
 use Rattle.forward.specs.Forward.{Forward}
 use Rattle.forward.specs.declared.Filled.the-variants.{Done, Full}
 use Rattle.backward.specs.Backward.{Drafted}

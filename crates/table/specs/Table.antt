@@ -11,7 +11,7 @@ use Rattle.profile.specs.Automata.{Profile, automaton}
 use Rattle.profile.specs.Prefixes.{prefix-count}
 use Rattle.profile.specs.Tables.{Holds, Looks, capacity, layout}
 use Rattle.profile.specs.Refusals.{full-table, log-refusals, lowest, profile-refusals}
-use Rattle.profile.proofs.Refusals.{GoodLog, GoodProfile}
+use Rattle.theory.proofs.Refusals.{GoodLog, GoodProfile}
 use Rattle.profile.specs.declared.Refusal.{Refusal}
 use Rattle.profile.specs.declared.Refusal.the-variants.{FullTable}
 use Rattle.table.specs.declared.Built.{Built}

@@ -15,7 +15,7 @@ use Rattle.profile.specs.Orders.{Earlier, Same}
 use Rattle.profile.specs.Refusals.{judge-refusal}
 use Rattle.profile.specs.declared.Refusal.{Refusal}
 use Rattle.profile.specs.declared.Refusal.the-variants.{FullTable}
-use Rattle.profile.proofs.Demands.{Witness, no-order, order-earliest, order-of, same-answer}
+use Rattle.theory.proofs.Demands.{Witness, no-order, order-earliest, order-of, same-answer}
 use Rattle.verdict.specs.Verdict.{Promise, refused-by, verdict-number}
 use Rattle.verdict.specs.declared.Judged.{Judged}
 use Rattle.verdict.specs.declared.Judged.the-variants.{NoOrder, Order, Refused}

@@ -14,10 +14,10 @@ use Rattle.profile.specs.Refusals.{admission-refusals, full-table, judge-refusa
 use Rattle.profile.specs.declared.Refusal.{Refusal}
 use Rattle.profile.specs.declared.Refusal.the-variants.{FullTable, ShortBuffer}
 use Rattle.profile.specs.Tables.{capacity, layout}
-use Rattle.profile.proofs.Refusals.{lowest-append, lowest-first, lowest-none}
-use Rattle.profile.proofs.Refusals.{Admitted, admitted-at, log-at, profile-at}
+use Rattle.theory.proofs.Refusals.{lowest-append, lowest-first, lowest-none}
+use Rattle.theory.proofs.Refusals.{Admitted, admitted-at, log-at, profile-at}
 use Rattle.profile.proofs.Traces.{order-of-reach, takes-length}
-use Rattle.profile.proofs.Demands.{order-earliest}
+use Rattle.theory.proofs.Demands.{order-earliest}
 use Rattle.table.specs.Table.{build-refusals}
 use Rattle.table.specs.Table as Built
 use Rattle.table.specs.declared.Built.the-variants as built

@@ -17,7 +17,7 @@ use Rattle.profile.specs.Lists.{below, equal?}
 use Rattle.profile.specs.Tables.{layout}
 use Rattle.profile.specs.Traces.{bit}
 use Rattle.profile.proofs.Lists.{lt-or-le}
-use Rattle.profile.proofs.Merge.{seek}
+use Rattle.theory.proofs.Merge.{seek}
 use Rattle.profile.proofs.Sets.{shift-mask, union-no, union-yes}
 use Rattle.counts.specs.Counts.{add-count, words}
 use Rattle.counts.specs.declared.Counts.{Counts}

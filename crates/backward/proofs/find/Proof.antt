@@ -5,7 +5,7 @@ use mathlib.Core.Path.{_≡_, refl, sym, _∙_, ap}
 use mathlib.Core.Bool.{Bool}
 use borrow.Author.Needs.{needs}
 use Rattle.profile.specs.Lists.{below, equal?}
-use Rattle.profile.proofs.Merge.{seek}
+use Rattle.theory.proofs.Merge.{seek}
 use Rattle.counts.specs.Counts.{words}
 use Rattle.counts.specs.declared.Counts.{Counts}
 use Rattle.records.specs.Records.{counts-at, records-in}

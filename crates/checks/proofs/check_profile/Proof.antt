@@ -7,7 +7,7 @@ use Rattle.profile.specs.Automata.{Profile, profile-of}
 use Rattle.profile.specs.Refusals.{lowest, profile-out-of-range, state-bit}
 use Rattle.profile.specs.declared.Refusal.{Refusal}
 use Rattle.profile.specs.declared.Refusal.the-variants.{StateBit}
-use Rattle.profile.proofs.Refusals.{lowest-append, lowest-first}
+use Rattle.theory.proofs.Refusals.{lowest-append, lowest-first}
 use Rattle.checks.specs.Checks.{checked, mask-refusals}
 use Rattle.checks.proofs.check_profile.Statement.{statement}
 use Rattle.checks.proofs.check_profile.Tie as tie

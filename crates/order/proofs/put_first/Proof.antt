@@ -4,7 +4,7 @@ use mathlib.Core.Path.{refl, _∙_}
 use Prim.Native.Nat.{_-_}
 use lib.ListN.{replicate}
 use lib.Seq.{length-take-le}
-use Rattle.profile.proofs.Refusals.{log-at, relation-at}
+use Rattle.theory.proofs.Refusals.{log-at, relation-at}
 use Rattle.order.proofs.First.{getD-zeros}
 use native.Mathlib.Omega.{arith}
 use Rattle.order.proofs.put_first.Statement.{statement}

@@ -5,7 +5,7 @@ use mathlib.Core.List.{map}
 use Prim.Native.Nat.{_+_, _-_, _≤_, _<_}
 use lib.ListN.{length, getD, length-set}
 use Rattle.profile.specs.Lists.{below}
-use Rattle.profile.proofs.Refusals.{log-at, relation-at}
+use Rattle.theory.proofs.Refusals.{log-at, relation-at}
 use Rattle.order.proofs.First.{Chosen, chosen-all, chosen-below, chosen-fits, chosen-length, chosen-more, chosen-none, first-coming}
 use native.Mathlib.Omega.{arith}
 use Rattle.order.proofs.put_letters.Statement.{statement}

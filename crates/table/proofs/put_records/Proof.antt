@@ -4,7 +4,7 @@ use mathlib.Core.List.{map}
 use native.Mathlib.Omega.{arith}
 use lib.ListN.{length}
 use Rattle.profile.specs.Lists.{below}
-use Rattle.profile.proofs.Counting.{length-range}
+use Rattle.theory.proofs.Counting.{length-range}
 use Rattle.events.specs.Events.{place-start, place-table}
 use Rattle.table.proofs.Filling.{behind-own}
 use Rattle.table.proofs.put_records.Statement.{statement}

@@ -8,7 +8,7 @@ use native.Mathlib.Omega.{arith}
 use lib.ListN.{length}
 use Rattle.profile.specs.Refusals.{lowest}
 use Rattle.profile.specs.declared.Refusal.the-variants.{ShortBuffer}
-use Rattle.profile.proofs.Refusals.{lowest-first}
+use Rattle.theory.proofs.Refusals.{lowest-first}
 use Rattle.checks.specs.Checks.{checked}
 use Rattle.logfile.specs.Files.{field, file-refusals, short-buffers}
 use Rattle.logfile.proofs.Answers.{buffers-long, masks-short, moves-short, read-refused, read-told}

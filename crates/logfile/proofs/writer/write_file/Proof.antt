@@ -12,7 +12,7 @@ use Rattle.profile.specs.Automata.{Profile, profile-of}
 use Rattle.profile.specs.Refusals.{log-refusals, lowest, profile-refusals, short-buffer}
 use Rattle.profile.specs.declared.Refusal.{Refusal}
 use Rattle.profile.specs.declared.Refusal.the-variants.{ShortBuffer}
-use Rattle.profile.proofs.Refusals.{log-at, lowest-append, lowest-first, profile-at}
+use Rattle.theory.proofs.Refusals.{log-at, lowest-append, lowest-first, profile-at}
 use Rattle.checks.specs.Checks.{checked}
 use Rattle.logfile.specs.Files.{file-bytes}
 use Rattle.logfile.proofs.Answers.{file-fits, file-length, file-short, fit-of, write-refused, write-told}

@@ -1,0 +1,328 @@
+// What C and Rust link: each function returns the refusal's number, or 0, and tells the rest as numbers. `include/fumarehi.h` declares them.
+ghost use mathlib.Core.Path.{_≡_};
+ghost use lib.ListN.{length};
+ghost use Rattle.profile.specs.Automata.{profile-of};
+ghost use Rattle.profile.specs.Refusals.{lowest, refusal-number, refusal-place};
+ghost use Rattle.order.specs.Order.{comparison, ordered-buffer, ordering};
+ghost use Rattle.logfile.specs.Files.{file-bytes, file-masks, file-moves, file-shape, filled, log-location, log-length, read-refusal, reading, write-refusal, writing};
+ghost use Rattle.logreader.specs.Events.{event-of, place-behind};
+ghost use Rattle.capi.specs.Numbers.{Building, Judging, built-code, built-told, compared-code, compared-told, event-number, judged-code, judged-told, located-code, located-told, ordered-code, ordered-told, reading-code, reading-told, writing-code, writing-told};
+use logfile::Located;
+use logfile::Reading;
+use logfile::Writing;
+use logreader::Event;
+use order::Compared;
+use order::Ordered;
+use profile::Refusal;
+use profile::Shape;
+use table::Built;
+use verdict::Judged;
+
+// The place of a refusal, in 64 bits.
+fn place_of(r: Refusal) -> u64
+    ensures { λ n. ⌜ n ≡ refusal-place r ⌝ }
+{
+    profile::place(r) as u64
+}
+
+fn judged_code(judged: Judged) -> u32
+    ensures { λ n. ⌜ n ≡ judged-code judged ⌝ }
+{
+    match judged {
+        Judged::Refused(r) => profile::number(r),
+        Judged::NoOrder {
+            prefixes: _,
+            looks: _,
+        } => 0,
+        Judged::Order {
+            prefixes: _,
+            looks: _,
+        } => 0,
+    }
+}
+
+fn judged_told(judged: Judged) -> [u64; 4]
+    ensures { λ l. ⌜ l ≡ judged-told judged ⌝ }
+{
+    match judged {
+        Judged::Refused(r) => [place_of(r), 0, 0, 0],
+        Judged::NoOrder { prefixes, looks } => [0, 0, prefixes as u64, looks],
+        Judged::Order { prefixes, looks } => [0, 1, prefixes as u64, looks],
+    }
+}
+
+// The judge.
+#[no_mangle]
+pub extern "C" fn fumarehi_judge(
+    k: usize,
+    s: usize,
+    start: usize,
+    finals: u32,
+    masks: &[u16],
+    moves: &[u32],
+    log: &[u8],
+    order: &mut [u8],
+    work: &mut [u32],
+    told: &mut [u64; 4],
+) -> u32
+    ensures { λ r. ⌜ Judging (profile-of (record { k = k; s = s; start = start; finals = finals }) (now (masks .entry)) (now (moves .entry))) (now (log .entry)) (now (order .entry)) (now (order .exit)) (now (work .entry)) (now (work .exit)) r (now (told .exit)) ⌝ }
+{
+    let shape = Shape {
+        k: k,
+        s: s,
+        start: start,
+        finals: finals,
+    };
+    let judged = verdict::judge(shape, masks, moves, log, order, work);
+    *told = judged_told(judged);
+    judged_code(judged)
+}
+
+fn built_code(built: Built) -> u32
+    ensures { λ n. ⌜ n ≡ built-code built ⌝ }
+{
+    match built {
+        Built::Refused(r) => profile::number(r),
+        Built::Filled {
+            prefixes: _,
+            looks: _,
+        } => 0,
+    }
+}
+
+fn built_told(built: Built) -> [u64; 3]
+    ensures { λ l. ⌜ l ≡ built-told built ⌝ }
+{
+    match built {
+        Built::Refused(r) => [place_of(r), 0, 0],
+        Built::Filled { prefixes, looks } => [0, prefixes as u64, looks],
+    }
+}
+
+// The prefix table.
+#[no_mangle]
+pub extern "C" fn fumarehi_table(
+    k: usize,
+    s: usize,
+    start: usize,
+    finals: u32,
+    masks: &[u16],
+    moves: &[u32],
+    log: &[u8],
+    table: &mut [u32],
+    told: &mut [u64; 3],
+) -> u32
+    ensures { λ r. ⌜ Building (profile-of (record { k = k; s = s; start = start; finals = finals }) (now (masks .entry)) (now (moves .entry))) (now (log .entry)) (now (table .entry)) (now (table .exit)) r (now (told .exit)) ⌝ }
+{
+    let shape = Shape {
+        k: k,
+        s: s,
+        start: start,
+        finals: finals,
+    };
+    let built = table::build(shape, masks, moves, log, table);
+    *told = built_told(built);
+    built_code(built)
+}
+
+fn compared_code(compared: Compared) -> u32
+    ensures { λ n. ⌜ n ≡ compared-code compared ⌝ }
+{
+    match compared {
+        Compared::Equal => 0,
+        Compared::Different => 0,
+        Compared::Refused(r, _) => profile::number(r),
+    }
+}
+
+fn compared_told(compared: Compared) -> [u64; 3]
+    ensures { λ l. ⌜ l ≡ compared-told compared ⌝ }
+{
+    match compared {
+        Compared::Equal => [0, 0, 1],
+        Compared::Different => [0, 0, 0],
+        Compared::Refused(r, log) => [place_of(r), log as u64, 0],
+    }
+}
+
+// Same.
+#[no_mangle]
+pub extern "C" fn fumarehi_same(
+    k: usize,
+    masks: &[u16],
+    first: &[u8],
+    second: &[u8],
+    told: &mut [u64; 3],
+) -> u32
+    ensures { λ r. ⌜ (let c = comparison k (now (masks .entry)) (now (first .entry)) (now (second .entry)) in (r ≡ compared-code c) × (now (told .exit) ≡ compared-told c)) ⌝ }
+{
+    let compared = order::same(k, masks, first, second);
+    *told = compared_told(compared);
+    compared_code(compared)
+}
+
+fn ordered_code(ordered: Ordered) -> u32
+    ensures { λ n. ⌜ n ≡ ordered-code ordered ⌝ }
+{
+    match ordered {
+        Ordered::Written => 0,
+        Ordered::Refused(r) => profile::number(r),
+    }
+}
+
+fn ordered_told(ordered: Ordered) -> [u64; 1]
+    ensures { λ l. ⌜ l ≡ ordered-told ordered ⌝ }
+{
+    match ordered {
+        Ordered::Written => [0],
+        Ordered::Refused(r) => [place_of(r)],
+    }
+}
+
+// First order.
+#[no_mangle]
+pub extern "C" fn fumarehi_first_order(
+    k: usize,
+    masks: &[u16],
+    log: &[u8],
+    order: &mut [u8],
+    told: &mut [u64; 1],
+) -> u32
+    ensures { λ r. ⌜ (let o = ordering k (now (masks .entry)) (now (log .entry)) (length (now (order .entry))) in (r ≡ ordered-code o) × (now (told .exit) ≡ ordered-told o)) ⌝ }
+    ensures { λ _. ⌜ now (order .exit) ≡ ordered-buffer k (now (masks .entry)) (now (log .entry)) (now (order .entry)) ⌝ }
+{
+    let ordered = order::first_order(k, masks, log, order);
+    *told = ordered_told(ordered);
+    ordered_code(ordered)
+}
+
+fn reading_code(reading: Reading) -> u32
+    ensures { λ n. ⌜ n ≡ reading-code reading ⌝ }
+{
+    match reading {
+        Reading::Refused(r) => profile::number(r),
+        Reading::Told(_, _) => 0,
+    }
+}
+
+fn reading_told(reading: Reading) -> [u64; 6]
+    ensures { λ l. ⌜ l ≡ reading-told reading ⌝ }
+{
+    match reading {
+        Reading::Refused(r) => [place_of(r), 0, 0, 0, 0, 0],
+        Reading::Told(shape, n) => {
+            let k = shape.k as u64;
+            let s = shape.s as u64;
+            let start = shape.start as u64;
+            let finals = shape.finals as u64;
+            [0, k, s, start, finals, n as u64]
+        }
+    }
+}
+
+// The file reader.
+#[no_mangle]
+pub extern "C" fn fumarehi_read_file(
+    file: &[u8],
+    masks: &mut [u16],
+    moves: &mut [u32],
+    told: &mut [u64; 6],
+) -> u32
+    ensures { λ r. ⌜ (let f = now (file .entry) in let q = read-refusal f (length (now (masks .entry))) (length (now (moves .entry))) in
+        let a = reading q (file-shape f) (log-length f) in
+        (r ≡ reading-code a) × (now (told .exit) ≡ reading-told a) × (now (masks .exit) ≡ filled q (file-masks f) (now (masks .entry)))
+        × (now (moves .exit) ≡ filled q (file-moves f) (now (moves .entry)))) ⌝ }
+{
+    let reading = logfile::read_file(file, masks, moves);
+    *told = reading_told(reading);
+    reading_code(reading)
+}
+
+fn located_code(located: Located) -> u32
+    ensures { λ n. ⌜ n ≡ located-code located ⌝ }
+{
+    match located {
+        Located::Refused(r) => profile::number(r),
+        Located::At(_, _) => 0,
+    }
+}
+
+fn located_told(located: Located) -> [u64; 3]
+    ensures { λ l. ⌜ l ≡ located-told located ⌝ }
+{
+    match located {
+        Located::Refused(r) => [place_of(r), 0, 0],
+        Located::At(offset, n) => [0, offset as u64, n as u64],
+    }
+}
+
+// The log part.
+#[no_mangle]
+pub extern "C" fn fumarehi_log_part(file: &[u8], told: &mut [u64; 3]) -> u32
+    ensures { λ r. ⌜ (let a = log-location (now (file .entry)) in (r ≡ located-code a) × (now (told .exit) ≡ located-told a)) ⌝ }
+{
+    let located = logfile::locate_log(file);
+    *told = located_told(located);
+    located_code(located)
+}
+
+fn writing_code(writing: Writing) -> u32
+    ensures { λ n. ⌜ n ≡ writing-code writing ⌝ }
+{
+    match writing {
+        Writing::Refused(r) => profile::number(r),
+        Writing::Length(_) => 0,
+    }
+}
+
+fn writing_told(writing: Writing) -> [u64; 2]
+    ensures { λ l. ⌜ l ≡ writing-told writing ⌝ }
+{
+    match writing {
+        Writing::Refused(r) => [place_of(r), 0],
+        Writing::Length(n) => [0, n as u64],
+    }
+}
+
+// The file writer.
+#[no_mangle]
+pub extern "C" fn fumarehi_write_file(
+    k: usize,
+    s: usize,
+    start: usize,
+    finals: u32,
+    masks: &[u16],
+    moves: &[u32],
+    log: &[u8],
+    file: &mut [u8],
+    told: &mut [u64; 2],
+) -> u32
+    ensures { λ r. ⌜ (let p = profile-of (record { k = k; s = s; start = start; finals = finals }) (now (masks .entry)) (now (moves .entry)) in
+        let l = file-bytes p (now (log .entry)) in let q = write-refusal p (now (log .entry)) (length (now (file .entry))) in let a = writing q (length l) in
+        (r ≡ writing-code a) × (now (told .exit) ≡ writing-told a) × (now (file .exit) ≡ filled q l (now (file .entry)))) ⌝ }
+{
+    let shape = Shape {
+        k: k,
+        s: s,
+        start: start,
+        finals: finals,
+    };
+    let writing = logfile::write_file(shape, masks, moves, log, file);
+    *told = writing_told(writing);
+    writing_code(writing)
+}
+
+// The log reader: the event at a place, which advances one.
+#[no_mangle]
+pub extern "C" fn fumarehi_next_event(log: &[u8], at: &mut usize) -> u32
+    ensures { λ r. ⌜ r ≡ event-number (event-of (now (log .entry)) (now (at .entry))) ⌝ }
+    ensures { λ _. ⌜ now (at .exit) ≡ place-behind (now (log .entry)) (now (at .entry)) ⌝ }
+{
+    let from = *at;
+    let event = logreader::event_at(log, from);
+    *at = logreader::place_after(log, from);
+    match event {
+        Event::Letter(letter) => letter as u32,
+        Event::End => 256,
+    }
+}

@@ -1,0 +1,24 @@
+-- Laws about the definitions of `profile`, by subject; other crates cite them.
+-- reachable logs and prefixes
+pub mod Prefixes
+pub mod Scan
+pub mod Counting
+pub mod Levels
+-- automata and the earliest order
+pub mod Automata
+pub mod Profiles
+pub mod LetterOrder
+pub mod Earliest
+pub mod Judgement
+-- two logs, two relations
+pub mod Comparison
+pub mod Looks
+pub mod Sameness
+-- the table
+pub mod Packing
+pub mod Tables
+pub mod Merge
+-- refusals, and what the demands ask
+pub mod Refusals
+pub mod Agreement
+pub mod Demands

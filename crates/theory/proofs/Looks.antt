@@ -1,0 +1,175 @@
+-- Looks: the pairs of a prefix and a letter such that one more of that letter gives a prefix again.
+use mathlib.Core.Path.{_≡_, refl, sym, _∙_, ap, subst}
+use mathlib.Core.Bool.{Bool}
+use mathlib.Core.Logic.{_≢_}
+use mathlib.Core.List.{List, [], _∷_, _++_, map, append-nil, List·Memᴰ·head, List·Memᴰ·tail, Memᴰ·cast, Memᴰ·map, Memᴰ·of-map}
+use Prim.Native.Nat.{ℕ, zero, suc, _+_, _*_, _^_, _≤_, _<_}
+use native.Mathlib.Nat.{mul-le-mul-right}
+use native.Mathlib.Omega.{arith}
+use lib.Dec.{T, eqb, eqb-refl}
+use lib.ListN.{length, length-append, length-map, replicate}
+use Rattle.profile.specs.Automata.{Automaton}
+use Rattle.profile.specs.Lists.{Mem, NoDup, below, filter, flat-map}
+use Rattle.profile.specs.Prefixes.{at, prefix-count, prefixes, total}
+use Rattle.profile.specs.Tables.{Looks}
+use Rattle.profile.specs.Traces.{Reachable, letters-below}
+use Rattle.theory.proofs.Comparison.{back-over, over, prefixes-same}
+use Rattle.theory.proofs.Counting.{length-range, prefixes-at, prefixes-nodup}
+use Rattle.theory.proofs.Levels.{bump, by-total, by-total-at, by-total-nodup, by-total-of, level, level-last}
+use Rattle.profile.proofs.Lists.{below-of, below-suc, filter-agree, filter-at, filter-nodup, filter-of, flat-map-agree, flat-map-append, flat-map-at, flat-map-nodup, flat-map-of, map-nodup, nodup-length, range-nodup}
+use Rattle.theory.proofs.Prefixes.{addable-at, addable-of, addable?}
+use Rattle.profile.proofs.Sets.{T-eq}
+
+-- the letters of which one more gives a prefix again
+abbrev pub additions : (ℕ → ℕ → Bool) → (ℕ → ℕ) → ℕ → List ℕ → List ℕ → List ℕ
+additions may letter k w c = filter (addable? may letter w (at c)) (below k)
+
+-- the pairs of counts in l and such a letter, and these pairs for all prefixes
+abbrev pub pairs-in : (ℕ → ℕ → Bool) → (ℕ → ℕ) → ℕ → List ℕ → List (List ℕ) → ℕ
+pairs-in may letter k w l = length (flat-map (additions may letter k w) l)
+
+abbrev pub looks : (ℕ → ℕ → Bool) → (ℕ → ℕ) → ℕ → List ℕ → ℕ
+looks may letter k w = pairs-in may letter k w (prefixes may letter k w)
+
+-- the prefixes with one such letter more
+abbrev grown : (ℕ → ℕ → Bool) → (ℕ → ℕ) → ℕ → List ℕ → List (List ℕ)
+grown may letter k w = flat-map (λ c. map (bump c) (additions may letter k w c)) (prefixes may letter k w)
+
+-- ---- lengths of lists one after the other
+
+module _ {A B : Type 0} where
+  -- where no list f a has more than n elements
+  flat-map-length-le : (f : A → List B) (n : ℕ) → ((a : A) → length (f a) ≤ n) → (l : List A) → length (flat-map f l) ≤ length l * n
+  flat-map-length-le f n le [] = omega arith
+  flat-map-length-le f n le (a ∷ l) = omega (arith, length-append (f a) (flat-map f l), le a, flat-map-length-le f n le l)
+
+  -- the elements of each list f a may be mapped
+  flat-map-length-map : {C : Type 0} (f : A → List B) (g : A → B → C) (l : List A) → length (flat-map (λ a. map (g a) (f a)) l) ≡ length (flat-map f l)
+  flat-map-length-map f g [] = refl
+  flat-map-length-map f g (a ∷ l) =
+      omega (
+        arith,
+        length-append (map (g a) (f a)) (flat-map (λ a. map (g a) (f a)) l),
+        length-append (f a) (flat-map f l),
+        length-map (f a) (g a),
+        flat-map-length-map f g l,
+      )
+
+  module _ (f : A → List B) (once : (a : A) → NoDup (f a)) where
+    -- lists without repeats: more elements to go through, no smaller length
+    flat-map-length-more : (l r : List A) → NoDup l → ((a : A) → Mem a l → Mem a r) → length (flat-map f l) ≤ length (flat-map f r)
+    flat-map-length-more l r d h = omega (
+      arith,
+      nodup-length (flat-map pairs l) (flat-map pairs r)
+          (flat-map-nodup pairs l d (λ a. map-nodup (pair a) (λ x y e. ap (λ p. p .1) e) (f a) (once a))
+          (λ a c p m n. ap (λ p. p .0) (Memᴰ·of-map (pair a) (f a) m .2 ∙ sym (Memᴰ·of-map (pair c) (f c) n .2))))
+          (λ p m. let n = flat-map-at pairs l m in flat-map-of pairs (h (n .0) (n .1)) (n .2)),
+      flat-map-length-map f pair l,
+      flat-map-length-map f pair r,
+    )
+      where
+        pair : A → B → A × B
+        pair a b = (a, b)
+
+        pairs : A → List (A × B)
+        pairs a = map (pair a) (f a)
+
+    -- the same elements, the same length
+    pub flat-map-length-same : (l r : List A) → NoDup l → NoDup r → ((a : A) → Mem a l → Mem a r) → ((a : A) → Mem a r → Mem a l) → length (flat-map f l) ≡ length (flat-map f r)
+    flat-map-length-same l r d e g h = omega (arith, flat-map-length-more l r d g, flat-map-length-more r l e h)
+
+-- counts with the total 0 are all 0
+none-of-total : (c : List ℕ) → total c ≡ 0 → c ≡ replicate (length c) 0
+none-of-total [] e = refl
+none-of-total (zero ∷ c) e = ap (_∷_ 0) (none-of-total c (omega arith))
+none-of-total (suc n ∷ c) e = absurd (omega arith)
+
+module _ (may : ℕ → ℕ → Bool) (letter : ℕ → ℕ) (k : ℕ) (w : List ℕ) where
+  -- ---- the pairs of a list
+
+  pub pairs-cons : (c : List ℕ) (l : List (List ℕ)) → pairs-in may letter k w (c ∷ l) ≡ length (additions may letter k w c) + pairs-in may letter k w l
+  pairs-cons c l = length-append (additions may letter k w c) (flat-map (additions may letter k w) l)
+
+  pub pairs-append : (l r : List (List ℕ)) → pairs-in may letter k w (l ++ r) ≡ pairs-in may letter k w l + pairs-in may letter k w r
+  pairs-append l r =
+      ap length (flat-map-append (additions may letter k w) l r) ∙ length-append (flat-map (additions may letter k w) l) (flat-map (additions may letter k w) r)
+
+  -- for a loop over totals: one total more
+  pub pairs-suc : (n : ℕ) → pairs-in may letter k w (flat-map (level may letter k w) (below (suc n)))
+      ≡ pairs-in may letter k w (flat-map (level may letter k w) (below n)) + pairs-in may letter k w (level may letter k w n)
+  pairs-suc n =
+      ap (λ l. pairs-in may letter k w (flat-map (level may letter k w) l)) (below-suc n)
+      ∙ ap (pairs-in may letter k w) (flat-map-append (level may letter k w) (below n) (n ∷ []) ∙ ap (λ l. flat-map (level may letter k w) (below n) ++ l) (append-nil (level may letter k w n)))
+      ∙ pairs-append (flat-map (level may letter k w) (below n)) (level may letter k w n)
+
+  additions-le : (c : List ℕ) → length (additions may letter k w c) ≤ k
+  additions-le c = omega (
+    arith,
+    nodup-length (additions may letter k w c) (below k) (filter-nodup (addable? may letter w (at c)) (below k) (range-nodup k 0))
+        (λ x m. filter-at (addable? may letter w (at c)) (below k) m .0),
+    length-map (below k) (λ x. x),
+    length-range (λ x. x) k 0,
+  )
+
+  -- each prefix with at most k letters
+  looks-le : looks may letter k w ≤ prefix-count may letter k w * k
+  looks-le = flat-map-length-le (additions may letter k w) k additions-le (prefixes may letter k w)
+
+  -- no overflow of 64 bits where the table has place for the prefixes
+  pub looks-fits : prefix-count may letter k w ≤ 715827882 → k ≤ 16 → looks may letter k w < 2 ^ 64
+  looks-fits h g = omega (arith, looks-le, mul-le-mul-right k h)
+
+  -- ---- the pairs by rising total
+
+  module _ (letters : T (letters-below letter k w)) where
+    pub looks-by-total : looks may letter k w ≡ pairs-in may letter k w (by-total may letter k w)
+    looks-by-total = flat-map-length-same (additions may letter k w)
+        (λ c. filter-nodup (addable? may letter w (at c)) (below k) (range-nodup k 0))
+        (prefixes may letter k w) (by-total may letter k w) (prefixes-nodup may letter k w) (by-total-nodup may letter k w)
+        (λ c m. by-total-of may letter k w c letters m) (by-total-at may letter k w)
+
+    -- the pairs of all totals add up to the looks
+    pub looks-levels : looks may letter k w ≡ total (map (λ n. pairs-in may letter k w (level may letter k w n)) (below (suc (length w))))
+    looks-levels = looks-by-total ∙ go (below (suc (length w)))
+      where
+        go : (l : List ℕ) → pairs-in may letter k w (flat-map (level may letter k w) l) ≡ total (map (λ n. pairs-in may letter k w (level may letter k w n)) l)
+        go [] = refl
+        go (n ∷ l) = omega (arith, pairs-append (level may letter k w n) (flat-map (level may letter k w) l), go l)
+
+    -- ---- the bounds
+
+    module _ (distinct : (a b : ℕ) → T (may a b) → letter a ≢ letter b) where
+      -- every prefix is empty, or a prefix with one letter more
+      grown-of : (c : List ℕ) → Mem c (prefixes may letter k w) → Mem c (replicate k 0 ∷ grown may letter k w)
+      grown-of c m = go (total c) refl
+        where
+          go : (n : ℕ) → total c ≡ n → Mem c (replicate k 0 ∷ grown may letter k w)
+          go zero e = List·Memᴰ·head (none-of-total c e ∙ ap (λ n. replicate n 0) (prefixes-at may letter k w c letters m .0))
+          go (suc n) e =
+              let s = level-last may letter distinct k w letters n c (filter-of (λ d. eqb (total d) (suc n)) m (subst (λ z. T (eqb z (suc n))) (sym e) (eqb-refl (suc n)))) in
+              List·Memᴰ·tail (flat-map-of (λ d. map (bump d) (additions may letter k w d)) (filter-at (λ d. eqb (total d) n) (prefixes may letter k w) (s .2) .0)
+              (Memᴰ·cast (s .5) (Memᴰ·map (bump (s .0)) (filter-of (addable? may letter w (at (s .0))) (below-of k (s .1) (s .3)) (s .4)))))
+
+      pub looks-within : Looks (prefix-count may letter k w) k (looks may letter k w)
+      looks-within = (
+        omega (
+          arith,
+          nodup-length (prefixes may letter k w) (replicate k 0 ∷ grown may letter k w)
+              (prefixes-nodup may letter k w) grown-of,
+          flat-map-length-map (additions may letter k w) bump (prefixes may letter k w),
+        ),
+        looks-le,
+      )
+
+-- ---- logs reachable from each other
+
+module _ (letter : ℕ → ℕ) (M : Automaton) (may : ℕ → ℕ → Bool) {w v : List ℕ} (p : Reachable may w v) (q : Reachable may v w)
+    (distinct : (a b : ℕ) → T (may a b) → letter a ≢ letter b) (k : ℕ) (h : T (letters-below letter k w)) (g : T (letters-below letter k v)) where
+  pub looks-same : looks may letter k w ≡ looks may letter k v
+  looks-same = ap length (flat-map-agree (additions may letter k w) (additions may letter k v) (prefixes may letter k w)
+      (λ c m.
+      let n = prefixes-at may letter k w c h m .1 in
+      filter-agree (addable? may letter w (at c)) (addable? may letter v (at c)) (below k) (λ x _. T-eq (addable? may letter w (at c) x) (addable? may letter v (at c) x)
+      (λ t. addable-of may letter distinct (at c) x (over letter M may p q distinct k h g (addable-at may letter distinct n t .0)))
+      (λ t. addable-of may letter distinct (at c) x (back-over letter M may p q distinct k h g (addable-at may letter distinct (over letter M may p q distinct k h g n) t .0)))))
+      ∙ ap (flat-map (additions may letter k v)) (prefixes-same letter M may p q distinct k h g))

@@ -1,0 +1,129 @@
+/* Fumarehi: a proved judge of loan logs. The C interface of the static library libcapi.a ('rt staticlib capi').
+ *
+ * Answers. Every function but fumarehi_next_event returns 0, or the number of the refusal that applies, the lowest if several do:
+ *
+ *    1  file under 16 bytes
+ *    2  k, s or start out of range; trailer bytes 10 and 11 not zero; masks_len is not k, or moves_len is not s * k
+ *    3  a distance of the file is out of its range
+ *    4  a mask has a bit from k on, or its own bit
+ *    5  the masks are not symmetric
+ *    6  a move or the final set has a bit from s on
+ *    7  the log has more than 255 letters
+ *    8  a letter of the log is k or more; its first place in the log is told, from 0
+ *    9  an output buffer is shorter than what it must receive
+ *   10  the records of all prefixes do not fit the work table
+ *
+ * Each call writes every element of 'told'. Element 0 is the refusal's place: 0 but for refusal 8, and 0 where nothing is refused. After a refusal
+ * the other elements are 0 (fumarehi_same also tells the log). Each array lent as a buffer is unchanged after a refusal, but for the work table
+ * after refusal 10, whose content is then free.
+ *
+ * Arguments. A slice is a pointer and its length in elements. No argument is out of bounds for these functions: they answer for all numbers and all
+ * lengths. What the caller owes, since nothing here can test it:
+ *   - every pointer is not null and is aligned for its type, also where the length is 0;
+ *   - it points to as many elements as the length says, which stay allocated and, unless the type is const, are no other argument's, during the call;
+ *   - no other thread writes them meanwhile.
+ * The functions keep no pointer, use no global data, no heap and no file, and may be called by several threads at once. They use less than 8 KiB of stack.
+ *
+ * A profile is k letters (1 to 16), s states (1 to 32), the start state (below s), the set of final states (bit q for state q), k masks (bit j of mask i
+ * is set where letters i and j are independent) and s * k moves (at q * k + a, bit r is set where letter a may lead from state q to state r).
+ * A log is a letter per byte, 0 to k - 1.
+ */
+#ifndef FUMAREHI_H
+#define FUMAREHI_H
+
+#include <stddef.h>
+#include <stdint.h>
+
+#ifdef __cplusplus
+extern "C" {
+#endif
+
+/* The refusals by name. */
+enum {
+    FUMAREHI_SHORT_FILE = 1,
+    FUMAREHI_OUT_OF_RANGE = 2,
+    FUMAREHI_DISTANCE = 3,
+    FUMAREHI_MASK_BIT = 4,
+    FUMAREHI_ASYMMETRIC = 5,
+    FUMAREHI_STATE_BIT = 6,
+    FUMAREHI_LONG_LOG = 7,
+    FUMAREHI_BAD_LETTER = 8,
+    FUMAREHI_SHORT_BUFFER = 9,
+    FUMAREHI_FULL_TABLE = 10
+};
+
+/* Judges a log. told: place, verdict, P, looks.
+ * Verdict 1: some log that exchanges of neighbouring independent letters reach is accepted; the first log_len bytes of 'order' are the earliest such
+ * log in letter order, the others stay. Verdict 0: none is; 'order' stays. P is the number of prefixes of the log; the work table then holds a
+ * record of six numbers for each (see fumarehi_table). Looks lies between P - 1 and P * k.
+ * Refused by 2 and 4 to 10; 9 if order_len is below log_len, also where the verdict would be 0. */
+uint32_t fumarehi_judge(size_t k, size_t s, size_t start, uint32_t finals,
+                        const uint16_t *masks, size_t masks_len,
+                        const uint32_t *moves, size_t moves_len,
+                        const uint8_t *log, size_t log_len,
+                        uint8_t *order, size_t order_len,
+                        uint32_t *work, size_t work_len,
+                        uint64_t told[4]);
+
+/* Builds the prefix table of a log. told: place, P, looks.
+ * A record is six numbers, one record for each prefix by rising total count: numbers 0 to 3 have the counts, 8 bits each, letter i in bits
+ * 8 * (i mod 4) and up of number i div 4; number 4 is the set of states that an order of the prefix leads to from the start; number 5 is the
+ * set of states from which an order of the rest leads to a final state. Numbers past record P - 1 stay.
+ * Refused by 2, 4 to 8 and 10. */
+uint32_t fumarehi_table(size_t k, size_t s, size_t start, uint32_t finals,
+                        const uint16_t *masks, size_t masks_len,
+                        const uint32_t *moves, size_t moves_len,
+                        const uint8_t *log, size_t log_len,
+                        uint32_t *table, size_t table_len,
+                        uint64_t told[3]);
+
+/* Compares two logs. told: place, log, same.
+ * Same is 1 exactly when exchanges lead from each log to the other. Refused by 2, 4 and 5, then by 7 and 8 of the first log, then by 7 and 8 of the
+ * second; log is 1 or 2 at 7 and 8, and 0 otherwise. */
+uint32_t fumarehi_same(size_t k,
+                       const uint16_t *masks, size_t masks_len,
+                       const uint8_t *first, size_t first_len,
+                       const uint8_t *second, size_t second_len,
+                       uint64_t told[3]);
+
+/* Writes the earliest log in letter order that exchanges reach from the given one to the first log_len bytes of 'order'. told: place.
+ * Refused by 2, 4, 5, 7, 8 and 9. */
+uint32_t fumarehi_first_order(size_t k,
+                              const uint16_t *masks, size_t masks_len,
+                              const uint8_t *log, size_t log_len,
+                              uint8_t *order, size_t order_len,
+                              uint64_t told[1]);
+
+/* Reads a log file. told: place, k, s, start, final set, log length.
+ * Fills the first k masks and the first s * k moves; further elements stay. Refused by 1 to 9. */
+uint32_t fumarehi_read_file(const uint8_t *file, size_t file_len,
+                            uint16_t *masks, size_t masks_len,
+                            uint32_t *moves, size_t moves_len,
+                            uint64_t told[6]);
+
+/* Finds the log in a log file. told: place, offset, length.
+ * The log is the part file[offset] to file[offset + length - 1]. Refused by 1 to 8; the part is then empty. */
+uint32_t fumarehi_log_part(const uint8_t *file, size_t file_len,
+                           uint64_t told[3]);
+
+/* Writes a log file: masks, moves, log, trailer, without gaps. told: place, file length.
+ * Bytes past the file's end stay. Refused by 2 and 4 to 9. */
+uint32_t fumarehi_write_file(size_t k, size_t s, size_t start, uint32_t finals,
+                             const uint16_t *masks, size_t masks_len,
+                             const uint32_t *moves, size_t moves_len,
+                             const uint8_t *log, size_t log_len,
+                             uint8_t *file, size_t file_len,
+                             uint64_t told[2]);
+
+/* What fumarehi_next_event returns at the end of a log. */
+#define FUMAREHI_END 256u
+
+/* The event at place *at of a log, for reading it event by event from place 0: returns the letter and adds 1 to *at, or returns FUMAREHI_END, exactly
+ * when none is left, and leaves *at. */
+uint32_t fumarehi_next_event(const uint8_t *log, size_t log_len, size_t *at);
+
+#ifdef __cplusplus
+}
+#endif
+
+#endif
