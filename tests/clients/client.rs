@@ -1,0 +1,204 @@
+//! A Rust client of the static library: client SAMPLE.log ...
+//!
+//! Judges the samples by the safe wrappers as the program `judge` does and compares with SAMPLE.txt, writes and reads back what was read, and
+//! makes refused calls, which must leave their buffers as they were.
+
+mod fumarehi;
+
+use fumarehi::{Profile, Refusal, Refused, Relation};
+use std::process::ExitCode;
+
+/// Counts comparisons, and says which fail.
+#[derive(Default)]
+struct Compared {
+    all: u32,
+    failed: u32,
+}
+
+impl Compared {
+    fn expect(&mut self, holds: bool, what: &str) {
+        self.all += 1;
+        if !holds {
+            self.failed += 1;
+            println!("FAILED: {what}");
+        }
+    }
+}
+
+/// A file that was read.
+struct Read<'a> {
+    header: fumarehi::Header,
+    masks: [u16; 16],
+    moves: [u32; 512],
+    log: &'a [u8],
+}
+
+fn read(file: &[u8]) -> Result<Read<'_>, Refused> {
+    let (mut masks, mut moves) = ([0; 16], [0; 512]);
+    let header = fumarehi::read_file(file, &mut masks, &mut moves)?;
+    Ok(Read { header, masks, moves, log: fumarehi::log_part(file)? })
+}
+
+impl Read<'_> {
+    fn profile(&self) -> Profile<'_> {
+        self.header.profile(&self.masks, &self.moves)
+    }
+
+    fn relation(&self) -> Relation<'_> {
+        Relation { k: self.header.k, masks: self.profile().masks }
+    }
+}
+
+/// P, and the order if there is one.
+fn judged(read: &Read) -> Result<(u64, Option<Vec<u8>>), Refused> {
+    let mut order = vec![0; read.log.len()];
+    let verdict = fumarehi::judge(&read.profile(), read.log, &mut order, &mut [0; 16_380])?;
+    Ok((verdict.prefixes, verdict.has_order.then_some(order)))
+}
+
+fn text(answer: &Result<(u64, Option<Vec<u8>>), Refused>) -> String {
+    match answer {
+        Err(refused) => format!("refused {}\n", refused.refusal.number()),
+        Ok((prefixes, None)) => format!("verdict 0\nprefixes {prefixes}\n"),
+        Ok((prefixes, Some(order))) => {
+            let letters: String = order.iter().map(|letter| format!(" {letter}")).collect();
+            format!("verdict 1\nprefixes {prefixes}\norder{letters}\n")
+        }
+    }
+}
+
+/// What holds of a file that was read, whatever is in it.
+fn held(compared: &mut Compared, name: &str, file: &[u8], read: &Read, order: Option<&[u8]>) {
+    compared.expect(read.log.len() == read.header.log_len, &format!("{name}: the log's length"));
+    compared.expect(file.as_ptr_range().contains(&read.log.as_ptr()), &format!("{name}: the log is no part of the file"));
+    compared.expect(fumarehi::events(read.log).eq(read.log.iter().copied()), &format!("{name}: the events"));
+
+    let mut written = [0xa5; 4096];
+    let len = fumarehi::write_file(&read.profile(), read.log, &mut written);
+    let again = len.and_then(|len| self::read(&written[..len]).map(|again| (again.header, again.masks, again.moves, again.log.to_vec())));
+    compared.expect(again == Ok((read.header, read.masks, read.moves, read.log.to_vec())), &format!("{name}: written and read back"));
+
+    let mut first = vec![0; read.log.len()];
+    compared.expect(fumarehi::first_order(&read.relation(), read.log, &mut first) == Ok(()), &format!("{name}: first order"));
+    for other in [Some(&first[..]), order].into_iter().flatten() {
+        compared.expect(fumarehi::same(&read.relation(), read.log, other) == Ok(true), &format!("{name}: an order is not the same"));
+    }
+    compared.expect(order.is_none_or(|order| first[..] <= *order), &format!("{name}: an order before the first order"));
+}
+
+fn sample(compared: &mut Compared, path: &str) {
+    let file = std::fs::read(path).expect(path);
+    let expected = std::fs::read_to_string(path.replace(".log", ".txt")).expect(path);
+    let read = read(&file);
+    let answer = read.as_ref().map_err(|refused| *refused).and_then(judged);
+    let printed = if file.len() > 65_536 { "too long\n".into() } else { text(&answer) };
+    compared.expect(printed == expected, &format!("{path} gives {printed}"));
+    if let Ok(read) = &read {
+        held(compared, path, &file, read, answer.ok().and_then(|(_, order)| order).as_deref());
+    }
+}
+
+// Refused calls. Alt is the profile of document 01's file.
+
+const ALT: Profile = Profile { k: 2, s: 2, start: 0, finals: 1, masks: &[2, 1], moves: &[2, 0, 0, 1] };
+const BA: &[u8] = &[1, 0];
+
+/// Profiles and logs that every call with a profile refuses.
+fn refused_inputs() -> Vec<(Refused, Profile<'static>, Vec<u8>)> {
+    let refused = |refusal, place| Refused { refusal, place, log: 0 };
+    vec![
+        (refused(Refusal::OutOfRange, 0), Profile { k: 0, masks: &[], moves: &[], ..ALT }, vec![]),
+        (refused(Refusal::OutOfRange, 0), Profile { k: 17, masks: &[0; 17], moves: &[0; 34], ..ALT }, vec![]),
+        (refused(Refusal::OutOfRange, 0), Profile { s: 0, moves: &[], ..ALT }, BA.to_vec()),
+        (refused(Refusal::OutOfRange, 0), Profile { s: 33, moves: &[0; 66], ..ALT }, BA.to_vec()),
+        (refused(Refusal::OutOfRange, 0), Profile { start: 2, ..ALT }, BA.to_vec()),
+        (refused(Refusal::OutOfRange, 0), Profile { masks: &[2, 1, 0], ..ALT }, BA.to_vec()),
+        (refused(Refusal::OutOfRange, 0), Profile { moves: &[2, 0, 0], ..ALT }, BA.to_vec()),
+        (refused(Refusal::MaskBit, 0), Profile { masks: &[3, 1], ..ALT }, BA.to_vec()),
+        (refused(Refusal::MaskBit, 0), Profile { masks: &[2, 5], ..ALT }, BA.to_vec()),
+        (refused(Refusal::Asymmetric, 0), Profile { masks: &[2, 0], ..ALT }, BA.to_vec()),
+        (refused(Refusal::StateBit, 0), Profile { moves: &[2, 0, 0, 5], ..ALT }, BA.to_vec()),
+        (refused(Refusal::StateBit, 0), Profile { finals: 1 << 31, ..ALT }, BA.to_vec()),
+        (refused(Refusal::LongLog, 0), ALT, vec![0; 256]),
+        (refused(Refusal::BadLetter, 1), ALT, vec![1, 2, 0, 255]),
+    ]
+}
+
+const ORDER: [u8; 300] = [0xa5; 300];
+const TABLE: [u32; 100] = [0xa5a5_a5a5; 100];
+const FILE: [u8; 700] = [0xa5; 700];
+const MASKS: [u16; 20] = [0xa5a5; 20];
+
+fn refused_profiles(compared: &mut Compared) {
+    for (refused, p, log) in refused_inputs() {
+        let what = format!("{refused:?} of {p:?} {log:?}");
+        let (mut order, mut table, mut file) = (ORDER, TABLE, FILE);
+        compared.expect(fumarehi::judge(&p, &log, &mut order, &mut table) == Err(refused), &format!("judge: {what}"));
+        compared.expect(fumarehi::table(&p, &log, &mut table) == Err(refused), &format!("table: {what}"));
+        compared.expect(fumarehi::write_file(&p, &log, &mut file) == Err(refused), &format!("write_file: {what}"));
+        compared.expect((order, table, file) == (ORDER, TABLE, FILE), &format!("buffers: {what}"));
+    }
+}
+
+fn refused_buffers(compared: &mut Compared) {
+    let (mut order, mut table, mut file) = (ORDER, TABLE, FILE);
+    let short = Refused { refusal: Refusal::ShortBuffer, place: 0, log: 0 };
+    let full = Refused { refusal: Refusal::FullTable, place: 0, log: 0 };
+    let alt = Relation { k: 2, masks: &[2, 1] };
+    let mut written = FILE;
+    let len = fumarehi::write_file(&ALT, BA, &mut written);
+    compared.expect(len == Ok(38), "Alt and ba make a file of 38 bytes");
+
+    compared.expect(fumarehi::judge(&ALT, BA, &mut order[..1], &mut table) == Err(short), "judge: a short order buffer");
+    compared.expect(fumarehi::first_order(&alt, BA, &mut order[..1]) == Err(short), "first_order: a short order buffer");
+    compared.expect(fumarehi::write_file(&ALT, BA, &mut file[..37]) == Err(short), "write_file: a short file buffer");
+    compared.expect((order, table, file) == (ORDER, TABLE, FILE), "buffers after a short buffer");
+    for (masks_len, moves_len) in [(1, 100), (20, 3), (1, 3), (0, 0)] {
+        let (mut masks, mut moves) = (MASKS, TABLE);
+        let answer = fumarehi::read_file(&written[..38], &mut masks[..masks_len], &mut moves[..moves_len]);
+        compared.expect(answer == Err(short), &format!("read_file: {masks_len} masks, {moves_len} moves"));
+        compared.expect((masks, moves) == (MASKS, TABLE), &format!("buffers after {masks_len} masks, {moves_len} moves"));
+    }
+
+    compared.expect(fumarehi::judge(&ALT, BA, &mut order, &mut table[..23]) == Err(full), "judge: a table of 23");
+    compared.expect(fumarehi::table(&ALT, BA, &mut table[..23]) == Err(full), "table: a table of 23");
+    compared.expect(order == ORDER && table[23..] == TABLE[23..], "buffers after a full table");
+    compared.expect(fumarehi::table(&ALT, BA, &mut table[..24]).is_ok_and(|table| table.prefixes == 4), "table: a table of 24");
+}
+
+fn refused_same(compared: &mut Compared) {
+    let alt = Relation { k: 2, masks: &[2, 1] };
+    let (long, bad) = ([0; 256], [0, 1, 2]);
+    let refused = |refusal, place, log| Err(Refused { refusal, place, log });
+    compared.expect(fumarehi::same(&alt, &long, &bad) == refused(Refusal::LongLog, 0, 1), "same: a long first log");
+    compared.expect(fumarehi::same(&alt, &bad, &long) == refused(Refusal::BadLetter, 2, 1), "same: a bad letter in the first log");
+    compared.expect(fumarehi::same(&alt, BA, &long) == refused(Refusal::LongLog, 0, 2), "same: a long second log");
+    compared.expect(fumarehi::same(&alt, BA, &bad) == refused(Refusal::BadLetter, 2, 2), "same: a bad letter in the second log");
+}
+
+/// The file cut short at every length: the trailer is never where it was.
+fn cut_files(compared: &mut Compared) {
+    let mut written = FILE;
+    let len = fumarehi::write_file(&ALT, BA, &mut written).unwrap_or(0);
+    for cut in 0..len {
+        let (mut masks, mut moves) = (MASKS, TABLE);
+        let refused = fumarehi::read_file(&written[..cut], &mut masks, &mut moves).err();
+        let expected = if cut < 16 { Refusal::ShortFile } else { Refusal::OutOfRange };
+        compared.expect(refused.is_some_and(|refused| refused.refusal == expected), &format!("a file cut at {cut}: {refused:?}"));
+        compared.expect(fumarehi::log_part(&written[..cut]).err() == refused, &format!("the log part of a file cut at {cut}"));
+        compared.expect((masks, moves) == (MASKS, TABLE), &format!("buffers after a file cut at {cut}"));
+    }
+}
+
+fn main() -> ExitCode {
+    let mut compared = Compared::default();
+    let paths: Vec<String> = std::env::args().skip(1).collect();
+    compared.expect(!paths.is_empty(), "no sample was given");
+    paths.iter().for_each(|path| sample(&mut compared, path));
+    refused_profiles(&mut compared);
+    refused_buffers(&mut compared);
+    refused_same(&mut compared);
+    cut_files(&mut compared);
+    println!("client.rs: {} samples; {} comparisons, {} failed", paths.len(), compared.all, compared.failed);
+    if compared.failed == 0 { ExitCode::SUCCESS } else { ExitCode::FAILURE }
+}

@@ -1,0 +1,331 @@
+//! Safe calls of the static library, one for each function of include/fumarehi.h.
+//!
+//! The header leaves to the caller that pointers are not null, aligned, and valid for the length given, and that nothing else is written or read
+//! through a buffer during the call. Rust's slices have all of this, also where they are empty; so every call here is safe for all arguments.
+
+#![allow(dead_code)] // a client calls what it needs
+
+/// The functions as the header declares them.
+mod c {
+    extern "C" {
+        pub fn fumarehi_judge(
+            k: usize, s: usize, start: usize, finals: u32,
+            masks: *const u16, masks_len: usize,
+            moves: *const u32, moves_len: usize,
+            log: *const u8, log_len: usize,
+            order: *mut u8, order_len: usize,
+            work: *mut u32, work_len: usize,
+            told: *mut u64,
+        ) -> u32;
+        pub fn fumarehi_table(
+            k: usize, s: usize, start: usize, finals: u32,
+            masks: *const u16, masks_len: usize,
+            moves: *const u32, moves_len: usize,
+            log: *const u8, log_len: usize,
+            table: *mut u32, table_len: usize,
+            told: *mut u64,
+        ) -> u32;
+        pub fn fumarehi_same(
+            k: usize,
+            masks: *const u16, masks_len: usize,
+            first: *const u8, first_len: usize,
+            second: *const u8, second_len: usize,
+            told: *mut u64,
+        ) -> u32;
+        pub fn fumarehi_first_order(
+            k: usize,
+            masks: *const u16, masks_len: usize,
+            log: *const u8, log_len: usize,
+            order: *mut u8, order_len: usize,
+            told: *mut u64,
+        ) -> u32;
+        pub fn fumarehi_read_file(
+            file: *const u8, file_len: usize,
+            masks: *mut u16, masks_len: usize,
+            moves: *mut u32, moves_len: usize,
+            told: *mut u64,
+        ) -> u32;
+        pub fn fumarehi_log_part(file: *const u8, file_len: usize, told: *mut u64) -> u32;
+        pub fn fumarehi_write_file(
+            k: usize, s: usize, start: usize, finals: u32,
+            masks: *const u16, masks_len: usize,
+            moves: *const u32, moves_len: usize,
+            log: *const u8, log_len: usize,
+            file: *mut u8, file_len: usize,
+            told: *mut u64,
+        ) -> u32;
+        pub fn fumarehi_next_event(log: *const u8, log_len: usize, at: *mut usize) -> u32;
+    }
+}
+
+/// What `numbers::next_event` gives at the end of a log.
+pub const END: u32 = 256;
+
+/// Letters and which of them are independent.
+#[derive(Clone, Copy, Debug)]
+pub struct Relation<'a> {
+    pub k: usize,
+    pub masks: &'a [u16],
+}
+
+#[derive(Clone, Copy, Debug)]
+pub struct Profile<'a> {
+    pub k: usize,
+    pub s: usize,
+    pub start: usize,
+    pub finals: u32,
+    pub masks: &'a [u16],
+    pub moves: &'a [u32],
+}
+
+#[derive(Clone, Copy, Debug, PartialEq, Eq)]
+pub enum Refusal {
+    ShortFile = 1,
+    OutOfRange = 2,
+    Distance = 3,
+    MaskBit = 4,
+    Asymmetric = 5,
+    StateBit = 6,
+    LongLog = 7,
+    BadLetter = 8,
+    ShortBuffer = 9,
+    FullTable = 10,
+}
+
+impl Refusal {
+    const ALL: [Refusal; 10] = [
+        Refusal::ShortFile,
+        Refusal::OutOfRange,
+        Refusal::Distance,
+        Refusal::MaskBit,
+        Refusal::Asymmetric,
+        Refusal::StateBit,
+        Refusal::LongLog,
+        Refusal::BadLetter,
+        Refusal::ShortBuffer,
+        Refusal::FullTable,
+    ];
+
+    pub fn number(self) -> u32 {
+        self as u32
+    }
+
+    fn from_number(number: u32) -> Refusal {
+        *Self::ALL.iter().find(|refusal| refusal.number() == number).expect("the header has ten refusals")
+    }
+}
+
+#[derive(Clone, Copy, Debug, PartialEq, Eq)]
+pub struct Refused {
+    pub refusal: Refusal,
+    /// The place of the first bad letter at `BadLetter`, else 0.
+    pub place: usize,
+    /// The log that `same` refuses at `LongLog` and `BadLetter`, 1 or 2, else 0.
+    pub log: usize,
+}
+
+#[derive(Clone, Copy, Debug, PartialEq, Eq)]
+pub struct Verdict {
+    /// Verdict 1: the order is in the first bytes of the order buffer.
+    pub has_order: bool,
+    pub prefixes: u64,
+    pub looks: u64,
+}
+
+#[derive(Clone, Copy, Debug, PartialEq, Eq)]
+pub struct Table {
+    pub prefixes: u64,
+    pub looks: u64,
+}
+
+/// What a log file tells beside its masks and moves.
+#[derive(Clone, Copy, Debug, PartialEq, Eq)]
+pub struct Header {
+    pub k: usize,
+    pub s: usize,
+    pub start: usize,
+    pub finals: u32,
+    pub log_len: usize,
+}
+
+impl Header {
+    /// The profile of the file; the buffers are those that `read_file` filled.
+    pub fn profile<'a>(&self, masks: &'a [u16], moves: &'a [u32]) -> Profile<'a> {
+        let Header { k, s, start, finals, .. } = *self;
+        Profile { k, s, start, finals, masks: &masks[..k], moves: &moves[..s * k] }
+    }
+}
+
+/// The calls with the header's numbers: the answer, and what is told.
+pub mod numbers {
+    use super::{c, Profile, Relation};
+
+    pub fn judge(p: &Profile, log: &[u8], order: &mut [u8], work: &mut [u32], told: &mut [u64; 4]) -> u32 {
+        // SAFETY: slices meet what the header asks; so in every call below.
+        unsafe {
+            c::fumarehi_judge(
+                p.k, p.s, p.start, p.finals,
+                p.masks.as_ptr(), p.masks.len(),
+                p.moves.as_ptr(), p.moves.len(),
+                log.as_ptr(), log.len(),
+                order.as_mut_ptr(), order.len(),
+                work.as_mut_ptr(), work.len(),
+                told.as_mut_ptr(),
+            )
+        }
+    }
+
+    pub fn table(p: &Profile, log: &[u8], table: &mut [u32], told: &mut [u64; 3]) -> u32 {
+        unsafe {
+            c::fumarehi_table(
+                p.k, p.s, p.start, p.finals,
+                p.masks.as_ptr(), p.masks.len(),
+                p.moves.as_ptr(), p.moves.len(),
+                log.as_ptr(), log.len(),
+                table.as_mut_ptr(), table.len(),
+                told.as_mut_ptr(),
+            )
+        }
+    }
+
+    pub fn same(r: &Relation, first: &[u8], second: &[u8], told: &mut [u64; 3]) -> u32 {
+        unsafe {
+            c::fumarehi_same(
+                r.k,
+                r.masks.as_ptr(), r.masks.len(),
+                first.as_ptr(), first.len(),
+                second.as_ptr(), second.len(),
+                told.as_mut_ptr(),
+            )
+        }
+    }
+
+    pub fn first_order(r: &Relation, log: &[u8], order: &mut [u8], told: &mut [u64; 1]) -> u32 {
+        unsafe {
+            c::fumarehi_first_order(
+                r.k,
+                r.masks.as_ptr(), r.masks.len(),
+                log.as_ptr(), log.len(),
+                order.as_mut_ptr(), order.len(),
+                told.as_mut_ptr(),
+            )
+        }
+    }
+
+    pub fn read_file(file: &[u8], masks: &mut [u16], moves: &mut [u32], told: &mut [u64; 6]) -> u32 {
+        unsafe {
+            c::fumarehi_read_file(
+                file.as_ptr(), file.len(),
+                masks.as_mut_ptr(), masks.len(),
+                moves.as_mut_ptr(), moves.len(),
+                told.as_mut_ptr(),
+            )
+        }
+    }
+
+    pub fn log_part(file: &[u8], told: &mut [u64; 3]) -> u32 {
+        unsafe { c::fumarehi_log_part(file.as_ptr(), file.len(), told.as_mut_ptr()) }
+    }
+
+    pub fn write_file(p: &Profile, log: &[u8], file: &mut [u8], told: &mut [u64; 2]) -> u32 {
+        unsafe {
+            c::fumarehi_write_file(
+                p.k, p.s, p.start, p.finals,
+                p.masks.as_ptr(), p.masks.len(),
+                p.moves.as_ptr(), p.moves.len(),
+                log.as_ptr(), log.len(),
+                file.as_mut_ptr(), file.len(),
+                told.as_mut_ptr(),
+            )
+        }
+    }
+
+    pub fn next_event(log: &[u8], at: &mut usize) -> u32 {
+        unsafe { c::fumarehi_next_event(log.as_ptr(), log.len(), at) }
+    }
+}
+
+fn answer<T>(number: u32, place: u64, log: u64, value: impl FnOnce() -> T) -> Result<T, Refused> {
+    match number {
+        0 => Ok(value()),
+        _ => Err(Refused { refusal: Refusal::from_number(number), place: place as usize, log: log as usize }),
+    }
+}
+
+/// Judges a log; with an order, its first bytes in `order` are the earliest accepted log that exchanges reach.
+pub fn judge(p: &Profile, log: &[u8], order: &mut [u8], work: &mut [u32]) -> Result<Verdict, Refused> {
+    let mut told = [0; 4];
+    let number = numbers::judge(p, log, order, work, &mut told);
+    answer(number, told[0], 0, || Verdict { has_order: told[1] == 1, prefixes: told[2], looks: told[3] })
+}
+
+/// Builds the prefix table of a log.
+pub fn table(p: &Profile, log: &[u8], table: &mut [u32]) -> Result<Table, Refused> {
+    let mut told = [0; 3];
+    let number = numbers::table(p, log, table, &mut told);
+    answer(number, told[0], 0, || Table { prefixes: told[1], looks: told[2] })
+}
+
+/// Whether exchanges lead from each log to the other.
+pub fn same(r: &Relation, first: &[u8], second: &[u8]) -> Result<bool, Refused> {
+    let mut told = [0; 3];
+    let number = numbers::same(r, first, second, &mut told);
+    answer(number, told[0], told[1], || told[2] == 1)
+}
+
+/// Writes the earliest log that exchanges reach to the first bytes of `order`.
+pub fn first_order(r: &Relation, log: &[u8], order: &mut [u8]) -> Result<(), Refused> {
+    let mut told = [0; 1];
+    let number = numbers::first_order(r, log, order, &mut told);
+    answer(number, told[0], 0, || ())
+}
+
+/// Reads a log file; the masks and the moves go to the starts of the two buffers.
+pub fn read_file(file: &[u8], masks: &mut [u16], moves: &mut [u32]) -> Result<Header, Refused> {
+    let mut told = [0; 6];
+    let number = numbers::read_file(file, masks, moves, &mut told);
+    let [place, k, s, start, finals, log_len] = told;
+    answer(number, place, 0, || Header {
+        k: k as usize,
+        s: s as usize,
+        start: start as usize,
+        finals: finals as u32,
+        log_len: log_len as usize,
+    })
+}
+
+/// The log of a log file: a part of the file, uncopied.
+pub fn log_part(file: &[u8]) -> Result<&[u8], Refused> {
+    let mut told = [0; 3];
+    let number = numbers::log_part(file, &mut told);
+    answer(number, told[0], 0, || &file[told[1] as usize..][..told[2] as usize])
+}
+
+/// Writes a log file to the first bytes of `file`, and gives their number.
+pub fn write_file(p: &Profile, log: &[u8], file: &mut [u8]) -> Result<usize, Refused> {
+    let mut told = [0; 2];
+    let number = numbers::write_file(p, log, file, &mut told);
+    answer(number, told[0], 0, || told[1] as usize)
+}
+
+/// A log read event by event.
+#[derive(Clone, Debug)]
+pub struct Events<'a> {
+    log: &'a [u8],
+    at: usize,
+}
+
+pub fn events(log: &[u8]) -> Events<'_> {
+    Events { log, at: 0 }
+}
+
+impl Iterator for Events<'_> {
+    type Item = u8;
+
+    fn next(&mut self) -> Option<u8> {
+        match numbers::next_event(self.log, &mut self.at) {
+            END => None,
+            letter => Some(letter as u8),
+        }
+    }
+}
