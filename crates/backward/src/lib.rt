@@ -9,6 +9,7 @@ ghost use Rattle.profile.specs.Tables.{layout, record-length};
 ghost use Rattle.theory.proofs.Merge.{seek};
 ghost use Rattle.counts.specs.Counts.{words};
 ghost use Rattle.records.specs.Records.{counts-at, records-in};
+ghost use Rattle.steps.specs.Rows.{by-letter};
 ghost use Rattle.backward.specs.Backward.{Drafted, FromTotal, Leads, back-from, filled-all, filled-total, moved, start-of};
 use counts::Counts;
 use counts::one_more;
@@ -19,7 +20,8 @@ use records::counts_at;
 use records::last_at;
 use records::put_last;
 use records::records_in;
-use steps::step_backward;
+use steps::backward_by;
+use steps::by_letter;
 
 // The numbers of a record.
 const RECORD: usize = 6;
@@ -39,10 +41,20 @@ fn find(part: &[u32], from: usize, c: Counts) -> usize
     j
 }
 
-// The backward set of record j, from the records that have one more of a letter in its last number; the letter's cursor moves to that record.
-fn back_of(part: &[u32], j: usize, k: usize, s: usize, moves: &[u32], cursors: &mut [usize]) -> u32
+// The backward set of record j, from the records that have one more of a letter in its last number; the letter's cursor moves to that record; `rows` are the
+// moves by letter.
+fn back_of(
+    part: &[u32],
+    j: usize,
+    k: usize,
+    s: usize,
+    moves: &[u32],
+    rows: &[u32; 512],
+    cursors: &mut [usize],
+) -> u32
     requires { ⌜ (k ≤ 16) × (s ≤ 32) × (k ≤ length (now cursors)) ⌝ }
     requires { ⌜ Leads (now part) j k (λ x. getD (now cursors) x 0) ⌝ }
+    requires { ⌜ now rows ≡ by-letter k s (now moves) ⌝ }
     ensures { λ r. ⌜ r ≡ back-from (now (part .entry)) j k k s (now (moves .entry)) (λ x. getD (now (cursors .entry)) x 0) ⌝ }
     ensures { λ _. ⌜ ((x : ℕ) → x < k → getD (now (cursors .exit)) x 0 ≡ moved (now (part .entry)) j (λ x. getD (now (cursors .entry)) x 0) x) ⌝ }
 {
@@ -55,7 +67,7 @@ fn back_of(part: &[u32], j: usize, k: usize, s: usize, moves: &[u32], cursors: &
             let from = cursors[x];
             let r = find(part, from, one_more(c, x));
             cursors[x] = r;
-            out = out | step_backward(moves, k, s, last_at(part, r), x);
+            out = out | backward_by(rows, s, last_at(part, r), x);
         }
         x += 1;
     }
@@ -70,9 +82,11 @@ fn fill_total(
     shape: Shape,
     masks: &[u16],
     moves: &[u32],
+    rows: &[u32; 512],
     log: &[u8],
 )
     requires { ⌜ FromTotal (profile-of shape (now masks) (now moves)) (now log) (now part) t len ⌝ }
+    requires { ⌜ now rows ≡ by-letter (shape .k) (shape .s) (now moves) ⌝ }
     ensures { λ _. ⌜ now (part .exit)
         ≡ filled-total (profile-of shape (now (masks .entry)) (now (moves .entry))) (now (log .entry)) t
         ++ drop (record-length layout * len) (now (part .entry)) ⌝ }
@@ -80,7 +94,7 @@ fn fill_total(
     let mut cursors = [len; 16];
     let mut j = 0;
     while j < len {
-        let back = back_of(part, j, shape.k, shape.s, moves, &mut cursors);
+        let back = back_of(part, j, shape.k, shape.s, moves, rows, &mut cursors);
         put_last(part, j, back);
         j += 1;
     }
@@ -116,6 +130,7 @@ pub fn fill_backward(
         ++ drop (record-length layout * records) (now (table .entry)) ⌝ }
 {
     let finals = shape.finals;
+    let rows = by_letter(moves, shape.k, shape.s);
     let mut t = log.len();
     let mut end = records - 1;
     put_last(table, end, finals);
@@ -130,6 +145,7 @@ pub fn fill_backward(
             shape,
             masks,
             moves,
+            &rows,
             log,
         );
         end = begin;

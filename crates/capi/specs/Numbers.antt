@@ -16,12 +16,12 @@ use Rattle.order.specs.declared.Compared.{Compared}
 use Rattle.order.specs.declared.Compared.the-variants.{Different, Equal}
 use Rattle.order.specs.declared.Ordered.{Ordered}
 use Rattle.order.specs.declared.Ordered.the-variants.{Written}
-use Rattle.logfile.specs.declared.reader.Located.{Located}
-use Rattle.logfile.specs.declared.reader.Located.the-variants.{At}
-use Rattle.logfile.specs.declared.reader.Reading.{Reading}
-use Rattle.logfile.specs.declared.reader.Reading.the-variants.{Told}
-use Rattle.logfile.specs.declared.writer.Writing.{Writing}
-use Rattle.logfile.specs.declared.writer.Writing.the-variants.{Length}
+use Rattle.logfile.specs.declared.Located.{Located}
+use Rattle.logfile.specs.declared.Located.the-variants.{At}
+use Rattle.logfile.specs.declared.Reading.{Reading}
+use Rattle.logfile.specs.declared.Reading.the-variants.{Told}
+use Rattle.filewriter.specs.declared.Writing.{Writing}
+use Rattle.filewriter.specs.declared.Writing.the-variants.{Length}
 use Rattle.logreader.specs.declared.Event.{Event}
 use Rattle.logreader.specs.declared.Event.the-variants.{Letter, End}
 

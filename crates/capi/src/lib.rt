@@ -4,12 +4,13 @@ ghost use lib.ListN.{length};
 ghost use Rattle.profile.specs.Automata.{profile-of};
 ghost use Rattle.profile.specs.Refusals.{lowest, refusal-number, refusal-place};
 ghost use Rattle.order.specs.Order.{comparison, ordered-buffer, ordering};
-ghost use Rattle.logfile.specs.Files.{file-bytes, file-masks, file-moves, file-shape, filled, log-location, log-length, read-refusal, reading, write-refusal, writing};
+ghost use Rattle.logfile.specs.Files.{file-masks, file-moves, file-shape, filled, log-location, log-length, read-refusal, reading};
+ghost use Rattle.filewriter.specs.Written.{file-bytes, write-refusal, writing};
 ghost use Rattle.logreader.specs.Events.{event-of, place-behind};
 ghost use Rattle.capi.specs.Numbers.{Building, Judging, built-code, built-told, compared-code, compared-told, event-number, judged-code, judged-told, located-code, located-told, ordered-code, ordered-told, reading-code, reading-told, writing-code, writing-told};
+use filewriter::Writing;
 use logfile::Located;
 use logfile::Reading;
-use logfile::Writing;
 use logreader::Event;
 use order::Compared;
 use order::Ordered;
@@ -23,32 +24,6 @@ fn place_of(r: Refusal) -> u64
     ensures { λ n. ⌜ n ≡ refusal-place r ⌝ }
 {
     profile::place(r) as u64
-}
-
-fn judged_code(judged: Judged) -> u32
-    ensures { λ n. ⌜ n ≡ judged-code judged ⌝ }
-{
-    match judged {
-        Judged::Refused(r) => profile::number(r),
-        Judged::NoOrder {
-            prefixes: _,
-            looks: _,
-        } => 0,
-        Judged::Order {
-            prefixes: _,
-            looks: _,
-        } => 0,
-    }
-}
-
-fn judged_told(judged: Judged) -> [u64; 4]
-    ensures { λ l. ⌜ l ≡ judged-told judged ⌝ }
-{
-    match judged {
-        Judged::Refused(r) => [place_of(r), 0, 0, 0],
-        Judged::NoOrder { prefixes, looks } => [0, 0, prefixes as u64, looks],
-        Judged::Order { prefixes, looks } => [0, 1, prefixes as u64, looks],
-    }
 }
 
 // The judge.
@@ -74,28 +49,19 @@ pub extern "C" fn fumarehi_judge(
         finals: finals,
     };
     let judged = verdict::judge(shape, masks, moves, log, order, work);
-    *told = judged_told(judged);
-    judged_code(judged)
-}
-
-fn built_code(built: Built) -> u32
-    ensures { λ n. ⌜ n ≡ built-code built ⌝ }
-{
-    match built {
-        Built::Refused(r) => profile::number(r),
-        Built::Filled {
-            prefixes: _,
-            looks: _,
-        } => 0,
-    }
-}
-
-fn built_told(built: Built) -> [u64; 3]
-    ensures { λ l. ⌜ l ≡ built-told built ⌝ }
-{
-    match built {
-        Built::Refused(r) => [place_of(r), 0, 0],
-        Built::Filled { prefixes, looks } => [0, prefixes as u64, looks],
+    match judged {
+        Judged::Refused(r) => {
+            *told = [place_of(r), 0, 0, 0];
+            profile::number(r)
+        }
+        Judged::NoOrder { prefixes, looks } => {
+            *told = [0, 0, prefixes as u64, looks];
+            0
+        }
+        Judged::Order { prefixes, looks } => {
+            *told = [0, 1, prefixes as u64, looks];
+            0
+        }
     }
 }
 
@@ -121,27 +87,15 @@ pub extern "C" fn fumarehi_table(
         finals: finals,
     };
     let built = table::build(shape, masks, moves, log, table);
-    *told = built_told(built);
-    built_code(built)
-}
-
-fn compared_code(compared: Compared) -> u32
-    ensures { λ n. ⌜ n ≡ compared-code compared ⌝ }
-{
-    match compared {
-        Compared::Equal => 0,
-        Compared::Different => 0,
-        Compared::Refused(r, _) => profile::number(r),
-    }
-}
-
-fn compared_told(compared: Compared) -> [u64; 3]
-    ensures { λ l. ⌜ l ≡ compared-told compared ⌝ }
-{
-    match compared {
-        Compared::Equal => [0, 0, 1],
-        Compared::Different => [0, 0, 0],
-        Compared::Refused(r, log) => [place_of(r), log as u64, 0],
+    match built {
+        Built::Refused(r) => {
+            *told = [place_of(r), 0, 0];
+            profile::number(r)
+        }
+        Built::Filled { prefixes, looks } => {
+            *told = [0, prefixes as u64, looks];
+            0
+        }
     }
 }
 
@@ -157,25 +111,19 @@ pub extern "C" fn fumarehi_same(
     ensures { λ r. ⌜ (let c = comparison k (now (masks .entry)) (now (first .entry)) (now (second .entry)) in (r ≡ compared-code c) × (now (told .exit) ≡ compared-told c)) ⌝ }
 {
     let compared = order::same(k, masks, first, second);
-    *told = compared_told(compared);
-    compared_code(compared)
-}
-
-fn ordered_code(ordered: Ordered) -> u32
-    ensures { λ n. ⌜ n ≡ ordered-code ordered ⌝ }
-{
-    match ordered {
-        Ordered::Written => 0,
-        Ordered::Refused(r) => profile::number(r),
-    }
-}
-
-fn ordered_told(ordered: Ordered) -> [u64; 1]
-    ensures { λ l. ⌜ l ≡ ordered-told ordered ⌝ }
-{
-    match ordered {
-        Ordered::Written => [0],
-        Ordered::Refused(r) => [place_of(r)],
+    match compared {
+        Compared::Equal => {
+            *told = [0, 0, 1];
+            0
+        }
+        Compared::Different => {
+            *told = [0, 0, 0];
+            0
+        }
+        Compared::Refused(r, log) => {
+            *told = [place_of(r), log as u64, 0];
+            profile::number(r)
+        }
     }
 }
 
@@ -192,30 +140,14 @@ pub extern "C" fn fumarehi_first_order(
     ensures { λ _. ⌜ now (order .exit) ≡ ordered-buffer k (now (masks .entry)) (now (log .entry)) (now (order .entry)) ⌝ }
 {
     let ordered = order::first_order(k, masks, log, order);
-    *told = ordered_told(ordered);
-    ordered_code(ordered)
-}
-
-fn reading_code(reading: Reading) -> u32
-    ensures { λ n. ⌜ n ≡ reading-code reading ⌝ }
-{
-    match reading {
-        Reading::Refused(r) => profile::number(r),
-        Reading::Told(_, _) => 0,
-    }
-}
-
-fn reading_told(reading: Reading) -> [u64; 6]
-    ensures { λ l. ⌜ l ≡ reading-told reading ⌝ }
-{
-    match reading {
-        Reading::Refused(r) => [place_of(r), 0, 0, 0, 0, 0],
-        Reading::Told(shape, n) => {
-            let k = shape.k as u64;
-            let s = shape.s as u64;
-            let start = shape.start as u64;
-            let finals = shape.finals as u64;
-            [0, k, s, start, finals, n as u64]
+    match ordered {
+        Ordered::Written => {
+            *told = [0];
+            0
+        }
+        Ordered::Refused(r) => {
+            *told = [place_of(r)];
+            profile::number(r)
         }
     }
 }
@@ -234,25 +166,19 @@ pub extern "C" fn fumarehi_read_file(
         × (now (moves .exit) ≡ filled q (file-moves f) (now (moves .entry)))) ⌝ }
 {
     let reading = logfile::read_file(file, masks, moves);
-    *told = reading_told(reading);
-    reading_code(reading)
-}
-
-fn located_code(located: Located) -> u32
-    ensures { λ n. ⌜ n ≡ located-code located ⌝ }
-{
-    match located {
-        Located::Refused(r) => profile::number(r),
-        Located::At(_, _) => 0,
-    }
-}
-
-fn located_told(located: Located) -> [u64; 3]
-    ensures { λ l. ⌜ l ≡ located-told located ⌝ }
-{
-    match located {
-        Located::Refused(r) => [place_of(r), 0, 0],
-        Located::At(offset, n) => [0, offset as u64, n as u64],
+    match reading {
+        Reading::Refused(r) => {
+            *told = [place_of(r), 0, 0, 0, 0, 0];
+            profile::number(r)
+        }
+        Reading::Told(shape, n) => {
+            let k = shape.k as u64;
+            let s = shape.s as u64;
+            let start = shape.start as u64;
+            let finals = shape.finals as u64;
+            *told = [0, k, s, start, finals, n as u64];
+            0
+        }
     }
 }
 
@@ -262,25 +188,15 @@ pub extern "C" fn fumarehi_log_part(file: &[u8], told: &mut [u64; 3]) -> u32
     ensures { λ r. ⌜ (let a = log-location (now (file .entry)) in (r ≡ located-code a) × (now (told .exit) ≡ located-told a)) ⌝ }
 {
     let located = logfile::locate_log(file);
-    *told = located_told(located);
-    located_code(located)
-}
-
-fn writing_code(writing: Writing) -> u32
-    ensures { λ n. ⌜ n ≡ writing-code writing ⌝ }
-{
-    match writing {
-        Writing::Refused(r) => profile::number(r),
-        Writing::Length(_) => 0,
-    }
-}
-
-fn writing_told(writing: Writing) -> [u64; 2]
-    ensures { λ l. ⌜ l ≡ writing-told writing ⌝ }
-{
-    match writing {
-        Writing::Refused(r) => [place_of(r), 0],
-        Writing::Length(n) => [0, n as u64],
+    match located {
+        Located::Refused(why) => {
+            *told = [place_of(why), 0, 0];
+            profile::number(why)
+        }
+        Located::At(offset, n) => {
+            *told = [0, offset as u64, n as u64];
+            0
+        }
     }
 }
 
@@ -307,9 +223,17 @@ pub extern "C" fn fumarehi_write_file(
         start: start,
         finals: finals,
     };
-    let writing = logfile::write_file(shape, masks, moves, log, file);
-    *told = writing_told(writing);
-    writing_code(writing)
+    let writing = filewriter::write_file(shape, masks, moves, log, file);
+    match writing {
+        Writing::Refused(r) => {
+            *told = [place_of(r), 0];
+            profile::number(r)
+        }
+        Writing::Length(n) => {
+            *told = [0, n as u64];
+            0
+        }
+    }
 }
 
 // The log reader: the event at a place, which advances one.

@@ -19,7 +19,7 @@ use Rattle.profile.proofs.Lists.{filter-no, filter-yes, test}
 use Rattle.theory.proofs.Looks.{looks-by-total, pairs-append, pairs-cons}
 use Rattle.theory.proofs.Prefixes.{addable?}
 use Rattle.merge.specs.Merge.{seek-from, started}
-use Rattle.merge.proofs.Cursors.{cursors-length}
+use Rattle.steps.proofs.Fronts.{front-whole}
 use Rattle.forward.specs.Forward.{Forward, Ready}
 use Rattle.forward.specs.Merging.{Begun, Grows, Merging, Placed, Steps, begun, pairs, records-between, totals}
 use Rattle.forward.specs.declared.Filled.{Filled}
@@ -73,7 +73,7 @@ module _ {p : Profile} {w : List ℕ} {m room : ℕ} {starts places : List ℕ} 
     come = omega arith;
     written = begun-none;
     paired = refl;
-    sixteen = cursors-length (seek-from part 0) cursors (p .k) few ∙ e;
+    sixteen = front-whole (seek-from part 0) cursors (p .k) few ∙ e;
     placed = placed-start r t part (level-part p w before t from first [] (b .before) (b .behind) begun-none) cursors few;
   }
     where

@@ -8,6 +8,7 @@ ghost use Rattle.profile.specs.Tables.{layout, record-length};
 ghost use Rattle.counts.specs.Counts.{words};
 ghost use Rattle.merge.specs.Merge.{started};
 ghost use Rattle.records.specs.Records.{put-record};
+ghost use Rattle.steps.specs.Rows.{by-letter};
 ghost use Rattle.forward.specs.Forward.{Forward, Ready};
 ghost use Rattle.forward.specs.Merging.{Comes, Grows, Halfway, Standing, Steps, begun, pairs, records-between, totals};
 use counts::Counts;
@@ -74,15 +75,23 @@ fn put_first(
 }
 
 // The next counts by the cursors, of the total after the one in `level`; their cursors move on.
-fn next_counts(level: &[u32], k: usize, s: usize, moves: &[u32], cursors: &mut [usize]) -> Next
+fn next_counts(
+    level: &[u32],
+    k: usize,
+    s: usize,
+    moves: &[u32],
+    rows: &[u32; 512],
+    cursors: &mut [usize],
+) -> Next
     requires { ⌜ (k ≤ 16) × (s ≤ 32) × (16 ≤ length (now cursors)) ⌝ }
+    requires { ⌜ now rows ≡ by-letter k s (now moves) ⌝ }
     ensures { λ r. ⌜ Comes k s (now (moves .entry)) (now (level .entry)) (now (cursors .entry)) (now (cursors .exit)) r ⌝ }
 {
     let least = merge::least_counts(level, k, cursors);
     match least {
         Least::Nothing => Next::Nothing,
         Least::At(c) => {
-            let forward = merge::unite(level, moves, k, s, cursors, c);
+            let forward = merge::unite(level, moves, rows, k, s, cursors, c);
             merge::advance(level, k, cursors, c);
             Next::At(c, forward)
         }
@@ -106,12 +115,14 @@ fn merge_next(
     shape: Shape,
     masks: &[u16],
     moves: &[u32],
+    rows: &[u32; 512],
     log: &[u8],
     starts: &[u16],
     places: &[u8],
     cursors: &mut [usize],
 ) -> Merged
     requires { ⌜ Halfway (profile-of shape (now masks) (now moves)) (now log) (now table) part j (now cursors) (now starts) (now places) ⌝ }
+    requires { ⌜ now rows ≡ by-letter (shape .k) (shape .s) (now moves) ⌝ }
     ensures { λ r. ⌜ Steps (profile-of shape (now (masks .entry)) (now (moves .entry))) (now (log .entry)) (part .room) (part .t) (part .first) j (now (table .entry)) (now (table .exit)) (now (cursors .exit)) r ⌝ }
 {
     let k = shape.k;
@@ -120,7 +131,7 @@ fn merge_next(
     let first = part.first;
     let start = RECORD * part.from;
     let end = RECORD * first;
-    let next = next_counts(&table[start..end], k, s, moves, cursors);
+    let next = next_counts(&table[start..end], k, s, moves, rows, cursors);
     match next {
         Next::Nothing => Merged::Nothing,
         Next::At(c, forward) => {
@@ -154,11 +165,13 @@ fn fill_total(
     shape: Shape,
     masks: &[u16],
     moves: &[u32],
+    rows: &[u32; 512],
     log: &[u8],
     starts: &[u16],
     places: &[u8],
 ) -> Total
     requires { ⌜ Standing (profile-of shape (now masks) (now moves)) (now log) (now table) part (now starts) (now places) ⌝ }
+    requires { ⌜ now rows ≡ by-letter (shape .k) (shape .s) (now moves) ⌝ }
     ensures { λ r. ⌜ Grows (profile-of shape (now (masks .entry)) (now (moves .entry))) (now (log .entry)) (part .room) (part .t) (part .first) (now (table .entry)) (now (table .exit)) r ⌝ }
 {
     let mut cursors = first_cursors(table, part, shape.k);
@@ -172,6 +185,7 @@ fn fill_total(
             shape,
             masks,
             moves,
+            rows,
             log,
             starts,
             places,
@@ -196,18 +210,20 @@ fn fill_totals(
     shape: Shape,
     masks: &[u16],
     moves: &[u32],
+    rows: &[u32; 512],
     log: &[u8],
     starts: &[u16],
     places: &[u8],
 ) -> Filled
     requires { ⌜ Standing (profile-of shape (now masks) (now moves)) (now log) (now table) part (now starts) (now places) ⌝ }
     requires { ⌜ (part .t ≤ length (now log)) × (number ≡ pairs (profile-of shape (now masks) (now moves)) (now log) (totals (profile-of shape (now masks) (now moves)) (now log) (suc (part .t)))) ⌝ }
+    requires { ⌜ now rows ≡ by-letter (shape .k) (shape .s) (now moves) ⌝ }
     ensures { λ r. ⌜ Forward (profile-of shape (now (masks .entry)) (now (moves .entry))) (now (log .entry)) (part .room) (now (table .entry)) (now (table .exit)) r ⌝ }
 {
     let mut at = part;
     let mut looks = number as u64;
     while at.t < log.len() {
-        let total = fill_total(table, at, shape, masks, moves, log, starts, places);
+        let total = fill_total(table, at, shape, masks, moves, rows, log, starts, places);
         match total {
             Total::Full => return Filled::Full,
             Total::Put(records, pairs) => {
@@ -246,6 +262,7 @@ pub fn fill_forward(
         return Filled::Full;
     }
     let number = put_first(table, room, shape, masks, moves, log, starts, places);
+    let rows = steps::by_letter(moves, shape.k, shape.s);
     let part = Part {
         room: room,
         t: 0,
@@ -259,6 +276,7 @@ pub fn fill_forward(
         shape,
         masks,
         moves,
+        &rows,
         log,
         starts,
         places,

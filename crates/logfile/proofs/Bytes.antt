@@ -1,19 +1,18 @@
 -- Numbers in bytes, low byte first, and bytes stored one behind the other.
-use mathlib.Core.Path.{_≡_, refl, sym, _∙_, ap}
+use mathlib.Core.Path.{_≡_, sym, _∙_, ap}
 use mathlib.Core.Logic.{⊎-elim}
 use mathlib.Core.List.{List, [], _∷_, _++_, map, map-append, append-nil, append-assoc}
-use Prim.Native.Nat.{ℕ, zero, suc, _+_, _*_, _/_, _%_, _^_, _≤_, _<_}
-use native.Mathlib.Nat.{div-div-eq-div-mul, zero-add}
+use Prim.Native.Nat.{ℕ, suc, _+_, _*_, _≤_, _<_}
+use native.Mathlib.Nat.{zero-add}
 use native.Mathlib.Numerals.{add-one}
 use native.Mathlib.Omega.{arith}
 use lib.ListN.{length, getD, take, drop, set, drop-of-length-le, length-take, List·getD-eq-default}
-use lib.Pow.{pow-add}
 use lib.Seq.{sets, drop-cons, sets-eq, take-nil, take-suc}
 use Rattle.profile.specs.Lists.{below, flat-map}
 use Rattle.profile.specs.Tables.{pack}
 use Rattle.theory.proofs.Counting.{length-range}
 use Rattle.profile.proofs.Lists.{below-suc, flat-map-length, lt-or-le}
-use Rattle.logfile.specs.Files.{half, low-bytes, number, numbers-from, word}
+use Rattle.logfile.specs.Files.{half, number, numbers-from, word}
 
 -- ---- read
 
@@ -40,23 +39,6 @@ word-eq f i =
 
 pub numbers-length : (b : ℕ) (f : List ℕ) (i n : ℕ) → length (numbers-from b f i n) ≡ n
 numbers-length b f i n = length-range (λ j. number b f (i + b * j)) n 0
-
--- ---- written
-
-pub low-length : (b n : ℕ) → length (low-bytes b n) ≡ b
-low-length zero n = refl
-low-length (suc b) n = ap suc (low-length b (n / 256))
-
-pub low-four : (n : ℕ) → low-bytes 4 n ≡ low-bytes 2 n ++ low-bytes 2 (n / 65536)
-low-four n = ap (λ m. n % 256 ∷ n / 256 % 256 ∷ low-bytes 2 m) (div-div-eq-div-mul n 256 256)
-
--- a number below 256 ^ b is read from its b bytes
-pub pack-low : (b n : ℕ) → n < 2 ^ (8 * b) → pack 8 (low-bytes b n) ≡ n
-pack-low zero n h = omega arith
-pack-low (suc b) n h =
-    let e : 8 * suc b ≡ 8 + 8 * b = omega arith in
-    let p : 2 ^ (8 * suc b) ≡ 256 * 2 ^ (8 * b) = ap (λ m. 2 ^ m) e ∙ pow-add 2 8 (8 * b) in
-    omega (arith, pack-low b (n / 256) (omega arith))
 
 -- ---- stored
 

@@ -1,6 +1,4 @@
--- Laws for the proofs of this crate, and the round trip.
+-- Laws for the proofs of this crate.
 pub mod Bytes
 pub mod Sections
 pub mod Answers
-pub mod RoundTrip
-pub mod FileCases

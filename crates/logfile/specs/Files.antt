@@ -1,24 +1,21 @@
--- Document 01, "Log file": what a file holds, why it is refused, what the reader gives and what the writer puts. A file is a list of bytes.
-use mathlib.Core.Path.{_≡_}
+-- Document 01, "Log file": what a file holds, why it is refused, what the reader gives. A file is a list of bytes.
 use mathlib.Core.Bool.{Bool, _||_, not}
 use mathlib.Core.List.{List, [], _∷_, _++_, map}
 use mathlib.Core.Option.{Option, none, some}
-use Prim.Native.Nat.{ℕ, zero, suc, _+_, _-_, _*_, _/_, _%_, _≤_, _<_}
+use Prim.Native.Nat.{ℕ, _+_, _-_, _*_}
 use lib.Dec.{eqb, leb, ltb}
 use lib.ListN.{length, getD, take, drop}
-use Rattle.profile.specs.Lists.{below, flat-map}
+use Rattle.profile.specs.Lists.{below}
 use Rattle.profile.specs.Automata.{Profile, profile-of}
 use Rattle.profile.specs.Tables.{pack}
-use Rattle.profile.specs.Refusals.{asymmetric, log-refusals, lowest, mask-bit, profile-out-of-range, profile-refusals, short-buffer, state-bit}
+use Rattle.profile.specs.Refusals.{asymmetric, log-refusals, lowest, mask-bit, profile-out-of-range, short-buffer, state-bit}
 use Rattle.profile.specs.declared.Shape.{Shape}
 use Rattle.profile.specs.declared.Refusal.{Refusal}
 use Rattle.profile.specs.declared.Refusal.the-variants.{Asymmetric, Distance, MaskBit, OutOfRange, ShortBuffer, ShortFile, StateBit}
-use Rattle.logfile.specs.declared.reader.Reading.{Reading}
-use Rattle.logfile.specs.declared.reader.Located.{Located}
-use Rattle.logfile.specs.declared.reader.Located.the-variants.{At}
-use Rattle.logfile.specs.declared.writer.Writing.{Writing}
-use Rattle.logfile.specs.declared.writer.Writing.the-variants.{Length}
-use Rattle.logfile.specs.declared.reader.Reading.the-variants.{Told}
+use Rattle.logfile.specs.declared.Reading.{Reading}
+use Rattle.logfile.specs.declared.Located.{Located}
+use Rattle.logfile.specs.declared.Located.the-variants.{At}
+use Rattle.logfile.specs.declared.Reading.the-variants.{Told}
 
 -- "Low byte first": the number of b bytes at place i; of two, of four
 abbrev pub number : ℕ → List ℕ → ℕ → ℕ
@@ -133,50 +130,3 @@ log-location f = located (lowest (file-refusals f)) (section f 8) (log-length f)
 -- "handed back as that part of the file"; "A file refused by 1 to 8 hands back an empty part"
 abbrev pub log-part-of : List ℕ → List ℕ
 log-part-of f = unless (lowest (file-refusals f)) (file-log f) []
-
--- "Low byte first": the b low bytes of n
-abbrev pub low-bytes : ℕ → ℕ → List ℕ
-low-bytes zero n = []
-low-bytes (suc b) n = n % 256 ∷ low-bytes b (n / 256)
-
--- where the writer puts the sections: the distances back to the moves, of s × k words, and to the masks, of k halves
-abbrev pub moves-distance : Profile → List ℕ → ℕ
-moves-distance p w = 4 * (p .s * p .k) + length w
-
-abbrev pub masks-distance : Profile → List ℕ → ℕ
-masks-distance p w = 2 * p .k + moves-distance p w
-
--- the numbers of a profile
-abbrev pub shape : Profile → Shape
-shape p = record { k = p .k; s = p .s; start = p .start; finals = p .finals }
-
--- the trailer, with the distances back to the masks and to the moves; that to the log is its length n
-abbrev pub trailer-of : Shape → ℕ → ℕ → ℕ → List ℕ
-trailer-of h n masks moves =
-    h .k ∷ h .s ∷ h .start ∷ n ∷ (low-bytes 2 masks ++ (low-bytes 2 moves ++ (low-bytes 2 n ++ (0 ∷ 0 ∷ low-bytes 4 (h .finals)))))
-
-abbrev pub trailer-bytes : Profile → List ℕ → List ℕ
-trailer-bytes p w = trailer-of (shape p) (length w) (masks-distance p w) (moves-distance p w)
-
--- "The writer puts masks, moves, log, trailer, without gaps"
-abbrev pub file-bytes : Profile → List ℕ → List ℕ
-file-bytes p w = flat-map (low-bytes 2) (p .masks) ++ (flat-map (low-bytes 4) (p .moves) ++ (w ++ trailer-bytes p w))
-
--- the writer's refusals, with m places for the file
-abbrev pub write-refusals : Profile → List ℕ → ℕ → List (Bool × Refusal)
-write-refusals p w m = profile-refusals p ++ (log-refusals (p .k) w ++ ((short-buffer m (file-bytes p w), ShortBuffer) ∷ []))
-
-abbrev pub write-refusal : Profile → List ℕ → ℕ → Option Refusal
-write-refusal p w m = lowest (write-refusals p w m)
-
--- "tells the file's length", or refuses
-abbrev pub writing : Option Refusal → ℕ → Writing
-writing none n = Length n
-writing (some r) n = Writing.Refused r
-
--- what the writer knows of a call that nothing refuses
-pub record Fit (h : Shape) (masks moves w out : List ℕ) : Type 0 where
-  pub letters : (length masks ≡ h .k) × (h .k ≤ 16)
-  pub states : (length moves ≡ h .s * h .k) × (h .s ≤ 32) × (h .start < h .s)
-  pub log : length w ≤ 255
-  pub room : length (file-bytes (profile-of h masks moves) w) ≤ length out

@@ -26,7 +26,7 @@ use Rattle.counts.proofs.Packed.{Small, add-packed, before-packed, same-packed}
 use Rattle.records.specs.Records.{forward-at, last-at, records-in}
 use Rattle.records.proofs.Drafts.{counts-of-draft, forward-of-draft, last-of-draft, records-of-drafts}
 use Rattle.merge.specs.Merge.{advanced, better, candidate, chosen?, grown, least-of, moved-on, seek-from, started, united}
-use Rattle.merge.proofs.Cursors.{cursor-of}
+use Rattle.steps.proofs.Fronts.{front-at}
 use Rattle.profile.proofs.Sets.{union-agree}
 use Rattle.records.specs.Drafts.{draft}
 
@@ -59,7 +59,7 @@ module _ (f g : List ℕ → ℕ) (C : List (List ℕ)) (t : List ℕ) (drafts :
             ∙ ap (first-place (add x)) (sym (drop-cons C j [] lt))
 
     pub level-started : (cs : List ℕ) → k ≤ length cs → (x : ℕ) → x < k → at (started k t cs) x ≡ seek (add x) C 0
-    level-started cs le x h = cursor-of (seek-from t 0) cs k le x h ∙ level-seek 0 x h (omega arith)
+    level-started cs le x h = front-at (seek-from t 0) cs k le x h ∙ level-seek 0 x h (omega arith)
 
   -- ---- what a cursor that is not at the end gives
   module _ (cs : List ℕ) (x : ℕ) where
@@ -121,7 +121,7 @@ module _ (f g : List ℕ → ℕ) (C : List (List ℕ)) (t : List ℕ) (drafts :
     pub level-advanced : (add : ℕ → List ℕ → Bool) → ((c : List ℕ) (x : ℕ) → Mem c C → x < k → bit (g c) x ≡ add x c) → k ≤ length cs → (x : ℕ) → x < k
         → at (advanced k t cs (packed layout e)) x ≡ cond (hits C x e (at cs x)) (seek (add x) C (suc (at cs x))) (at cs x)
     level-advanced add bits le x h =
-        cursor-of (λ y. moved-on t (at cs y) y (packed layout e)) cs k le x h
+        front-at (λ y. moved-on t (at cs y) y (packed layout e)) cs k le x h
         ∙ ap (λ b. cond b (seek-from t (suc (at cs x)) x) (at cs x)) (level-chosen x h) ∙ go (hits C x e (at cs x)) refl
       where
         go : (b : Bool) → hits C x e (at cs x) ≡ b → cond b (seek-from t (suc (at cs x)) x) (at cs x) ≡ cond b (seek (add x) C (suc (at cs x))) (at cs x)

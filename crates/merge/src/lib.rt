@@ -6,6 +6,7 @@ ghost use lib.ListN.{length};
 ghost use Rattle.profile.specs.Traces.{bit};
 ghost use Rattle.counts.specs.Counts.{words};
 ghost use Rattle.records.specs.Records.{records-in};
+ghost use Rattle.steps.specs.Rows.{by-letter};
 ghost use Rattle.merge.specs.Merge.{advanced, better, candidate, gives?, least-of, least-words, moved-on, seek-from, started, united};
 use counts::Counts;
 
@@ -102,10 +103,19 @@ fn gives(level: &[u32], j: usize, x: usize, e: Counts) -> bool
     counts::same_counts(counts::one_more(records::counts_at(level, j), x), e)
 }
 
-// The forward set of the counts e: the states to which letters lead from the forward sets of the records that give e.
-pub fn unite(level: &[u32], moves: &[u32], k: usize, s: usize, cursors: &[usize], e: Counts) -> u32
+// The forward set of the counts e: the states to which letters lead from the forward sets of the records that give e; `rows` are the moves by letter.
+pub fn unite(
+    level: &[u32],
+    moves: &[u32],
+    rows: &[u32; 512],
+    k: usize,
+    s: usize,
+    cursors: &[usize],
+    e: Counts,
+) -> u32
     requires { ⌜ (k ≤ 16) × (s ≤ 32) ⌝ }
     requires { ⌜ k ≤ length (now cursors) ⌝ }
+    requires { ⌜ now rows ≡ by-letter k s (now moves) ⌝ }
     ensures { λ r. ⌜ r ≡ united k s (now (moves .entry)) (now (level .entry)) (now (cursors .entry)) (words e) ⌝ }
 {
     let mut out = 0u32;
@@ -113,7 +123,7 @@ pub fn unite(level: &[u32], moves: &[u32], k: usize, s: usize, cursors: &[usize]
     while x < k {
         let j = cursors[x];
         if gives(level, j, x, e) {
-            out = out | steps::step_forward(moves, k, s, records::forward_at(level, j), x);
+            out = out | steps::forward_by(rows, s, records::forward_at(level, j), x);
         }
         x += 1;
     }

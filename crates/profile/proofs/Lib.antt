@@ -4,6 +4,7 @@ pub mod Lists
 pub mod Sets
 -- reachable logs
 pub mod Traces
--- worked cases
+-- what the relations say; worked cases
+pub mod Meanings
 pub mod Cases
 pub mod Edges

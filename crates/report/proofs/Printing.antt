@@ -17,8 +17,8 @@ use Rattle.profile.specs.declared.Refusal.{Refusal}
 use Rattle.profile.specs.declared.Refusal.the-variants.{ShortBuffer}
 use Rattle.theory.proofs.Refusals.{lowest-none}
 use Rattle.logfile.specs.Files.{file-log, file-refusals, log-part-of, read-refusal, read-refusals, reading, short-buffers, unless}
-use Rattle.logfile.specs.declared.reader.Reading.{Reading}
-use Rattle.logfile.specs.declared.reader.Reading.the-variants.{Refused as ReadRefused, Told}
+use Rattle.logfile.specs.declared.Reading.{Reading}
+use Rattle.logfile.specs.declared.Reading.the-variants.{Refused as ReadRefused, Told}
 use Rattle.verdict.specs.Verdict.{Promise}
 use Rattle.verdict.specs.declared.Judged.the-variants.{NoOrder, Order, Refused}
 use Rattle.verdict.proofs.Judging.{admitted, order-length}

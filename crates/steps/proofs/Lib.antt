@@ -1,2 +1,4 @@
--- Laws about unions over states; the functions' proofs cite them.
+-- Laws about unions over states and about the moves by letter; the functions' proofs cite them.
+pub mod Fronts
+pub mod Rows
 pub mod Unions

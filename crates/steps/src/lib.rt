@@ -2,7 +2,11 @@
 ghost use mathlib.Core.Path.{_≡_};
 ghost use Prim.Native.Nat.{_≤_, _<_};
 ghost use lib.ListN.{getD};
-ghost use Rattle.profile.specs.Automata.{backward-step, forward-step, meets, row as row-at};
+ghost use Rattle.profile.specs.Automata.{forward-step, meets, row as row-at};
+ghost use Rattle.steps.specs.Rows.{backward-by, by-letter, forward-by, led as led-at};
+
+// The numbers of a letter's row.
+const ROW: usize = 32;
 
 // The states to which letter a leads: number a of a state's row, where the row has it.
 fn leads(row: &[u32], a: usize) -> u32
@@ -48,18 +52,64 @@ pub fn meet(a: u32, b: u32) -> bool
     a & b != 0
 }
 
-// The states from which letter a leads into a set.
-pub fn step_backward(moves: &[u32], k: usize, s: usize, set: u32, a: usize) -> u32
-    requires { ⌜ (k ≤ 16) × (s ≤ 32) ⌝ }
-    ensures { λ r. ⌜ r ≡ backward-step k s (now (moves .entry)) set a ⌝ }
+// Number i of the moves by letter: the states to which letter i / 32 may lead from state i % 32, none where this is no state.
+fn led(moves: &[u32], k: usize, s: usize, i: usize) -> u32
+    requires { ⌜ k ≤ 16 ⌝ }
+    ensures { λ r. ⌜ r ≡ led-at k s (now (moves .entry)) i ⌝ }
 {
-    if set == 0 {
-        return 0;
+    let q = i % ROW;
+    if q < s {
+        leads_from(moves, k, q, i / ROW)
+    } else {
+        0
     }
+}
+
+// The moves by letter, so that a step reads numbers that stand in a row.
+pub fn by_letter(moves: &[u32], k: usize, s: usize) -> [u32; 512]
+    requires { ⌜ k ≤ 16 ⌝ }
+    ensures { λ r. ⌜ r ≡ by-letter k s (now (moves .entry)) ⌝ }
+{
+    let end = ROW * k;
+    let mut rows = [0u32; 512];
+    let mut i = 0;
+    while i < end {
+        let to = led(moves, k, s, i);
+        rows[i] = to;
+        i += 1;
+    }
+    rows
+}
+
+// The states to which letter a leads from the states of a set. The number is read before the test, so that no turn depends on what it finds.
+pub fn forward_by(rows: &[u32; 512], s: usize, set: u32, a: usize) -> u32
+    requires { ⌜ (s ≤ 32) × (a < 16) ⌝ }
+    ensures { λ r. ⌜ r ≡ forward-by s (now (rows .entry)) set a ⌝ }
+{
+    let at = ROW * a;
     let mut out = 0u32;
     let mut q = 0;
     while q < s {
-        if meet(leads_from(moves, k, q, a), set) {
+        let to = rows[at + q];
+        if meet(set, 1u32 << q) {
+            out = out | to;
+        }
+        q += 1;
+    }
+    out
+}
+
+// The states from which letter a leads into a set.
+pub fn backward_by(rows: &[u32; 512], s: usize, set: u32, a: usize) -> u32
+    requires { ⌜ (s ≤ 32) × (a < 16) ⌝ }
+    ensures { λ r. ⌜ r ≡ backward-by s (now (rows .entry)) set a ⌝ }
+{
+    let at = ROW * a;
+    let mut out = 0u32;
+    let mut q = 0;
+    while q < s {
+        let to = rows[at + q];
+        if meet(to, set) {
             out = out | (1u32 << q);
         }
         q += 1;

@@ -22,6 +22,8 @@ use Rattle.profile.proofs.Sets.{shift-mask, union-no, union-yes}
 use Rattle.counts.specs.Counts.{add-count, words}
 use Rattle.counts.specs.declared.Counts.{Counts}
 use Rattle.records.specs.Records.{counts-at, last-at, records-in}
+use Rattle.steps.specs.Rows.{backward-by}
+use Rattle.steps.proofs.Rows.{backward-same}
 use Rattle.backward.specs.Backward.{back-from, moved, next-at}
 use Rattle.backward.proofs.back_of.Statement.{statement}
 use Rattle.backward.proofs.back_of.Tie as tie
@@ -60,12 +62,12 @@ module _ (t : List ℕ) (j : ℕ) (cursors₀ : List ℕ) (x : ℕ) (cursors : L
       (ap (λ b. cond b (next-at t j x (getD cursors₀ x 0)) (getD cursors₀ x 0)) (sym b))
 
 abbrev Inv-loop : tie.InvT-loop
-Inv-loop part j k s moves cursors₀ c letters out₀ x₀ cursors out x =
+Inv-loop part j k s moves rows cursors₀ c letters out₀ x₀ cursors out x =
     (x ≤ k) × (length cursors ≡ length cursors₀) × (out ≡ back-from part j x k s moves (λ y. getD cursors₀ y 0))
     × Moved part j cursors₀ x cursors
 
 abbrev μ-loop : tie.MeasureT-loop
-μ-loop part j k s moves cursors₀ c letters out₀ x₀ cursors out x = k - x
+μ-loop part j k s moves rows cursors₀ c letters out₀ x₀ cursors out x = k - x
 
 counts-at-requires : tie.Need-counts-at-requires Inv-loop μ-loop
 counts-at-requires c κs = search needs
@@ -110,11 +112,11 @@ last-at-requires-2 c κs =
     let e = found (a .part .now) (a .j) x _ (getD (a .cursors .now) x 0) (c .find .result) _ _ (c .before .before .before .before .before .before .before .counts-at .ensures)
     (c .before .one-more .ensures) (c .before .before .before .before .before .loop .inv .3 .1 x (omega arith)) (c .find .ensures) in
     let h : x < a .k = omega arith in
-    let l : next-at (a .part .now) (a .j) x (getD (a .cursors .now) x 0) < records-in (a .part .now) = s .pre .1 .finds x h (rw b tt) in
+    let l : next-at (a .part .now) (a .j) x (getD (a .cursors .now) x 0) < records-in (a .part .now) = s .pre .1 .0 .finds x h (rw b tt) in
     omega (arith, e, l)
 
-step-backward-requires : tie.Need-step-backward-requires Inv-loop μ-loop
-step-backward-requires c κs = search needs
+backward-by-requires : tie.Need-backward-by-requires Inv-loop μ-loop
+backward-by-requires c κs = search needs
 
 add-x : tie.Need-add-x Inv-loop μ-loop
 add-x c = search needs
@@ -130,13 +132,14 @@ loop-again c =
     let i = c .before .before .loop .inv in
     let from : ℕ → ℕ = λ y. getD (a .cursors .now) y 0 in
     let f : ℕ → ℕ = λ y. backward-step (a .k) (a .s) (a .moves .now) (last-at t (next-at t (a .j) y (from y))) y in
+    let same = backward-same (a .k) (a .s) (a .moves .now) (a .rows .now) (c .before .before .before .before .before .before .before .before .pre .1 .1) (omega arith) (omega arith) x (omega arith) in
     let b = tested _ _ x (c .before .before .before .last-at .ensures) in ⊎-elim
     (λ w.
     let q = found t (a .j) x _ (from x) (w .3 .result) _ _ (c .before .before .before .before .counts-at .ensures) (w .2 .ensures) (i .3 .1 x (omega arith)) (w .3 .ensures) in
     let e : bit (last-at t (a .j)) x ≡ true = sym b ∙ eq-eqb _ 1 (w .0 .taken) in (
       search needs,
       ap length (w .6) ∙ simp length-set (i .1),
-      w .7 ∙ ap₂ bitOr (i .2) (w .5 .ensures ∙ ap (λ S. backward-step (a .k) (a .s) (a .moves .now) S x) (w .4 .ensures ∙ ap (last-at t) q))
+      w .7 ∙ ap₂ bitOr (i .2) (w .5 .ensures ∙ ap (λ S. backward-by (a .s) (a .rows .now) S x) (w .4 .ensures ∙ ap (last-at t) q) ∙ same (last-at t (next-at t (a .j) x (from x))))
           ∙ sym (union-yes f (last-at t (a .j)) x (rw e tt)),
       subst (Moved t (a .j) (a .cursors .now) (x + 1)) (sym (w .6)) (move-yes t (a .j) (a .cursors .now) x (c .before .before .loop .cursors) (i .3) (w .3 .result) (omega arith) e q),
     ))
@@ -177,7 +180,7 @@ back-of-spec =
     mul-cursors
     slice-write-cursors
     last-at-requires-2
-    step-backward-requires
+    backward-by-requires
     add-x
     loop-less
     loop-again

@@ -14,12 +14,12 @@ use Rattle.backward.proofs.fill_total.Tie as tie
 use Rattle.records.specs.Drafts.{drafted, filled, of-total}
 
 abbrev Inv-loop : tie.InvT-loop
-Inv-loop part₀ len t shape masks moves log cursors₀ j₀ part cursors j =
+Inv-loop part₀ len t shape masks moves rows log cursors₀ j₀ part cursors j =
     (j ≤ len) × (length part ≡ length part₀) × (length cursors ≡ 16)
     × Halfway (profile-of shape masks moves) log t part (drop (record-length layout * len) part₀) j (λ x. getD cursors x 0)
 
 abbrev μ-loop : tie.MeasureT-loop
-μ-loop part₀ len t shape masks moves log cursors₀ j₀ part cursors j = len - j
+μ-loop part₀ len t shape masks moves rows log cursors₀ j₀ part cursors j = len - j
 
 -- the profile and the log of the call
 abbrev profile : tie.Start Inv-loop μ-loop → Profile
@@ -30,15 +30,15 @@ word s = s .args .log .now
 
 -- behind the records of the total stand those of the next
 next : (s : tie.Start Inv-loop μ-loop)
-    → drop (record-length layout * s .args .len) (s .args .part .now) ≡ filled (profile s) (word s) (of-total (profile s) (word s) (suc (s .args .t))) ++ s .pre .rest
-next s = ap (λ m. drop (record-length layout * m) (s .args .part .now)) (s .pre .whole)
-    ∙ behind-total (profile s) (word s) (s .args .t) (s .args .part .now) _ (s .pre .written)
+    → drop (record-length layout * s .args .len) (s .args .part .now) ≡ filled (profile s) (word s) (of-total (profile s) (word s) (suc (s .args .t))) ++ s .pre .0 .rest
+next s = ap (λ m. drop (record-length layout * m) (s .args .part .now)) (s .pre .0 .whole)
+    ∙ behind-total (profile s) (word s) (s .args .t) (s .args .part .now) _ (s .pre .0 .written)
 
 leads : (c : tie.In-loop Inv-loop μ-loop) → Leads (c .before .loop .part) (c .before .loop .j) (c .before .before .before .before .before .before .args .shape .k) (λ x. getD (c .before .loop .cursors) x 0)
 leads c =
     let s = c .before .before .before .before .before .before in
-    halfway-leads (s .pre .profile) (s .pre .log) (s .args .t) (s .pre .inside) (c .before .loop .part) (drop (record-length layout * s .args .len) (s .args .part .now)) (s .pre .rest)
-    (c .before .loop .j) (λ x. getD (c .before .loop .cursors) x 0) (c .before .loop .inv .3) (next s) (omega (arith, s .pre .whole))
+    halfway-leads (s .pre .0 .profile) (s .pre .0 .log) (s .args .t) (s .pre .0 .inside) (c .before .loop .part) (drop (record-length layout * s .args .len) (s .args .part .now)) (s .pre .0 .rest)
+    (c .before .loop .j) (λ x. getD (c .before .loop .cursors) x 0) (c .before .loop .inv .3) (next s) (omega (arith, s .pre .0 .whole))
 
 loop-holds : tie.Need-loop-holds Inv-loop μ-loop
 loop-holds c =
@@ -48,8 +48,8 @@ loop-holds c =
       refl,
       refl,
       halfway-start (profile s) (word s) (a .t) (a .part .now) (drop (record-length layout * a .len) (a .part .now)) _
-          (s .pre .written ∙ ap (λ l. drafted (profile s) (word s) (of-total (profile s) (word s) (a .t)) ++ l) (sym (next s)))
-          (λ x h. getD-replicate 16 x (a .len) 0 (omega (arith, s .pre .profile .relation .most)) ∙ s .pre .whole),
+          (s .pre .0 .written ∙ ap (λ l. drafted (profile s) (word s) (of-total (profile s) (word s) (a .t)) ++ l) (sym (next s)))
+          (λ x h. getD-replicate 16 x (a .len) 0 (omega (arith, s .pre .0 .profile .relation .most)) ∙ s .pre .0 .whole),
     )
 
 slice-aggregate-back-of : tie.Need-slice-aggregate-back-of Inv-loop μ-loop
@@ -57,8 +57,8 @@ slice-aggregate-back-of c = search needs
 
 back-of-requires : tie.Need-back-of-requires Inv-loop μ-loop
 back-of-requires c κs =
-    let g = c .before .before .before .before .before .before .before .before .pre .profile in
-    let k = g .relation .most in ((k, g .states .1, omega arith), leads (c .before .before))
+    let h = c .before .before .before .before .before .before .before .before .pre in
+    let g = h .0 .profile in ((g .relation .most, g .states .1, omega arith), (leads (c .before .before), h .1))
 
 put-last-requires : tie.Need-put-last-requires Inv-loop μ-loop
 put-last-requires c κs = omega (arith, leads (c .before .before .before .before .before) .inside)
@@ -78,15 +78,15 @@ loop-again c =
     let i = l .inv in
     let tail = drop (record-length layout * a .len) (a .part .now) in
     let from : ℕ → ℕ = λ x. getD (l .cursors) x 0 in
-    let lt : l .j < length (of-total (profile s) (word s) (a .t)) = omega (arith, s .pre .whole) in
-    let back = halfway-back (s .pre .profile) (s .pre .log) (a .t) (s .pre .inside) (l .part) tail (s .pre .rest) (l .j) from (i .3) (next s) lt in
-    let step = halfway-next (s .pre .profile) (s .pre .log) (a .t) (s .pre .inside) (l .part) tail (s .pre .rest) (l .j) from (i .3) (next s) lt
-    (λ x. getD (b .last .1 .1 .1 .1 .1 .0) x 0) (b .ensures .1) in
+    let lt : l .j < length (of-total (profile s) (word s) (a .t)) = omega (arith, s .pre .0 .whole) in
+    let back = halfway-back (s .pre .0 .profile) (s .pre .0 .log) (a .t) (s .pre .0 .inside) (l .part) tail (s .pre .0 .rest) (l .j) from (i .3) (next s) lt in
+    let step = halfway-next (s .pre .0 .profile) (s .pre .0 .log) (a .t) (s .pre .0 .inside) (l .part) tail (s .pre .0 .rest) (l .j) from (i .3) (next s) lt
+    (λ x. getD (b .last .1 .1 .1 .1 .1 .1 .0) x 0) (b .ensures .1) in
     let put = c .before .before .put-last .ensures ∙ ap (set (l .part) (record-length layout * l .j + (layout .numbers + 1))) (b .ensures .0 ∙ back) in (
       search needs,
       c .before .before .put-last .kept .0 ∙ i .1,
-      b .kept .1 .1 .1 .1 .1 .0 ∙ i .2,
-      subst (λ t. Halfway (profile s) (word s) (a .t) t tail (l .j + 1) (λ x. getD (b .last .1 .1 .1 .1 .1 .0) x 0)) (sym put) step,
+      b .kept .1 .1 .1 .1 .1 .1 .0 ∙ i .2,
+      subst (λ t. Halfway (profile s) (word s) (a .t) t tail (l .j + 1) (λ x. getD (b .last .1 .1 .1 .1 .1 .1 .0) x 0)) (sym put) step,
     )
 
 same-length : tie.Need-same-length Inv-loop μ-loop
@@ -95,7 +95,7 @@ same-length c = c .before .loop .inv .1
 returns : tie.Need-returns Inv-loop μ-loop
 returns c =
     let s = c .before .before .before .before .before .before in
-    let e : c .before .loop .j ≡ length (of-total (profile s) (word s) (s .args .t)) = omega (arith, s .pre .whole) in
+    let e : c .before .loop .j ≡ length (of-total (profile s) (word s) (s .args .t)) = omega (arith, s .pre .0 .whole) in
     halfway-end (profile s) (word s) (s .args .t) (c .before .loop .part) _ _ (rw e at (c .before .loop .inv .3))
 
 pub fill-total-spec : {M : Type 1} → statement M

@@ -12,18 +12,18 @@ use Rattle.forward.proofs.fill_totals.Statement.{statement}
 use Rattle.forward.proofs.fill_totals.Tie as tie
 
 abbrev Inv-loop : tie.InvT-loop
-Inv-loop table₀ number shape masks moves log starts places at₀ looks₀ table at looks =
+Inv-loop table₀ number shape masks moves rows log starts places at₀ looks₀ table at looks =
     (at .room ≡ at₀ .room) × Reaching (profile-of shape masks moves) log table₀ table (at₀ .room) (at .t) (at .from) (at .first) looks
 
 abbrev μ-loop : tie.MeasureT-loop
-μ-loop table₀ number shape masks moves log starts places at₀ looks₀ table at looks =
+μ-loop table₀ number shape masks moves rows log starts places at₀ looks₀ table at looks =
     length log - at .t
 
 loop-holds : tie.Need-loop-holds Inv-loop μ-loop
 loop-holds c =
     let a = c .before .before .before .before .before .before .args in
     let h = c .before .before .before .before .before .before .pre in
-    (refl, reaching-start (a .number) (h .0 .1) (h .1 .0) (h .1 .1))
+    (refl, reaching-start (a .number) (h .0 .1) (h .1 .0 .0) (h .1 .0 .1))
 
 fill-total-requires : tie.Need-fill-total-requires Inv-loop μ-loop
 fill-total-requires c κs =
@@ -31,8 +31,11 @@ fill-total-requires c κs =
     let l = c .before .before .before .loop in
     let f = l .inv .1 in
     let e = sym (l .inv .0) in (
-      subst₂ (λ m z. Ready (profile-of (a .shape) (a .masks .now) (a .moves .now)) (a .log .now) m z (a .starts .now) (a .places .now)) (sym (f .kept)) e (c .before .before .before .before .before .before .before .before .before .before .pre .0 .0),
-      subst (λ z. Begun (profile-of (a .shape) (a .masks .now) (a .moves .now)) (a .log .now) (l .table) z (l .at .t) (l .at .from) (l .at .first)) e (f .begins),
+      (
+        subst₂ (λ m z. Ready (profile-of (a .shape) (a .masks .now) (a .moves .now)) (a .log .now) m z (a .starts .now) (a .places .now)) (sym (f .kept)) e (c .before .before .before .before .before .before .before .before .before .before .pre .0 .0),
+        subst (λ z. Begun (profile-of (a .shape) (a .masks .now) (a .moves .now)) (a .log .now) (l .table) z (l .at .t) (l .at .from) (l .at .first)) e (f .begins),
+      ),
+      c .before .before .before .before .before .before .before .before .before .before .pre .1 .1,
     )
 
 enum-told : tie.Need-enum-told Inv-loop μ-loop
@@ -61,11 +64,11 @@ loop-again c =
     let q = c .before .before .before .total .given .0 in
     (l .inv .0, reaching-next (c .before .before .before .before .before .before .before .before .before .before .before .before .before .before .before .before .before .before .pre .0 .0) (l .inv .1) (c .before .before .before .before .before .before .before .before .before .if1 .taken) (q .0) (q .1 .0) (x .last .0) g (x .kept .0))
 
-add-t20 : tie.Need-add-t20 Inv-loop μ-loop
-add-t20 c = omega (arith, c .before .before .before .before .before .before .before .before .if1 .taken, c .before .before .before .before .before .before .before .before .before .before .before .before .before .before .before .before .before .pre .0 .0 .log .short)
-
 add-t21 : tie.Need-add-t21 Inv-loop μ-loop
-add-t21 c = omega (arith, loop-again c .1 .begins .inside, c .before .before .before .before .before .before .before .before .before .before .before .before .before .before .before .before .before .before .pre .0 .0 .few)
+add-t21 c = omega (arith, c .before .before .before .before .before .before .before .before .if1 .taken, c .before .before .before .before .before .before .before .before .before .before .before .before .before .before .before .before .before .pre .0 .0 .log .short)
+
+add-t22 : tie.Need-add-t22 Inv-loop μ-loop
+add-t22 c = omega (arith, loop-again c .1 .begins .inside, c .before .before .before .before .before .before .before .before .before .before .before .before .before .before .before .before .before .before .pre .0 .0 .few)
 
 add-looks : tie.Need-add-looks Inv-loop μ-loop
 add-looks c = omega (arith, reaching-few (c .before .before .before .before .before .before .before .before .before .before .before .before .before .before .before .before .before .before .pre .0 .0) (loop-again c .1), c .before .before .before .before .before .before .before .before .before .before .before .before .before .before .before .before .before .before .pre .0 .0 .few)
@@ -91,8 +94,8 @@ fill-totals-spec =
     same-length
     returns
     enum-known-total
-    add-t20
     add-t21
+    add-t22
     add-looks
     loop-less
     loop-again

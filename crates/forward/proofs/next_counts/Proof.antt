@@ -15,7 +15,7 @@ enum-known-least : tie.Need-enum-known-least
 enum-known-least c = search needs
 
 unite-requires : tie.Need-unite-requires
-unite-requires c κs = search needs
+unite-requires c κs = (search needs, (search needs, c .before .before .before .before .before .before .before .before .before .pre .1))
 
 advance-requires : tie.Need-advance-requires
 advance-requires c κs = search needs

@@ -7,7 +7,7 @@ use lib.ListN.{getD, length, length-set, set}
 use Rattle.profile.specs.Prefixes.{at}
 use Rattle.counts.specs.Counts.{words}
 use Rattle.merge.specs.Merge.{advanced, moved-on}
-use Rattle.merge.proofs.Cursors.{next-cursor, put-cursor}
+use Rattle.steps.proofs.Fronts.{front-next, front-put}
 use borrow.Author.Needs.{needs}
 use Rattle.merge.proofs.advance.Statement.{statement}
 use Rattle.merge.proofs.advance.Tie as tie
@@ -53,7 +53,7 @@ loop-again c =
     let h : x < length cs = omega arith in (
       search needs,
       simp length-set (l .inv .1),
-      ap₂ (λ i j. set i x j) (l .inv .2) (c .move-on .ensures ∙ ap (λ j. moved-on t j x (words (a .e))) (ap (λ i. getD i x 0) (l .inv .2) ∙ next-cursor f cs x h)) ∙ put-cursor f cs x h,
+      ap₂ (λ i j. set i x j) (l .inv .2) (c .move-on .ensures ∙ ap (λ j. moved-on t j x (words (a .e))) (ap (λ i. getD i x 0) (l .inv .2) ∙ front-next f cs x h)) ∙ front-put f cs x h,
     )
 
 same-length : tie.Need-same-length Inv-loop μ-loop

@@ -5,7 +5,7 @@ use mathlib.Core.Path.{_≡_, refl, _∙_, ap, ap₂}
 use native.Mathlib.Omega.{arith}
 use lib.ListN.{length, length-set, set}
 use Rattle.merge.specs.Merge.{seek-from, started}
-use Rattle.merge.proofs.Cursors.{put-cursor}
+use Rattle.steps.proofs.Fronts.{front-put}
 use borrow.Author.Needs.{needs}
 use Rattle.merge.proofs.start_cursors.Statement.{statement}
 use Rattle.merge.proofs.start_cursors.Tie as tie
@@ -45,7 +45,7 @@ loop-again c =
     let h : x < length cs = omega arith in (
       search needs,
       simp length-set (l .inv .1),
-      ap₂ (λ i j. set i x j) (l .inv .2) (c .seek .ensures) ∙ put-cursor f cs x h,
+      ap₂ (λ i j. set i x j) (l .inv .2) (c .seek .ensures) ∙ front-put f cs x h,
     )
 
 same-length : tie.Need-same-length Inv-loop μ-loop

@@ -12,16 +12,18 @@ use Rattle.counts.specs.Counts.{words}
 use Rattle.records.specs.Records.{forward-at}
 use Rattle.merge.specs.Merge.{chosen?}
 use Rattle.merge.proofs.Cursors.{gives-inside}
+use Rattle.steps.specs.Rows.{forward-by}
+use Rattle.steps.proofs.Rows.{forward-same}
 use Rattle.steps.proofs.Unions.{union-next}
 use borrow.Author.Needs.{needs}
 use Rattle.merge.proofs.unite.Statement.{statement}
 use Rattle.merge.proofs.unite.Tie as tie
 
 abbrev Inv-loop : tie.InvT-loop
-Inv-loop level moves k s cursors e out₀ x₀ out x = (x ≤ k) × (out ≡ union (λ y. forward-step k s moves (forward-at level (at cursors y)) y) (filter (chosen? level cursors (words e)) (below x)))
+Inv-loop level moves rows k s cursors e out₀ x₀ out x = (x ≤ k) × (out ≡ union (λ y. forward-step k s moves (forward-at level (at cursors y)) y) (filter (chosen? level cursors (words e)) (below x)))
 
 abbrev μ-loop : tie.MeasureT-loop
-μ-loop level moves k s cursors e out₀ x₀ out x = k - x
+μ-loop level moves rows k s cursors e out₀ x₀ out x = k - x
 
 loop-holds : tie.Need-loop-holds Inv-loop μ-loop
 loop-holds c = (search needs, refl)
@@ -41,8 +43,8 @@ forward-at-requires c κs =
     let l = c .before .before .before .before .loop in
     omega (arith, gives-inside (a .level .now) (at (a .cursors .now) (l .x)) (l .x) (words (a .e)) (sym (c .before .gives .ensures) ∙ c .if1 .taken))
 
-step-forward-requires : tie.Need-step-forward-requires Inv-loop μ-loop
-step-forward-requires c κs = search needs
+forward-by-requires : tie.Need-forward-by-requires Inv-loop μ-loop
+forward-by-requires c κs = search needs
 
 add-x : tie.Need-add-x Inv-loop μ-loop
 add-x c = search needs
@@ -57,10 +59,11 @@ loop-again c =
     let i = l .inv .1 in
     let f : ℕ → ℕ = λ y. forward-step (a .k) (a .s) (a .moves .now) (forward-at (a .level .now) (at (a .cursors .now) y)) y in
     let p : ℕ → Bool = chosen? (a .level .now) (a .cursors .now) (words (a .e)) in
+    let same = forward-same (a .k) (a .s) (a .moves .now) (a .rows .now) (c .before .before .before .before .before .before .before .before .pre .1 .1) (omega arith) (omega arith) (l .x) (omega arith) in
     let m : p (l .x) ≡ c .before .gives .result = sym (c .before .gives .ensures) in (
       search needs,
       ⊎-elim
-          (λ w. w .3 ∙ ap₂ bitOr i (w .2 .ensures ∙ ap (λ S. forward-step (a .k) (a .s) (a .moves .now) S (l .x)) (w .1 .ensures)) ∙ sym (union-next f p (l .x) true (m ∙ w .0 .taken)))
+          (λ w. w .3 ∙ ap₂ bitOr i (w .2 .ensures ∙ ap (λ S. forward-by (a .s) (a .rows .now) S (l .x)) (w .1 .ensures) ∙ same (forward-at (a .level .now) (at (a .cursors .now) (l .x)))) ∙ sym (union-next f p (l .x) true (m ∙ w .0 .taken)))
           (λ w. w .1 ∙ i ∙ sym (union-next f p (l .x) false (m ∙ w .0 .left)))
           (c .if1 .came),
     )
@@ -83,7 +86,7 @@ unite-spec =
     shared-slice-read-j
     gives-requires
     forward-at-requires
-    step-forward-requires
+    forward-by-requires
     add-x
     loop-less
     loop-again

@@ -1,0 +1,78 @@
+//! Measures the judge against the same algorithm in Rust, a hash map and a listing; `bench/run` builds and runs it.
+
+mod clock;
+mod hashed;
+mod input;
+mod library;
+mod listing;
+mod measure;
+mod merge;
+mod picture;
+mod report;
+mod rules;
+
+use input::Letters::{Groups, Independent, Neighbours, Random};
+use input::{Letters, Row};
+use measure::{Measured, Tables};
+
+/// More records than any row has prefixes.
+const RECORDS: usize = 4_500_000;
+
+/// How often all inputs are gone through.
+const SWEEPS: usize = 3;
+
+/// Lines of k, letters, s, verdict, and the lengths of the logs: P grows along a line. A log in turns has every letter, since pairs with a letter
+/// that does not occur are cheaper.
+const LINES: &[(usize, Letters, usize, bool, &[usize])] = &[
+    (2, Independent, 2, true, &[62, 255]),
+    (2, Independent, 8, true, &[12, 16, 20, 62, 128, 255]),
+    (2, Independent, 8, false, &[255]),
+    (3, Independent, 8, true, &[9, 12, 30, 66, 141, 255]),
+    (3, Independent, 32, true, &[30, 141, 255]),
+    (4, Independent, 2, true, &[40, 120]),
+    (4, Independent, 8, true, &[8, 10, 20, 40, 68, 120, 176]),
+    (4, Independent, 8, false, &[120]),
+    (4, Independent, 32, true, &[40, 120]),
+    (4, Neighbours, 8, true, &[255]),
+    (8, Independent, 8, true, &[8, 12, 20, 28, 40]),
+    (8, Independent, 32, true, &[20, 36]),
+    (8, Neighbours, 8, true, &[90, 255]),
+    (8, Random, 8, true, &[60, 120]),
+    (8, Random, 8, false, &[120]),
+    (8, Groups, 8, true, &[120, 255]),
+    (16, Independent, 8, true, &[16, 20]),
+    (16, Neighbours, 8, true, &[40, 60]),
+    (16, Groups, 8, true, &[48, 100]),
+    (16, Random, 2, true, &[60]),
+    (16, Random, 32, true, &[60]),
+];
+
+fn rows() -> impl Iterator<Item = Row> {
+    LINES.iter().flat_map(|&(k, letters, s, verdict, lengths)| lengths.iter().map(move |&n| Row { k, n, letters, s, verdict }))
+}
+
+fn machine() -> String {
+    let info = std::fs::read_to_string("/proc/cpuinfo").unwrap_or_default();
+    let model = info.lines().find(|l| l.starts_with("model name")).and_then(|l| l.split_once(": "));
+    model.map_or("unknown", |(_, name)| name).to_string()
+}
+
+fn main() {
+    let picture = std::env::args().nth(1).expect("the path of the picture");
+    println!("machine: {}", machine());
+    println!("contestants built with: {}", env!("BENCH_BUILD"));
+    println!("least time of rounds in turn, in {SWEEPS} sweeps over the inputs (from 5 ms on processor time); work tables touched before; the hash map's time has its allocation and release");
+    println!("a pair is a prefix and a letter; verdicts, P, looks, orders and the records of both tables are asserted to agree");
+    let mut tables = Tables::new(RECORDS);
+    let mut all: Vec<_> = rows().map(Measured::new).collect();
+    for _ in 0..SWEEPS {
+        all.iter_mut().for_each(|m| m.sweep(&mut tables));
+    }
+    println!("\n{}", report::HEAD);
+    for (number, m) in (1..).zip(&all) {
+        println!("{}", report::line(number, m));
+    }
+    println!("\n{}", report::targets(&all));
+    std::fs::write(&picture, picture::svg(&all)).expect("the picture can be written");
+    println!("picture: {picture}");
+}

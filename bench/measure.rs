@@ -1,0 +1,135 @@
+//! Every contestant on the same input, in turn, round after round, and all inputs again in several sweeps; of each the least time is taken. Other
+//! work on the machine only ever adds to a time, and one that lasts for seconds meets no input in every sweep.
+
+use crate::input::{make, Profile, Row};
+use crate::rules::{Answer, Refusal};
+use crate::{clock, hashed, library, listing, merge};
+use std::time::{Duration, Instant};
+
+/// Reachable logs up to which the listing takes part.
+const LOGS: u64 = 200_000;
+
+/// Rounds of an input in a sweep: at least so many, and more until the input has had its time.
+const ROUNDS: usize = 2;
+const TIME: Duration = Duration::from_millis(400);
+
+/// Seconds below which a run is timed by the time of day, which is exact, and some round of many is not interrupted. Longer runs are
+/// interrupted in every round where the machine is shared; they are timed by processor time.
+const SHORT: f64 = 0.005;
+
+/// The work tables, allocated and touched before any time is taken.
+pub struct Tables {
+    ours: Vec<u32>,
+    merge: Vec<u32>,
+}
+
+impl Tables {
+    pub fn new(records: usize) -> Tables {
+        // Not zeros: memory of zeros is handed out untouched.
+        Tables { ours: vec![1; 6 * records], merge: vec![1; 6 * records] }
+    }
+}
+
+/// The least time of each contestant, in seconds.
+pub struct Times {
+    pub ours: f64,
+    pub merge: f64,
+    pub hashed: f64,
+    pub listing: Option<f64>,
+}
+
+pub struct Measured {
+    pub row: Row,
+    pub verdict: bool,
+    pub prefixes: usize,
+    pub logs: Option<u64>,
+    pub times: Times,
+}
+
+impl Measured {
+    pub fn new(row: Row) -> Measured {
+        let times = Times { ours: f64::MAX, merge: f64::MAX, hashed: f64::MAX, listing: Some(f64::MAX) };
+        Measured { row, verdict: false, prefixes: 0, logs: None, times }
+    }
+
+    /// Nanoseconds for each pair of a prefix and a letter.
+    pub fn per_pair(&self) -> f64 {
+        self.times.ours * 1e9 / (self.prefixes * self.row.k) as f64
+    }
+
+    /// The rounds of one sweep. Asserts that all contestants answer the same, and in the first sweep that the tables are the same.
+    pub fn sweep(&mut self, tables: &mut Tables) {
+        let (p, log) = make(self.row);
+        let begun = Instant::now();
+        let mut round = 0;
+        while round < ROUNDS || begun.elapsed() < TIME {
+            let ours = self.round(&p, &log, tables);
+            if self.prefixes == 0 {
+                assert_same_tables(tables, ours.prefixes);
+            }
+            self.verdict = ours.verdict;
+            self.prefixes = ours.prefixes;
+            round += 1;
+        }
+    }
+
+    fn round(&mut self, p: &Profile, log: &[u8], tables: &mut Tables) -> Answer {
+        let times = &mut self.times;
+        let ours = answered(log, |order| timed(&mut times.ours, || library::judge(p, log, order, &mut tables.ours)));
+        let merged = answered(log, |order| timed(&mut times.merge, || merge::judge(p, log, order, &mut tables.merge)));
+        assert!(ours == merged, "the merge answers the same");
+        let hashed = answered(log, |order| timed(&mut times.hashed, || hashed::judge(p, log, order)));
+        assert!(ours == hashed, "the hash map answers the same");
+        let (answer, order) = ours;
+        self.list(p, log, answer.verdict, &order);
+        answer
+    }
+
+    /// The listing's part of a round; none where there are too many logs.
+    fn list(&mut self, p: &Profile, log: &[u8], verdict: bool, order: &[u8]) {
+        let Some(best) = &mut self.times.listing else { return };
+        let mut listed_order = vec![0; log.len()];
+        let listed = timed(best, || listing::judge(p, log, &mut listed_order, LOGS)).expect("the input is admitted");
+        match listed {
+            Some(listed) => {
+                assert!((verdict, order) == (listed.verdict, &listed_order[..]), "the listing answers the same");
+                self.logs = Some(listed.logs);
+            }
+            None => self.times.listing = None,
+        }
+    }
+}
+
+/// Runs it once; the least of `best` and its time is left in `best`.
+fn timed<T>(best: &mut f64, run: impl FnOnce() -> T) -> T {
+    let used = clock::now();
+    let begun = Instant::now();
+    let result = run();
+    let passed = begun.elapsed().as_secs_f64();
+    let used = clock::now() - used;
+    *best = best.min(if used < SHORT { passed } else { used });
+    result
+}
+
+/// The records sorted by total count and counts: the order within a total is free. Asserts that the totals rise.
+fn sorted(table: &[u32]) -> Vec<[u32; 6]> {
+    let total = |r: &[u32; 6]| r[..4].iter().flat_map(|w| w.to_le_bytes()).map(u32::from).sum::<u32>();
+    let mut records = table.as_chunks::<6>().0.to_vec();
+    assert!(records.is_sorted_by_key(total), "totals rise");
+    for level in records.chunk_by_mut(|a, b| total(a) == total(b)) {
+        level.sort_unstable();
+    }
+    records
+}
+
+fn assert_same_tables(tables: &Tables, prefixes: usize) {
+    let used = 6 * prefixes;
+    assert!(sorted(&tables.ours[..used]) == sorted(&tables.merge[..used]), "the tables have the same records");
+}
+
+/// The answer of a judge with its order. The looks of the contestants agree as well: all count the letters that can be added to prefixes.
+fn answered(log: &[u8], judge: impl FnOnce(&mut [u8]) -> Result<Answer, Refusal>) -> (Answer, Vec<u8>) {
+    let mut order = vec![0; log.len()];
+    let answer = judge(&mut order).expect("the input is admitted and its records fit");
+    (answer, order)
+}

@@ -1,0 +1,87 @@
+-- The log file that document 01 prints, and the edges of a file's refusals: one theorem over each list of rows.
+use mathlib.Core.Path.{_≡_, refl}
+use mathlib.Core.Bool.{Bool, _&&_}
+use mathlib.Core.List.{List, [], _∷_}
+use Prim.Native.Nat.{ℕ}
+use lib.Dec.{T}
+use lib.ListN.{drop, set}
+use Rattle.profile.specs.Lists.{Mem, all, equal?}
+use Rattle.profile.proofs.Cases.{ab, alt}
+use Rattle.profile.proofs.Edges.{told}
+use Rattle.profile.proofs.Lists.{all-at, equal-test, fst-of, snd-of}
+use Rattle.logfile.specs.Files.{log-part-of, read-refusal}
+use Rattle.filewriter.specs.Written.{file-bytes}
+
+-- document 01, "Program": the file of Alt with the log bbaa
+pub alt-file : List ℕ
+alt-file =
+    2 ∷ 0 ∷ 1 ∷ 0 ∷ 2 ∷ 0 ∷ 0 ∷ 0 ∷ 0 ∷ 0 ∷ 0 ∷ 0 ∷ 0 ∷ 0 ∷ 0 ∷ 0 ∷ 1 ∷ 0 ∷ 0 ∷ 0
+    ∷ 1 ∷ 1 ∷ 0 ∷ 0 ∷ 2 ∷ 2 ∷ 0 ∷ 4 ∷ 24 ∷ 0 ∷ 20 ∷ 0 ∷ 4 ∷ 0 ∷ 0 ∷ 0 ∷ 1 ∷ 0 ∷ 0 ∷ 0 ∷ []
+
+-- its log
+pub bbaa : List ℕ
+bbaa = 1 ∷ 1 ∷ 0 ∷ 0 ∷ []
+
+pub alt-written : file-bytes (alt ab) bbaa ≡ alt-file
+unfolding alt-file bbaa
+alt-written = refl
+
+pub record FileCase : Type 0 where
+  pub file : List ℕ
+  pub places : ℕ
+  pub numbers : ℕ
+  pub answer : List ℕ
+  pub part : List ℕ
+
+case : List ℕ → ℕ → ℕ → List ℕ → List ℕ → FileCase
+case f a b r w = record { file = f; places = a; numbers = b; answer = r; part = w }
+
+-- number and place of the refusal, nothing where there is none; and the log part
+pub files : List FileCase
+unfolding alt-file case bbaa
+files =
+    case alt-file 2 4 [] bbaa
+    ∷ case alt-file 1 4 (9 ∷ 0 ∷ []) bbaa
+    ∷ case alt-file 2 3 (9 ∷ 0 ∷ []) bbaa
+    ∷ case (7 ∷ 7 ∷ alt-file) 2 4 [] bbaa
+    ∷ case (drop 25 alt-file) 0 0 (1 ∷ 0 ∷ []) []
+    ∷ case (drop 24 alt-file) 0 0 (3 ∷ 0 ∷ []) []
+    ∷ case (drop 1 alt-file) 2 4 (3 ∷ 0 ∷ []) []
+    ∷ case (set alt-file 24 0) 2 4 (2 ∷ 0 ∷ []) []
+    ∷ case (set alt-file 25 33) 2 4 (2 ∷ 0 ∷ []) []
+    ∷ case (set alt-file 26 2) 2 4 (2 ∷ 0 ∷ []) []
+    ∷ case (set alt-file 34 1) 2 4 (2 ∷ 0 ∷ []) []
+    ∷ case (set alt-file 35 1) 2 4 (2 ∷ 0 ∷ []) []
+    ∷ case (set alt-file 28 3) 2 4 (3 ∷ 0 ∷ []) []
+    ∷ case (set alt-file 28 25) 2 4 (3 ∷ 0 ∷ []) []
+    ∷ case (set alt-file 30 15) 2 4 (3 ∷ 0 ∷ []) []
+    ∷ case (set alt-file 32 3) 2 4 (3 ∷ 0 ∷ []) []
+    ∷ case (set alt-file 32 5) 2 4 [] (0 ∷ 1 ∷ 1 ∷ 0 ∷ [])
+    ∷ case (set (set alt-file 32 0) 27 0) 2 4 [] []
+    ∷ case (set alt-file 32 24) 2 4 (8 ∷ 0 ∷ []) []
+    ∷ case (set alt-file 0 1) 2 4 (4 ∷ 0 ∷ []) []
+    ∷ case (set alt-file 1 1) 2 4 (4 ∷ 0 ∷ []) []
+    ∷ case (set alt-file 2 0) 2 4 (5 ∷ 0 ∷ []) []
+    ∷ case (set alt-file 36 4) 2 4 (6 ∷ 0 ∷ []) []
+    ∷ case (set alt-file 7 1) 2 4 (6 ∷ 0 ∷ []) []
+    ∷ case (set alt-file 22 2) 0 0 (8 ∷ 2 ∷ []) []
+    ∷ []
+
+abbrev pub answer-of : FileCase → List ℕ
+answer-of c = told (read-refusal (c .file) (c .places) (c .numbers))
+
+answered? : FileCase → Bool
+answered? c = equal? (answer-of c) (c .answer) && equal? (log-part-of (c .file)) (c .part)
+
+files-computed : T (all answered? files)
+unfolding answered? files alt-file case bbaa
+files-computed = tt
+
+-- each file of the list is answered as its row says
+pub read-as : (c : FileCase) → Mem c files → (answer-of c ≡ c .answer) × (log-part-of (c .file) ≡ c .part)
+unfolding answered?
+read-as c m =
+    let t = all-at answered? files-computed m in
+    let a = equal? (answer-of c) (c .answer) in
+    let b = equal? (log-part-of (c .file)) (c .part) in
+    (equal-test (answer-of c) (c .answer) .0 (fst-of a b t), equal-test (log-part-of (c .file)) (c .part) .0 (snd-of a b t))

@@ -1,0 +1,38 @@
+-- What the relations of document 01 say, taken apart, and a record's counts computed.
+use mathlib.Core.Path.{_≡_, refl}
+use mathlib.Core.Bool.{Bool, not}
+use mathlib.Core.List.{List, [], _∷_, _++_, map}
+use Prim.Native.Nat.{ℕ, _*_, _<_}
+use lib.Dec.{T}
+use lib.ListN.{length, drop}
+use Rattle.profile.specs.Lists.{NoDup, Rising, flat-map}
+use Rattle.profile.specs.Traces.{Reachable}
+use Rattle.profile.specs.Automata.{Automaton}
+use Rattle.profile.specs.Prefixes.{IsPrefix, count, total}
+use Rattle.profile.specs.Orders.{Same}
+use Rattle.profile.specs.Tables.{Holds, Layout, count-field, layout, packed, record-length, record-of}
+
+-- "each is reachable from the other"
+pub same-back : (may : ℕ → ℕ → Bool) (v w : List ℕ) → Same may v w → Reachable may w v
+same-back may v w s = s .1
+
+-- "whenever an event is marked, every earlier event with … a dependent letter is marked too"
+pub marked-too : {may : ℕ → ℕ → Bool} {letter : ℕ → ℕ} {w : List ℕ} {c : ℕ → ℕ} → IsPrefix may letter w c → (u v x : List ℕ) (a b : ℕ)
+    → w ≡ u ++ (a ∷ (v ++ (b ∷ x))) → count letter (u ++ (a ∷ v)) (letter b) < c (letter b) → T (not (may a b)) → count letter u (letter a) < c (letter a)
+marked-too p u v x a b e m d = p .closed u v x a b e m d
+
+-- "Every prefix has one record, in rising order of total count …. Numbers past record P − 1 are not written"
+module _ {L : Layout} {may : ℕ → ℕ → Bool} {letter : ℕ → ℕ} {M : Automaton} {k : ℕ} {w before after : List ℕ} (h : Holds L may letter M k w before after) where
+  pub one-record : NoDup (h .order)
+  one-record = h .once
+
+  pub by-total : Rising (map total (h .order))
+  by-total = h .rises
+
+  pub rest-stays : after ≡ flat-map (record-of L may letter M w) (h .order) ++ drop (record-length L * length (h .order)) before
+  rest-stays = h .written
+
+-- "letter i has bits 8 × (i mod 4) and up of number i div 4", of letters 0, 3 and 4
+pub fields : (count-field layout (packed layout (1 ∷ 2 ∷ 3 ∷ 4 ∷ 5 ∷ [])) 0 ≡ 1) × (count-field layout (packed layout (1 ∷ 2 ∷ 3 ∷ 4 ∷ 5 ∷ [])) 3 ≡ 4)
+    × (count-field layout (packed layout (1 ∷ 2 ∷ 3 ∷ 4 ∷ 5 ∷ [])) 4 ≡ 5)
+fields = (refl, refl, refl)
