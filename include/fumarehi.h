@@ -95,14 +95,14 @@ uint32_t fumarehi_first_order(size_t k,
                               uint64_t told[1]);
 
 /* Reads a log file. told: place, k, s, start, final set, log length.
- * Fills the first k masks and the first s * k moves; further elements stay. Refused by 1 to 9. */
+ * Fills the first k masks and the first s * k moves; further elements stay. Refused by 1 to 6, 8 and 9; 7 cannot be, as the length is one byte. */
 uint32_t fumarehi_read_file(const uint8_t *file, size_t file_len,
                             uint16_t *masks, size_t masks_len,
                             uint32_t *moves, size_t moves_len,
                             uint64_t told[6]);
 
 /* Finds the log in a log file. told: place, offset, length.
- * The log is the part file[offset] to file[offset + length - 1]. Refused by 1 to 8; the part is then empty. */
+ * The log is the part file[offset] to file[offset + length - 1]. Refused by 1 to 6 and 8; the part is then empty. */
 uint32_t fumarehi_log_part(const uint8_t *file, size_t file_len,
                            uint64_t told[3]);
 

@@ -11,7 +11,7 @@ use Rattle.profile.specs.Tables.{layout, record-length}
 use Rattle.profile.specs.Traces.{independent}
 use Rattle.profile.proofs.Lists.{mem-getD}
 use Rattle.letters.specs.Letters.{letters-by}
-use Rattle.merge.specs.Merge.{advanced, least-of, united}
+use Rattle.merge.specs.Merge.{advanced, givers, least-of, united}
 use Rattle.records.specs.Records.{put-record}
 use Rattle.forward.specs.Forward.{Ready}
 use Rattle.forward.specs.Merging.{Merging, Placed, Steps, begun, records-between, totals}
@@ -64,7 +64,7 @@ module _ {p : Profile} {w : List ℕ} {room : ℕ} {starts places : List ℕ} {t
     )
 
     pub merge-put : (S L n : ℕ) (after next : List ℕ) → first + j < room
-        → S ≡ united (p .k) (p .s) (p .moves) part cursors v → next ≡ advanced (p .k) part cursors v
+        → S ≡ united (p .k) (p .s) (p .moves) part cursors (givers part (p .k) cursors) → next ≡ advanced (p .k) part cursors (givers part (p .k) cursors)
         → L ≡ union (λ x. 2 ^ x) (letters-by (independent (p .masks)) (p .k) (length w) starts places v)
         → n ≡ length (letters-by (independent (p .masks)) (p .k) (length w) starts places v)
         → after ≡ put-record table (first + j) (v ++ (S ∷ L ∷ []))
@@ -73,13 +73,13 @@ module _ {p : Profile} {w : List ℕ} {room : ℕ} {starts places : List ℕ} {t
         let q = next-some r t part part-drafted cursors long j (h .placed) v least in
         let e = getD E j [] in
         let i = mem-getD E j [] (q .0) in
-        let f = s ∙ ap (united (p .k) (p .s) (p .moves) part cursors) (q .1) ∙ next-forward r t part part-drafted cursors long j (h .placed) (q .0) in
+        let f = s ∙ next-forward r t part part-drafted cursors long j (h .placed) (q .0) in
         let D = totals p w (suc t) ++ take j E in (
           lt,
           q .0,
           m ∙ ap length (found-letters r (suc t) e i v (q .1)),
           put ∙ ap₂ (put-record table) (sym written-length) (record-found r (suc t) e i v (q .1) S L f l) ∙ begun-put p w D e table (h .written)
               ∙ ap (λ C. begun p w C table) (append-assoc (totals p w (suc t)) (take j E) (e ∷ []) ∙ ap (λ C. totals p w (suc t) ++ C) (sym (take-suc E j [] (q .0)))),
-          subst (Placed p w t (suc j)) (sym (a ∙ ap (advanced (p .k) part cursors) (q .1)))
+          subst (Placed p w t (suc j)) (sym a)
               (next-placed r t part part-drafted cursors long j (h .placed) (q .0)),
         )

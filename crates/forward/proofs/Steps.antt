@@ -1,5 +1,5 @@
 -- From one total to the next: what the cursors give is the next prefix, with its forward set.
-use mathlib.Core.Path.{_≡_, sym, _∙_, subst}
+use mathlib.Core.Path.{_≡_, sym, _∙_, ap, subst}
 use mathlib.Core.Bool.{Bool}
 use mathlib.Core.Logic.{⊎-elim}
 use mathlib.Core.List.{List, [], _∷_, Memᴰ·append-right}
@@ -15,13 +15,13 @@ use Rattle.profile.specs.Tables.{layout, packed}
 use Rattle.profile.specs.Traces.{bit, independent}
 use Rattle.theory.proofs.Levels.{bump}
 use Rattle.profile.proofs.Lists.{lt-or-le, mem-getD}
-use Rattle.theory.proofs.Merge.{Cursor, Grown, cursor-end, cursor-next, cursor-start, extends?, forward-merge, least-of-all, level-grown, some-hits}
+use Rattle.theory.proofs.Merge.{Cursor, Grown, cursor-end, cursor-next, cursor-start, extends?, forward-merge, hits, least-of-all, level-grown, some-hits}
 use Rattle.theory.proofs.Prefixes.{addable?}
 use Rattle.theory.proofs.Profiles.{lawful}
 use Rattle.counts.proofs.Packed.{Small}
 use Rattle.letters.proofs.Additions.{letters-bit}
-use Rattle.merge.specs.Merge.{advanced, least-of, started, united}
-use Rattle.merge.proofs.Levels.{level-advanced, level-least, level-least-none, level-started, level-united}
+use Rattle.merge.specs.Merge.{advanced, givers, least-of, started, united}
+use Rattle.merge.proofs.Levels.{level-advanced, level-least, level-least-none, level-letters, level-started, level-united}
 use Rattle.forward.specs.Forward.{Ready}
 use Rattle.forward.specs.Merging.{Placed}
 use Rattle.forward.proofs.Totals.{apart, counted}
@@ -78,20 +78,29 @@ module _ {p : Profile} {w : List ℕ} {m room : ℕ} {starts places : List ℕ} 
           (counted r (suc n) e in-next .0) (counted r (suc n) e in-next .1)
           (λ x h. least-of-all grown (take j E) e (drop (suc j) E) (split-at E j [] lt) x (at cursors x) (cursor-at x h)) (hit .0) (hit .1) (hit .2)
 
+      -- the letters whose cursors give them
+      next-letters : (x : ℕ) → x < p .k → bit (givers t (p .k) cursors) x ≡ hits C x e (at cursors x)
+      next-letters x h =
+          let hit = some-hits grown (take j E) e (drop (suc j) E) (split-at E j [] lt) (at cursors) cursor-at in
+          ap (λ S. bit S x) (level-letters (forward-set p w) (letters-set p w) C t written (p .k) (r .profile .relation .most) sizes cursors stands e
+          (counted r (suc n) e in-next .0) (counted r (suc n) e in-next .1)
+          (λ x h. least-of-all grown (take j E) e (drop (suc j) E) (split-at E j [] lt) x (at cursors x) (cursor-at x h)) (hit .0) (hit .1) (hit .2))
+          ∙ letters-bit (λ y. hits C y e (at cursors y)) (p .k) x h
+
       -- their forward set
-      pub next-forward : united (p .k) (p .s) (p .moves) t cursors (packed layout e) ≡ forward-set p w e
+      pub next-forward : united (p .k) (p .s) (p .moves) t cursors (givers t (p .k) cursors) ≡ forward-set p w e
       next-forward =
           level-united (forward-set p w) (letters-set p w) C t written (p .k) (r .profile .relation .most) sizes cursors stands e
-          (counted r (suc n) e in-next .0) (counted r (suc n) e in-next .1) (p .s) (p .moves)
+          (counted r (suc n) e in-next .0) (counted r (suc n) e in-next .1) (givers t (p .k) cursors) next-letters (p .s) (p .moves)
           ∙ sym (forward-merge (independent (p .masks)) (λ a. a) (apart r) (p .k) w (r .log .letters) (automaton p) (lawful p) n
           (take j E) e (drop (suc j) E) (split-at E j [] lt) (at cursors) cursor-at)
 
       -- the cursors once they are put
-      pub next-placed : Placed p w n (suc j) (advanced (p .k) t cursors (packed layout e))
+      pub next-placed : Placed p w n (suc j) (advanced (p .k) t cursors (givers t (p .k) cursors))
       next-placed x h =
           subst (Cursor C add x (drop (suc j) E))
           (sym (level-advanced (forward-set p w) (letters-set p w) C t written (p .k) (r .profile .relation .most) sizes cursors stands e
-          (counted r (suc n) e in-next .0) (counted r (suc n) e in-next .1) add bits long x h))
+          (counted r (suc n) e in-next .0) (counted r (suc n) e in-next .1) (givers t (p .k) cursors) next-letters add bits long x h))
           (cursor-next grown (take j E) e (drop (suc j) E) (split-at E j [] lt) x (at cursors x) h (cursor-at x h))
 
     -- the cursors give no counts exactly where all prefixes of the next total have come

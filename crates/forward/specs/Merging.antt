@@ -12,7 +12,7 @@ use Rattle.profile.specs.Traces.{independent}
 use Rattle.theory.proofs.Looks.{pairs-in}
 use Rattle.theory.proofs.Merge.{Cursor, extends?}
 use Rattle.counts.specs.Counts.{words}
-use Rattle.merge.specs.Merge.{advanced, least-of, united}
+use Rattle.merge.specs.Merge.{advanced, givers, least-of, united}
 use Rattle.forward.specs.declared.Merged.{Merged}
 use Rattle.forward.specs.declared.Merged.the-variants as merged
 use Rattle.forward.specs.declared.Next.{Next}
@@ -92,4 +92,4 @@ Steps p w room t first j before after cursors (merged.Put n) =
 abbrev pub Comes : ℕ → ℕ → List ℕ → List ℕ → List ℕ → List ℕ → Next → Type 0
 Comes k s moves t before after next.Nothing = least-of t k before ≡ none
 Comes k s moves t before after (next.At c S) =
-    (least-of t k before ≡ some (words c)) × (S ≡ united k s moves t before (words c)) × (after ≡ advanced k t before (words c))
+    (least-of t k before ≡ some (words c)) × (S ≡ united k s moves t before (givers t k before)) × (after ≡ advanced k t before (givers t k before))

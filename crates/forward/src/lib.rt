@@ -90,9 +90,9 @@ fn next_counts(
     let least = merge::least_counts(level, k, cursors);
     match least {
         Least::Nothing => Next::Nothing,
-        Least::At(c) => {
-            let forward = merge::unite(level, moves, rows, k, s, cursors, c);
-            merge::advance(level, k, cursors, c);
+        Least::At(c, set) => {
+            let forward = merge::unite(level, moves, rows, k, s, cursors, set);
+            merge::advance(level, k, cursors, set);
             Next::At(c, forward)
         }
     }

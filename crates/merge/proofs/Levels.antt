@@ -4,11 +4,13 @@ use mathlib.Core.Path.{_≡_, refl, sym, _∙_, ap, ap₂, subst}
 use mathlib.Core.Bool.{Bool, true, false, _&&_, not, cond}
 use mathlib.Core.Logic.{_⊎_, inl, inr, ⊎-elim}
 use mathlib.Core.List.{List, [], _∷_, _++_, append-nil}
-use mathlib.Core.Option.{Option, none, some}
-use Prim.Native.Nat.{ℕ, zero, suc, _+_, _-_, _≤_, _<_}
+use mathlib.Core.Option.{Option, none, some, Option·some-injective}
+use Prim.Native.Nat.{ℕ, zero, suc, _+_, _-_, _^_, _≤_, _<_}
+use native.Mathlib.Numerals.{add-one}
 use native.Mathlib.Omega.{arith}
 use borrow.Author.Tests.{le-ltb, lt-ltb}
-use lib.Dec.{T, ltb}
+use lib.Bits.{bitOr, or-zero-l}
+use lib.Dec.{T, ltb, not-T}
 use lib.ListN.{length, getD, drop, drop-of-length-le, length-set}
 use lib.Seq.{drop-cons}
 use Rattle.profile.specs.Lists.{Mem, below, equal?, filter, first-place, flat-map, range}
@@ -17,7 +19,7 @@ use Rattle.profile.specs.Traces.{bit}
 use Rattle.profile.specs.Automata.{forward-step, union}
 use Rattle.profile.specs.Prefixes.{at}
 use Rattle.profile.specs.Tables.{layout, packed}
-use Rattle.profile.proofs.Lists.{below-at, filter-agree, filter-at, is-false, is-true, lt-or-le, mem-getD, test}
+use Rattle.profile.proofs.Lists.{below-at, equal-test, filter-agree, filter-at, filter-none, is-false, is-true, lt-or-le, mem-getD, test}
 use Rattle.theory.proofs.Earliest.{ge-of-test, no-later-antisym, no-later-of-test}
 use Rattle.theory.proofs.Levels.{bump}
 use Rattle.theory.proofs.Merge.{hits, hits-at, seek}
@@ -25,8 +27,10 @@ use Rattle.counts.specs.Counts.{add-count, before?}
 use Rattle.counts.proofs.Packed.{Small, add-packed, before-packed, same-packed}
 use Rattle.records.specs.Records.{forward-at, last-at, records-in}
 use Rattle.records.proofs.Drafts.{counts-of-draft, forward-of-draft, last-of-draft, records-of-drafts}
-use Rattle.merge.specs.Merge.{advanced, better, candidate, chosen?, grown, least-of, moved-on, seek-from, started, united}
+use Rattle.merge.specs.Merge.{advanced, better, candidate, givers, grown, joined, least-of, moved-on, seek-from, started, united}
+use Rattle.merge.proofs.Cursors.{better-none}
 use Rattle.steps.proofs.Fronts.{front-at}
+use Rattle.steps.proofs.Unions.{union-next}
 use Rattle.profile.proofs.Sets.{union-agree}
 use Rattle.records.specs.Drafts.{draft}
 
@@ -77,12 +81,12 @@ module _ (f g : List ℕ → ℕ) (C : List (List ℕ)) (t : List ℕ) (drafts :
       candidate-given =
           ap (λ b. cond b (some (grown t (at cs x) x)) none) (lt-ltb (at cs x) (records-in t) (omega (arith, level-records))) ∙ ap (λ w. some w) given
 
-      chosen-given : (e : List ℕ) → length e ≡ length (getD C (at cs x) []) → Small layout e → chosen? t cs (packed layout e) x ≡ hits C x e (at cs x)
-      chosen-given e n k =
+      same-given : (e : List ℕ) → length e ≡ length (getD C (at cs x) []) → Small layout e
+          → equal? (packed layout (bump (getD C (at cs x) []) x)) (packed layout e) ≡ hits C x e (at cs x)
+      same-given e n k =
           let d = bump (getD C (at cs x) []) x in
           let l : length d ≡ length (getD C (at cs x) []) = length-set (getD C (at cs x) []) x (suc (at (getD C (at cs x) []) x)) in
-          ap₂ _&&_ (ap (ltb (at cs x)) level-records)
-          (ap (λ w. equal? w (packed layout e)) given ∙ same-packed layout d e (omega arith) (omega arith) small k)
+          same-packed layout d e (omega arith) (omega arith) small k ∙ sym (ap (λ b. b && equal? d e) (lt-ltb (at cs x) (length C) lt))
 
   -- where all cursors are at the end there is no least
   pub level-least-none : (cs : List ℕ) (k : ℕ) → ((x : ℕ) → x < k → length C ≤ at cs x) → least-of t k cs ≡ none
@@ -97,32 +101,24 @@ module _ (f g : List ℕ → ℕ) (C : List (List ℕ)) (t : List ℕ) (drafts :
     size-at : (x : ℕ) → at cs x < length C → length (getD C (at cs x) []) ≡ k
     size-at x lt = sizes (getD C (at cs x) []) (mem-getD C (at cs x) [] lt)
 
-    pub level-chosen : (x : ℕ) → x < k → chosen? t cs (packed layout e) x ≡ hits C x e (at cs x)
-    level-chosen x h = ⊎-elim
-        (λ lt. chosen-given cs x lt (omega (arith, size-at x lt)) (omega (arith, size-at x lt)) (stands x h lt) e (size ∙ sym (size-at x lt)) small)
-        (λ le.
-        ap (λ b. b && equal? (grown t (at cs x) x) (packed layout e)) (ap (ltb (at cs x)) level-records ∙ le-ltb (at cs x) (length C) le)
-        ∙ sym (ap (λ b. b && equal? (bump (getD C (at cs x) []) x) e) (le-ltb (at cs x) (length C) le)))
-        (lt-or-le (at cs x) (length C))
-
-    -- the union over the cursors that hit e
-    pub level-united : (s : ℕ) (moves : List ℕ) → united k s moves t cs (packed layout e)
+    -- G has the letters whose cursors hit e: the union over them
+    pub level-united : (G : ℕ) → ((x : ℕ) → x < k → bit G x ≡ hits C x e (at cs x)) → (s : ℕ) (moves : List ℕ) → united k s moves t cs G
         ≡ union (λ x. forward-step k s moves (f (getD C (at cs x) [])) x) (filter (λ x. hits C x e (at cs x)) (below k))
-    level-united s moves =
+    level-united G agree s moves =
         ap (union (λ x. forward-step k s moves (forward-at t (at cs x)) x))
-        (filter-agree (chosen? t cs (packed layout e)) (λ x. hits C x e (at cs x)) (below k) (λ x m. level-chosen x (below-at k x m)))
+        (filter-agree (bit G) (λ x. hits C x e (at cs x)) (below k) (λ x m. agree x (below-at k x m)))
         ∙ union-agree (λ x. forward-step k s moves (forward-at t (at cs x)) x) (λ x. forward-step k s moves (f (getD C (at cs x) [])) x)
         (filter (λ x. hits C x e (at cs x)) (below k))
         (λ x m.
         let n = filter-at (λ x. hits C x e (at cs x)) (below k) m in
         ap (λ S. forward-step k s moves S x) (forward-of-draft f g C t [] whole (at cs x) (hits-at C x e (at cs x) (n .1) .0)))
 
-    -- the cursors that hit e move on
-    pub level-advanced : (add : ℕ → List ℕ → Bool) → ((c : List ℕ) (x : ℕ) → Mem c C → x < k → bit (g c) x ≡ add x c) → k ≤ length cs → (x : ℕ) → x < k
-        → at (advanced k t cs (packed layout e)) x ≡ cond (hits C x e (at cs x)) (seek (add x) C (suc (at cs x))) (at cs x)
-    level-advanced add bits le x h =
-        front-at (λ y. moved-on t (at cs y) y (packed layout e)) cs k le x h
-        ∙ ap (λ b. cond b (seek-from t (suc (at cs x)) x) (at cs x)) (level-chosen x h) ∙ go (hits C x e (at cs x)) refl
+    -- and their cursors move on
+    pub level-advanced : (G : ℕ) → ((x : ℕ) → x < k → bit G x ≡ hits C x e (at cs x)) → (add : ℕ → List ℕ → Bool) → ((c : List ℕ) (x : ℕ) → Mem c C → x < k → bit (g c) x ≡ add x c) → k ≤ length cs → (x : ℕ) → x < k
+        → at (advanced k t cs G) x ≡ cond (hits C x e (at cs x)) (seek (add x) C (suc (at cs x))) (at cs x)
+    level-advanced G agree add bits le x h =
+        front-at (λ y. moved-on t (at cs y) y G) cs k le x h
+        ∙ ap (λ b. cond b (seek-from t (suc (at cs x)) x) (at cs x)) (agree x h) ∙ go (hits C x e (at cs x)) refl
       where
         go : (b : Bool) → hits C x e (at cs x) ≡ b → cond b (seek-from t (suc (at cs x)) x) (at cs x) ≡ cond b (seek (add x) C (suc (at cs x))) (at cs x)
         go true q = level-seek k add bits (suc (at cs x)) x h (hits-at C x e (at cs x) (subst T (sym q) tt) .0)
@@ -216,3 +212,79 @@ module _ (f g : List ℕ → ℕ) (C : List (List ℕ)) (t : List ℕ) (drafts :
           go : Reached k (least-of t k cs) → least-of t k cs ≡ some (packed layout e)
           go (inl r) = absurd (omega (arith, hits-at C x e (at cs x) q .0, r .1 x h))
           go (inr r) = r .1 ∙ ap (λ d. some (packed layout d)) (r .5 x h q)
+
+      -- ---- the letters that are found with the least: the cursors of those below n that hit e
+      abbrev hit : ℕ → Bool
+      hit y = hits C y e (at cs y)
+
+      abbrev letters : ℕ → ℕ
+      letters n = union (λ y. 2 ^ y) (filter hit (below n))
+
+      letters-next : (n : ℕ) (c : Bool) → hit n ≡ c → letters (suc n) ≡ cond c (bitOr (letters n) (2 ^ n)) (letters n)
+      letters-next n c q = ap letters (sym (add-one n)) ∙ union-next (λ y. 2 ^ y) hit n c q
+
+      letters-one : (n : ℕ) → hit n ≡ true → ((y : ℕ) → y < n → T (hit y) → ⊥) → 2 ^ n ≡ letters (suc n)
+      letters-one n q away = sym (letters-next n true q
+          ∙ ap (λ S. bitOr S (2 ^ n)) (ap (union (λ y. 2 ^ y)) (filter-none hit (below n) (λ y m. away y (below-at n y m)))) ∙ or-zero-l (2 ^ n))
+
+      -- a letter with the counts c comes to S, those for the least v
+      settled : (n S : ℕ) (c v : List ℕ) (same before : Bool) → equal? c v ≡ same → before? layout c v ≡ before → some (cond before c v) ≡ some (packed layout e)
+          → equal? c (packed layout e) ≡ hit n → (v ≡ packed layout e → S ≡ letters n) → ((y : ℕ) → y < n → T (hit y) → v ≡ packed layout e)
+          → cond same (bitOr S (2 ^ n)) (cond before (2 ^ n) S) ≡ letters (suc n)
+      settled n S c v true before q o l h ih away =
+          let z = equal-test c v .0 (subst T (sym q) tt) in
+          let u : v ≡ packed layout e = either before (Option·some-injective (cond before c v) (packed layout e) l) z in
+          ap (λ S. bitOr S (2 ^ n)) (ih u) ∙ sym (letters-next n true (sym h ∙ is-true (equal? c (packed layout e)) (equal-test c (packed layout e) .1 (z ∙ u))))
+        where
+          either : (b : Bool) → cond b c v ≡ packed layout e → c ≡ v → v ≡ packed layout e
+          either true r z = sym z ∙ r
+          either false r z = r
+      settled n S c v false true q o l h ih away =
+          let z = Option·some-injective c (packed layout e) l in
+          letters-one n (sym h ∙ is-true (equal? c (packed layout e)) (equal-test c (packed layout e) .1 z))
+          (λ y lt t. subst T q (equal-test c v .1 (z ∙ sym (away y lt t))))
+      settled n S c v false false q o l h ih away =
+          let z = Option·some-injective v (packed layout e) l in
+          ih z ∙ sym (letters-next n false (sym h ∙ ap (equal? c) (sym z) ∙ q))
+
+      step-givers : (n : ℕ) → n < k → (least-of t n cs ≡ some (packed layout e) → givers t n cs ≡ letters n) → least-of t (suc n) cs ≡ some (packed layout e)
+          → givers t (suc n) cs ≡ letters (suc n)
+      unfolding Reached
+      step-givers n h ih l = ⊎-elim inside end (lt-or-le (at cs n) (length C))
+        where
+          end : length C ≤ at cs n → givers t (suc n) cs ≡ letters (suc n)
+          end g =
+              ap (λ o. joined o (least-of t n cs) (givers t n cs) n) (candidate-end cs n g)
+              ∙ ih (sym (better-none (least-of t n cs)) ∙ sym (ap (better (least-of t n cs)) (candidate-end cs n g)) ∙ l)
+              ∙ sym (letters-next n false (is-false (hit n) (not-T (hit n) (λ h. omega (arith, hits-at C n e (at cs n) h .0)))))
+
+          inside : at cs n < length C → givers t (suc n) cs ≡ letters (suc n)
+          inside lt = go (reached n (omega arith))
+            where
+              d : List ℕ
+              d = packed layout (bump (getD C (at cs n) []) n)
+
+              counts : candidate t (at cs n) n ≡ some d
+              counts = candidate-given cs n lt (omega (arith, size-at n lt)) (omega (arith, size-at n lt)) (stands n h lt)
+
+              same : equal? d (packed layout e) ≡ hit n
+              same = same-given cs n lt (omega (arith, size-at n lt)) (omega (arith, size-at n lt)) (stands n h lt) e (size ∙ sym (size-at n lt)) small
+
+              go : Reached n (least-of t n cs) → givers t (suc n) cs ≡ letters (suc n)
+              go (inl r) =
+                  let z = Option·some-injective d (packed layout e) (sym (ap₂ better (r .0) counts) ∙ l) in
+                  ap₂ (λ o v. joined o v (givers t n cs) n) counts (r .0)
+                  ∙ letters-one n (sym same ∙ is-true (equal? d (packed layout e)) (equal-test d (packed layout e) .1 z))
+                  (λ y lt t. omega (arith, hits-at C y e (at cs y) t .0, r .1 y lt))
+              go (inr r) =
+                  ap₂ (λ o v. joined o v (givers t n cs) n) counts (r .1)
+                  ∙ settled n (givers t n cs) d (packed layout (r .0)) (equal? d (packed layout (r .0))) (before? layout d (packed layout (r .0))) refl refl
+                  (sym (ap₂ better (r .1) counts) ∙ l) same (λ u. ih (r .1 ∙ ap (λ v. some v) u)) (λ y lt t. ap (packed layout) (r .5 y lt t))
+
+      level-givers : (n : ℕ) → n ≤ k → least-of t n cs ≡ some (packed layout e) → givers t n cs ≡ letters n
+      level-givers zero le l = refl
+      level-givers (suc n) le l = step-givers n (omega arith) (level-givers n (omega arith)) l
+
+      -- where a cursor hits e, they are those of all such cursors
+      pub level-letters : (x : ℕ) → x < k → T (hits C x e (at cs x)) → givers t k cs ≡ union (λ y. 2 ^ y) (filter (λ y. hits C y e (at cs y)) (below k))
+      level-letters x h q = level-givers k (omega arith) (level-least x h q)

@@ -1,10 +1,11 @@
 -- The step from one total to the next, by a merge: t is the part of the table with the records of one total, in the order of their counts, the last number
 -- of each the set of letters that can be added; cs has a cursor for each letter, the index of a record of t.
-use mathlib.Core.Bool.{Bool, _&&_, cond}
+use mathlib.Core.Bool.{cond}
 use mathlib.Core.List.{List, _++_, map}
 use mathlib.Core.Option.{Option, none, some}
-use Prim.Native.Nat.{ℕ, zero, suc, _+_, _-_}
-use lib.Dec.{ltb}
+use Prim.Native.Nat.{ℕ, zero, suc, _+_, _-_, _^_, _<_}
+use lib.Bits.{bitOr}
+use lib.Dec.{T, ltb}
 use lib.ListN.{drop}
 use Rattle.profile.specs.Lists.{below, equal?, filter, first-place, range}
 use Rattle.profile.specs.Traces.{bit}
@@ -39,28 +40,39 @@ abbrev pub least-of : List ℕ → ℕ → List ℕ → Option (List ℕ)
 least-of t zero cs = none
 least-of t (suc x) cs = better (least-of t x cs) (candidate t (at cs x) x)
 
--- what the code answers for it
+-- the letters whose candidate is the least: S are those for the least b, and x comes with its candidate c
+abbrev pub joined : Option (List ℕ) → Option (List ℕ) → ℕ → ℕ → ℕ
+joined none o S x = S
+joined (some c) none S x = 2 ^ x
+joined (some c) (some b) S x = cond (equal? c b) (bitOr S (2 ^ x)) (cond (before? layout c b) (2 ^ x) S)
+
+abbrev pub givers : List ℕ → ℕ → List ℕ → ℕ
+givers t zero cs = 0
+givers t (suc x) cs = joined (candidate t (at cs x) x) (least-of t x cs) (givers t x cs) x
+
+-- what the code answers for them
 abbrev pub least-words : Least → Option (List ℕ)
 least-words Nothing = none
-least-words (At c) = some (words c)
+least-words (At c S) = some (words c)
 
--- record j gives the counts e by one x more; the cursor of x gives e
-abbrev pub gives? : List ℕ → ℕ → ℕ → List ℕ → Bool
-gives? t j x e = ltb j (records-in t) && equal? (grown t j x) e
+abbrev pub least-letters : Least → ℕ
+least-letters Nothing = 0
+least-letters (At c S) = S
 
-abbrev pub chosen? : List ℕ → List ℕ → List ℕ → ℕ → Bool
-chosen? t cs e x = gives? t (at cs x) x e
+-- the cursor of each letter of G is at a record
+abbrev pub Given : ℕ → List ℕ → List ℕ → ℕ → Type 0
+Given k t cs G = (x : ℕ) → x < k → T (bit G x) → at cs x < records-in t
 
--- the union, over the cursors that give e, of the states to which the letter leads from the forward set
-abbrev pub united : ℕ → ℕ → List ℕ → List ℕ → List ℕ → List ℕ → ℕ
-united k s moves t cs e = union (λ x. forward-step k s moves (forward-at t (at cs x)) x) (filter (chosen? t cs e) (below k))
+-- the union, over the letters of G, of the states to which the letter leads from the forward set of the record at its cursor
+abbrev pub united : ℕ → ℕ → List ℕ → List ℕ → List ℕ → ℕ → ℕ
+united k s moves t cs G = union (λ x. forward-step k s moves (forward-at t (at cs x)) x) (filter (bit G) (below k))
 
--- the cursors, where those that give e have moved on to the next record to which their letter can be added
-abbrev pub moved-on : List ℕ → ℕ → ℕ → List ℕ → ℕ
-moved-on t j x e = cond (gives? t j x e) (seek-from t (suc j) x) j
+-- the cursors, where those of the letters of G have moved on to the next record to which their letter can be added
+abbrev pub moved-on : List ℕ → ℕ → ℕ → ℕ → ℕ
+moved-on t j x G = cond (bit G x) (seek-from t (suc j) x) j
 
-abbrev pub advanced : ℕ → List ℕ → List ℕ → List ℕ → List ℕ
-advanced k t cs e = map (λ x. moved-on t (at cs x) x e) (below k) ++ drop k cs
+abbrev pub advanced : ℕ → List ℕ → List ℕ → ℕ → List ℕ
+advanced k t cs G = map (λ x. moved-on t (at cs x) x G) (below k) ++ drop k cs
 
 -- the cursors at the first record to which their letter can be added
 abbrev pub started : ℕ → List ℕ → List ℕ → List ℕ

@@ -3,11 +3,12 @@ ghost use mathlib.Core.Path.{_≡_};
 ghost use mathlib.Core.Option.{some};
 ghost use Prim.Native.Nat.{_≤_, _<_};
 ghost use lib.ListN.{length};
+ghost use lib.Dec.{T};
 ghost use Rattle.profile.specs.Traces.{bit};
 ghost use Rattle.counts.specs.Counts.{words};
 ghost use Rattle.records.specs.Records.{records-in};
 ghost use Rattle.steps.specs.Rows.{by-letter};
-ghost use Rattle.merge.specs.Merge.{advanced, better, candidate, gives?, least-of, least-words, moved-on, seek-from, started, united};
+ghost use Rattle.merge.specs.Merge.{Given, advanced, better, candidate, givers, joined, least-letters, least-of, least-words, moved-on, seek-from, started, united};
 use counts::Counts;
 
 // Letter x is in the set.
@@ -47,23 +48,28 @@ pub fn start_cursors(level: &[u32], k: usize, cursors: &mut [usize])
     }
 }
 
-// The least counts that a cursor gives; none where every cursor is at the end.
+// The least counts that a cursor gives, and the letters whose cursors give them; none where every cursor is at the end.
 pub enum Least {
     Nothing,
-    At(Counts),
+    At(Counts, u32),
 }
 
-// The least counts, with the counts c among them.
-fn with_counts(best: Least, c: Counts) -> Least
+// The least counts, with the counts c of letter x among them.
+fn with_counts(best: Least, c: Counts, x: usize) -> Least
+    requires { ⌜ x < 32 ⌝ }
     ensures { λ r. ⌜ least-words r ≡ better (least-words best) (some (words c)) ⌝ }
+    ensures { λ r. ⌜ least-letters r ≡ joined (some (words c)) (least-words best) (least-letters best) x ⌝ }
 {
     match best {
-        Least::Nothing => Least::At(c),
-        Least::At(b) => {
+        Least::Nothing => Least::At(c, 1u32 << x),
+        Least::At(b, set) => {
+            if counts::same_counts(c, b) {
+                return Least::At(b, set | (1u32 << x));
+            }
             if counts::counts_before(c, b) {
-                Least::At(c)
+                Least::At(c, 1u32 << x)
             } else {
-                Least::At(b)
+                Least::At(b, set)
             }
         }
     }
@@ -71,18 +77,21 @@ fn with_counts(best: Least, c: Counts) -> Least
 
 // The least counts, with those that record j gives by one more of letter x.
 fn with_cursor(level: &[u32], j: usize, x: usize, best: Least) -> Least
+    requires { ⌜ x < 32 ⌝ }
     ensures { λ r. ⌜ least-words r ≡ better (least-words best) (candidate (now (level .entry)) j x) ⌝ }
+    ensures { λ r. ⌜ least-letters r ≡ joined (candidate (now (level .entry)) j x) (least-words best) (least-letters best) x ⌝ }
 {
     if records::records_in(level) <= j {
         return best;
     }
-    with_counts(best, counts::one_more(records::counts_at(level, j), x))
+    with_counts(best, counts::one_more(records::counts_at(level, j), x), x)
 }
 
-// The least counts that the cursors of the letters below k give.
+// The least counts that the cursors of the letters below k give, and these letters.
 pub fn least_counts(level: &[u32], k: usize, cursors: &[usize]) -> Least
-    requires { ⌜ k ≤ length (now cursors) ⌝ }
+    requires { ⌜ (k ≤ 16) × (k ≤ length (now cursors)) ⌝ }
     ensures { λ r. ⌜ least-words r ≡ least-of (now (level .entry)) k (now (cursors .entry)) ⌝ }
+    ensures { λ r. ⌜ least-letters r ≡ givers (now (level .entry)) k (now (cursors .entry)) ⌝ }
 {
     let mut best = Least::Nothing;
     let mut x = 0;
@@ -93,17 +102,7 @@ pub fn least_counts(level: &[u32], k: usize, cursors: &[usize]) -> Least
     best
 }
 
-// Record j gives the counts e by one more of letter x.
-fn gives(level: &[u32], j: usize, x: usize, e: Counts) -> bool
-    ensures { λ r. ⌜ r ≡ gives? (now (level .entry)) j x (words e) ⌝ }
-{
-    if records::records_in(level) <= j {
-        return false;
-    }
-    counts::same_counts(counts::one_more(records::counts_at(level, j), x), e)
-}
-
-// The forward set of the counts e: the states to which letters lead from the forward sets of the records that give e; `rows` are the moves by letter.
+// The states to which the letters of a set lead from the forward sets of the records at their cursors; `rows` are the moves by letter.
 pub fn unite(
     level: &[u32],
     moves: &[u32],
@@ -111,18 +110,19 @@ pub fn unite(
     k: usize,
     s: usize,
     cursors: &[usize],
-    e: Counts,
+    set: u32,
 ) -> u32
     requires { ⌜ (k ≤ 16) × (s ≤ 32) ⌝ }
     requires { ⌜ k ≤ length (now cursors) ⌝ }
     requires { ⌜ now rows ≡ by-letter k s (now moves) ⌝ }
-    ensures { λ r. ⌜ r ≡ united k s (now (moves .entry)) (now (level .entry)) (now (cursors .entry)) (words e) ⌝ }
+    requires { ⌜ Given k (now level) (now cursors) set ⌝ }
+    ensures { λ r. ⌜ r ≡ united k s (now (moves .entry)) (now (level .entry)) (now (cursors .entry)) set ⌝ }
 {
     let mut out = 0u32;
     let mut x = 0;
     while x < k {
-        let j = cursors[x];
-        if gives(level, j, x, e) {
+        if has_letter(set, x) {
+            let j = cursors[x];
             out = out | steps::forward_by(rows, s, records::forward_at(level, j), x);
         }
         x += 1;
@@ -130,26 +130,27 @@ pub fn unite(
     out
 }
 
-// Where the cursor of letter x goes from record `from` once the counts e are put.
-fn move_on(level: &[u32], from: usize, x: usize, e: Counts) -> usize
-    requires { ⌜ x < 32 ⌝ }
-    ensures { λ r. ⌜ r ≡ moved-on (now (level .entry)) from x (words e) ⌝ }
+// Where the cursor of letter x goes from record `from` once those of a set of letters move on.
+fn move_on(level: &[u32], from: usize, x: usize, set: u32) -> usize
+    requires { ⌜ (x < 32) × (T (bit set x) → from < records-in (now level)) ⌝ }
+    ensures { λ r. ⌜ r ≡ moved-on (now (level .entry)) from x set ⌝ }
 {
-    if gives(level, from, x, e) {
+    if has_letter(set, x) {
         seek(level, from + 1, x)
     } else {
         from
     }
 }
 
-// Moves the cursors that give the counts e on to the next record to which their letter can be added.
-pub fn advance(level: &[u32], k: usize, cursors: &mut [usize], e: Counts)
+// Moves the cursors of a set of letters on to the next record to which their letter can be added.
+pub fn advance(level: &[u32], k: usize, cursors: &mut [usize], set: u32)
     requires { ⌜ (k ≤ 16) × (k ≤ length (now cursors)) ⌝ }
-    ensures { λ _. ⌜ now (cursors .exit) ≡ advanced k (now (level .entry)) (now (cursors .entry)) (words e) ⌝ }
+    requires { ⌜ Given k (now level) (now cursors) set ⌝ }
+    ensures { λ _. ⌜ now (cursors .exit) ≡ advanced k (now (level .entry)) (now (cursors .entry)) set ⌝ }
 {
     let mut x = 0;
     while x < k {
-        let next = move_on(level, cursors[x], x, e);
+        let next = move_on(level, cursors[x], x, set);
         cursors[x] = next;
         x += 1;
     }

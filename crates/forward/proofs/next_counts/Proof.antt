@@ -1,7 +1,10 @@
 -- `forward::next_counts` meets its contract.
-use mathlib.Core.Path.{sym, _∙_, ap}
+use mathlib.Core.Path.{sym, _∙_, ap, subst}
+use lib.Dec.{T}
 use borrow.Author.Needs.{needs}
-use Rattle.merge.specs.Merge.{least-words}
+use Rattle.profile.specs.Traces.{bit}
+use Rattle.merge.specs.Merge.{advanced, least-letters, least-words, united}
+use Rattle.merge.proofs.Cursors.{givers-inside}
 use Rattle.forward.proofs.next_counts.Statement.{statement}
 use Rattle.forward.proofs.next_counts.Tie as tie
 
@@ -15,24 +18,38 @@ enum-known-least : tie.Need-enum-known-least
 enum-known-least c = search needs
 
 unite-requires : tie.Need-unite-requires
-unite-requires c κs = (search needs, (search needs, c .before .before .before .before .before .before .before .before .before .pre .1))
+unite-requires c κs =
+    let a = c .before .before .before .before .before .before .before .before .before .args in
+    let q = c .before .before .least .given in
+    let e = sym (ap least-letters (q .1)) ∙ c .before .before .before .before .least-counts .ensures .1 in
+    (search needs, (search needs, (c .before .before .before .before .before .before .before .before .before .pre .1, λ x h m. givers-inside (a .level .now) (a .cursors .now) (a .k) x (subst (λ S. T (bit S x)) e m))))
 
 advance-requires : tie.Need-advance-requires
-advance-requires c κs = search needs
+advance-requires c κs =
+    let a = c .before .before .before .before .before .before .before .before .before .before .before .args in
+    let q = c .before .before .before .before .least .given in
+    let e = sym (ap least-letters (q .1)) ∙ c .before .before .before .before .before .before .least-counts .ensures .1 in
+    (search needs, λ x h m. givers-inside (a .level .now) (a .cursors .now) (a .k) x (subst (λ S. T (bit S x)) e m))
 
 same-length : tie.Need-same-length
 same-length c = search needs
 
 returns : tie.Need-returns
-returns c = sym (c .before .before .least-counts .ensures) ∙ ap least-words (c .enum-told .given .1)
+returns c = sym (c .before .before .least-counts .ensures .0) ∙ ap least-words (c .enum-told .given .1)
 
 same-length-2 : tie.Need-same-length-2
 same-length-2 c = search needs
 
 returns-2 : tie.Need-returns-2
 returns-2 c =
+    let a = c .before .before .before .before .before .before .before .before .before .before .before .before .before .before .args in
     let q = c .before .before .before .before .before .before .before .least .given in
-    (sym (c .before .before .before .before .before .before .before .before .before .least-counts .ensures) ∙ ap least-words (q .1), c .before .before .before .before .unite .ensures, c .before .before .advance .ensures)
+    let x = c .before .before .before .before .before .before .before .before .before .least-counts in
+    let e = sym (ap least-letters (q .1)) ∙ x .ensures .1 in (
+      sym (x .ensures .0) ∙ ap least-words (q .1),
+      c .before .before .before .before .unite .ensures ∙ ap (united (a .k) (a .s) (a .moves .now) (a .level .now) (a .cursors .now)) e,
+      c .before .before .advance .ensures ∙ ap (advanced (a .k) (a .level .now) (a .cursors .now)) e,
+    )
 
 pub next-counts-spec : {M : Type 1} → statement M
 next-counts-spec =

@@ -1,22 +1,17 @@
 -- `merge::with_cursor` meets its contract.
-use mathlib.Core.Path.{_≡_, refl, sym, _∙_, ap}
+use mathlib.Core.Path.{sym, _∙_, ap}
 use mathlib.Core.Bool.{cond}
-use mathlib.Core.List.{List}
-use mathlib.Core.Option.{Option, none, some}
-use Prim.Native.Nat.{ℕ}
+use mathlib.Core.Option.{none, some}
 use native.Mathlib.Omega.{arith}
 use borrow.Author.Tests.{le-ltb, lt-ltb}
 use Rattle.profile.specs.Tables.{layout}
 use Rattle.counts.specs.Counts.{add-count}
 use Rattle.records.specs.Records.{records-in}
-use Rattle.merge.specs.Merge.{better, grown, least-words}
+use Rattle.merge.specs.Merge.{better, grown, joined, least-letters, least-words}
+use Rattle.merge.proofs.Cursors.{better-none}
 use borrow.Author.Needs.{needs}
 use Rattle.merge.proofs.with_cursor.Statement.{statement}
 use Rattle.merge.proofs.with_cursor.Tie as tie
-
-better-none : (o : Option (List ℕ)) → better o none ≡ o
-better-none none = refl
-better-none (some b) = refl
 
 records-in-requires : tie.Need-records-in-requires
 records-in-requires c κs = search needs
@@ -25,7 +20,10 @@ returns : tie.Need-returns
 returns c =
     let a = c .before .before .before .args in
     let t = a .level .now in
-    sym (ap (λ b. better (least-words (a .best)) (cond b (some (grown t (a .j) (a .x))) none)) (le-ltb (a .j) (records-in t) (omega arith)) ∙ better-none (least-words (a .best)))
+    let e = le-ltb (a .j) (records-in t) (omega arith) in (
+      sym (ap (λ b. better (least-words (a .best)) (cond b (some (grown t (a .j) (a .x))) none)) e ∙ better-none (least-words (a .best))),
+      sym (ap (λ b. joined (cond b (some (grown t (a .j) (a .x))) none) (least-words (a .best)) (least-letters (a .best)) (a .x)) e),
+    )
 
 counts-at-requires : tie.Need-counts-at-requires
 counts-at-requires c κs = search needs
@@ -40,9 +38,13 @@ returns-2 : tie.Need-returns-2
 returns-2 c =
     let a = c .before .before .before .before .before .before .args in
     let t = a .level .now in
-    c .with-counts .ensures
-    ∙ ap (λ w. better (least-words (a .best)) (some w)) (c .before .one-more .ensures ∙ ap (λ w. add-count layout w (a .x)) (c .before .before .counts-at .ensures))
-    ∙ sym (ap (λ b. better (least-words (a .best)) (cond b (some (grown t (a .j) (a .x))) none)) (lt-ltb (a .j) (records-in t) (omega arith)))
+    let d = c .before .one-more .ensures ∙ ap (λ w. add-count layout w (a .x)) (c .before .before .counts-at .ensures) in
+    let e = lt-ltb (a .j) (records-in t) (omega arith) in (
+      c .with-counts .ensures .0 ∙ ap (λ w. better (least-words (a .best)) (some w)) d
+          ∙ sym (ap (λ b. better (least-words (a .best)) (cond b (some (grown t (a .j) (a .x))) none)) e),
+      c .with-counts .ensures .1 ∙ ap (λ w. joined (some w) (least-words (a .best)) (least-letters (a .best)) (a .x)) d
+          ∙ sym (ap (λ b. joined (cond b (some (grown t (a .j) (a .x))) none) (least-words (a .best)) (least-letters (a .best)) (a .x)) e),
+    )
 
 pub with-cursor-spec : {M : Type 1} → statement M
 with-cursor-spec =
