@@ -1,11 +1,9 @@
 -- The answers of the library as numbers: the refusal's number, or 0, and what each call tells. Document 01, "A refusal gives its number and a place".
 use mathlib.Core.Path.{_≡_}
 use mathlib.Core.List.{List, [], _∷_}
-use mathlib.Core.Option.{Option, none, some}
 use Prim.Native.Nat.{ℕ}
 use Rattle.profile.specs.Automata.{Profile}
 use Rattle.profile.specs.Refusals.{refusal-number, refusal-place}
-use Rattle.profile.specs.declared.Refusal.{Refusal}
 use Rattle.table.specs.Table as table
 use Rattle.table.specs.declared.Built.{Built}
 use Rattle.table.specs.declared.Built.the-variants.{Filled}

@@ -2,12 +2,12 @@
 ghost use mathlib.Core.Path.{_≡_};
 ghost use lib.ListN.{length};
 ghost use Rattle.profile.specs.Automata.{profile-of};
-ghost use Rattle.profile.specs.Refusals.{lowest, refusal-number, refusal-place};
+ghost use Rattle.profile.specs.Refusals.{refusal-place};
 ghost use Rattle.order.specs.Order.{comparison, ordered-buffer, ordering};
 ghost use Rattle.logfile.specs.Files.{file-masks, file-moves, file-shape, filled, log-location, log-length, read-refusal, reading};
 ghost use Rattle.filewriter.specs.Written.{file-bytes, write-refusal, writing};
 ghost use Rattle.logreader.specs.Events.{event-of, place-behind};
-ghost use Rattle.capi.specs.Numbers.{Building, Judging, built-code, built-told, compared-code, compared-told, event-number, judged-code, judged-told, located-code, located-told, ordered-code, ordered-told, reading-code, reading-told, writing-code, writing-told};
+ghost use Rattle.capi.specs.Numbers.{Building, Judging, compared-code, compared-told, event-number, located-code, located-told, ordered-code, ordered-told, reading-code, reading-told, writing-code, writing-told};
 use filewriter::Writing;
 use logfile::Located;
 use logfile::Reading;

@@ -1,7 +1,6 @@
 // The log reader: document 01, "a log reader keeps the log part together with the place of its next event".
 ghost use mathlib.Core.Path.{_≡_};
 ghost use Prim.Native.Nat.{_+_};
-ghost use lib.ListN.{length};
 ghost use Rattle.logreader.specs.Events.{event-of, place-behind};
 
 // A log part, and the place of its next event: 0 for a new reader.

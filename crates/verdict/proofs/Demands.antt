@@ -2,13 +2,12 @@
 -- was lent `order` and `table`, whatever these held, left `order′` and `table′`, and answered r.
 use mathlib.Core.Path.{_≡_, refl, sym, _∙_, ap, subst}
 use mathlib.Core.Logic.{_⊎_, inl, inr, _↔_, _≢_}
-use mathlib.Core.List.{List, _++_}
+use mathlib.Core.List.{List}
 use mathlib.Core.Option.{Option, none, some, Option·none-ne-some, Option·some-ne-none, Option·some-injective}
 use Prim.Native.Nat.{ℕ}
 use native.Mathlib.Omega.{arith}
 use lib.ListN.{length, take, drop}
 use lib.Seq.{drop-at, take-at}
-use Rattle.profile.specs.Lists.{Mem}
 use Rattle.profile.specs.Traces.{independent}
 use Rattle.profile.specs.Automata.{Profile}
 use Rattle.profile.specs.Orders.{Earlier, Same}

@@ -1,10 +1,8 @@
 -- `logfile::locate_log` meets its contract.
 use borrow.Author.Needs.{needs}
-use mathlib.Core.Path.{_≡_, sym, _∙_, ap, ap₂}
-use mathlib.Core.Option.{none}
-use Rattle.profile.specs.Refusals.{lowest}
+use mathlib.Core.Path.{sym, _∙_, ap, ap₂}
 use Rattle.checks.specs.Checks.{checked}
-use Rattle.logfile.specs.Files.{file-refusals, located, log-length, section}
+use Rattle.logfile.specs.Files.{located, log-length, section}
 use Rattle.logfile.specs.declared.Located.the-variants.{At}
 use Rattle.logfile.proofs.locate_log.Statement.{statement}
 use Rattle.logfile.proofs.locate_log.Tie as tie
