@@ -42,7 +42,7 @@ fn find(part: &[u32], from: usize, c: Counts) -> usize
 }
 
 // The backward set of record j, from the records that have one more of a letter in its last number; the letter's cursor moves to that record; `rows` are the
-// moves by letter.
+// moves by letter. Each turn takes the lowest letter out of those that are left.
 fn back_of(
     part: &[u32],
     j: usize,
@@ -61,15 +61,16 @@ fn back_of(
     let c = counts_at(part, j);
     let letters = last_at(part, j);
     let mut out = 0u32;
-    let mut x = 0;
-    while x < k {
-        if (letters >> x) & 1 == 1 {
+    let mut rest = letters;
+    while rest != 0 {
+        let x = u32::trailing_zeros(rest) as usize;
+        if x < k {
             let from = cursors[x];
             let r = find(part, from, one_more(c, x));
             cursors[x] = r;
             out = out | backward_by(rows, s, last_at(part, r), x);
         }
-        x += 1;
+        rest = rest & (rest - 1);
     }
     out
 }

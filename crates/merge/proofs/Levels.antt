@@ -10,7 +10,7 @@ use native.Mathlib.Numerals.{add-one}
 use native.Mathlib.Omega.{arith}
 use borrow.Author.Tests.{le-ltb, lt-ltb}
 use lib.Bits.{bitOr, or-zero-l}
-use lib.Dec.{T, ltb, not-T}
+use lib.Dec.{T, not-T}
 use lib.ListN.{length, getD, drop, drop-of-length-le, length-set}
 use lib.Seq.{drop-cons}
 use Rattle.profile.specs.Lists.{Mem, below, equal?, filter, first-place, flat-map, range}

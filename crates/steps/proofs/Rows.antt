@@ -1,12 +1,12 @@
 -- The moves by letter: what a row holds, and that a step by the rows is the step of the moves.
 use mathlib.Core.Path.{_≡_, sym, _∙_, ap, ap₂, subst}
-use mathlib.Core.Bool.{Bool, cond}
+use mathlib.Core.Bool.{cond}
 use mathlib.Core.List.{List}
 use Prim.Native.Nat.{ℕ, _+_, _*_, _/_, _%_, _^_, _≤_, _<_}
 use native.Mathlib.Omega.{arith}
 use borrow.Author.Tests.{lt-ltb}
 use lib.Dec.{T, ltb}
-use lib.ListN.{length, replicate}
+use lib.ListN.{replicate}
 use Rattle.profile.specs.Automata.{backward-step, forward-step, meets, row, union}
 use Rattle.profile.specs.Lists.{below, filter}
 use Rattle.profile.specs.Traces.{bit}

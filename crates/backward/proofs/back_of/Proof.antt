@@ -1,30 +1,32 @@
--- `backward::back_of` meets its contract. The loop's invariant: `out` is the set from the letters below `x`, their cursors have moved, and the others have not.
--- The measure is what is left of `k`.
-use Prim.Native.Nat.{ℕ, _+_, _-_, _/_, _^_, _≤_, _<_}
+-- `backward::back_of` meets its contract. The loop's invariant: `out`, united with the set from the letters that are left, is the whole set;
+-- their cursors have not moved, and those of the others have. The measure is the number of the letters that are left.
+use Prim.Native.Nat.{ℕ, _-_, _^_, _≤_, _<_}
 use mathlib.Core.Path.{_≡_, refl, sym, _∙_, ap, ap₂, subst}
-use mathlib.Core.Bool.{true, false, cond}
-use mathlib.Core.Logic.{⊎-elim, _≢_}
+use mathlib.Core.Bool.{not, cond}
+use mathlib.Core.Logic.{⊎-elim}
 use mathlib.Core.List.{List}
 use native.Mathlib.Omega.{arith}
-use lib.Bits.{bitAnd, bitOr}
-use lib.Dec.{eqb}
+use lib.Bits.{bitAnd, bitOr, and-le-r, or-zero-r}
+use lib.Count.{trailing-le, trailingZeros}
+use lib.Dec.{T, T-not, not-T}
 use lib.ListN.{length, getD, length-set, set}
 use lib.Seq.{getD-set-other, getD-set-same}
 use borrow.Author.Needs.{needs}
-use borrow.Author.Tests.{eq-eqb, ne-eqb}
-use Rattle.profile.specs.Automata.{backward-step}
-use Rattle.profile.specs.Lists.{below, equal?}
+use Rattle.profile.specs.Automata.{backward-step, union}
+use Rattle.profile.specs.Lists.{below, equal?, filter}
 use Rattle.profile.specs.Tables.{layout}
 use Rattle.profile.specs.Traces.{bit}
-use Rattle.profile.proofs.Lists.{lt-or-le}
+use Rattle.profile.proofs.Lists.{is-false, is-true, test}
 use Rattle.theory.proofs.Merge.{seek}
-use Rattle.profile.proofs.Sets.{shift-mask, union-no, union-yes}
+use Rattle.profile.proofs.Sets.{not-in-none, or-assoc}
 use Rattle.counts.specs.Counts.{add-count, words}
 use Rattle.counts.specs.declared.Counts.{Counts}
 use Rattle.records.specs.Records.{counts-at, last-at, records-in}
 use Rattle.steps.specs.Rows.{backward-by}
 use Rattle.steps.proofs.Rows.{backward-same}
+use Rattle.steps.proofs.Unions.{lowest, union-in, union-none, union-out}
 use Rattle.backward.specs.Backward.{back-from, moved, next-at}
+use Rattle.backward.proofs.Rests.{rest-first, rest-in, rest-other, rest-without}
 use Rattle.backward.proofs.back_of.Statement.{statement}
 use Rattle.backward.proofs.back_of.Tie as tie
 
@@ -33,41 +35,52 @@ found : (t : List ℕ) (j x i i₀ r : ℕ) (v u : Counts) → words v ≡ count
     → r ≡ seek (λ a. equal? (counts-at t a) (words u)) (below (records-in t)) i → r ≡ next-at t j x i₀
 found t j x i i₀ r v u e f g h = h ∙ ap₂ (λ n m. seek (λ a. equal? (counts-at t a) n) (below (records-in t)) m) (f ∙ ap (λ n. add-count layout n x) e) g
 
--- the tested bit is that of the last number
-tested : (S n x : ℕ) → S ≡ n → eqb (bitAnd (S / 2 ^ x) 1) 1 ≡ bit n x
-tested S n x e = shift-mask S x ∙ ap (λ m. bit m x) e
+-- ---- the cursors: those of the letters that are left stand where they stood, those of the others have moved
 
--- ---- the cursors: those of the letters below x have moved
+abbrev Moved : List ℕ → ℕ → ℕ → List ℕ → ℕ → List ℕ → Type 0
+Moved t j k cursors₀ rest cursors =
+    ((y : ℕ) → T (bit rest y) → getD cursors y 0 ≡ getD cursors₀ y 0)
+    × ((y : ℕ) → y < k → T (not (bit rest y)) → getD cursors y 0 ≡ moved t j (λ y. getD cursors₀ y 0) y)
 
-abbrev Moved : List ℕ → ℕ → List ℕ → ℕ → List ℕ → Type 0
-Moved t j cursors₀ x cursors =
-    ((y : ℕ) → y < x → getD cursors y 0 ≡ moved t j (λ y. getD cursors₀ y 0) y) × ((y : ℕ) → x ≤ y → getD cursors y 0 ≡ getD cursors₀ y 0)
+module _ (t : List ℕ) (j k : ℕ) (cursors₀ : List ℕ) (n : ℕ) (p : 0 < n) (h : n < 2 ^ 32) (cursors : List ℕ) (m : Moved t j k cursors₀ n cursors) where
+  abbrev x : ℕ
+  x = trailingZeros 32 n
 
-module _ (t : List ℕ) (j : ℕ) (cursors₀ : List ℕ) (x : ℕ) (cursors : List ℕ) (m : Moved t j cursors₀ x cursors) where
-  -- where the cursor of x stands at r, and the others where they stood
-  moved-at : (r : ℕ) (after : List ℕ) → getD after x 0 ≡ r → ((y : ℕ) → y ≢ x → getD after y 0 ≡ getD cursors y 0) → r ≡ moved t j (λ y. getD cursors₀ y 0) x
-      → Moved t j cursors₀ (x + 1) after
-  moved-at r after e f q = (
-    (λ y h. ⊎-elim (λ l. f y (λ z. omega arith) ∙ m .0 y l) (λ l. let z : x ≡ y = omega arith in subst (λ y. getD after y 0 ≡ moved t j (λ y. getD cursors₀ y 0) y) z (e ∙ q)) (lt-or-le y x)),
-    (λ y h. f y (λ z. omega arith) ∙ m .1 y (omega arith)),
+  abbrev r : ℕ
+  r = bitAnd n (n - 1)
+
+  -- the cursor of the lowest letter moves to record i
+  move-yes : (i : ℕ) → x < length cursors → i ≡ moved t j (λ y. getD cursors₀ y 0) x → Moved t j k cursors₀ r (set cursors x i)
+  move-yes i l q = (
+    (λ y a. getD-set-other cursors x y i 0 (λ z. rest-without 32 n p h (subst (λ y. T (bit r y)) z a)) ∙ m .0 y (rest-in n p h y a)),
+    (λ y lt a. ⊎-elim
+        (λ c. ⊎-elim
+        (λ z. subst (λ y. getD (set cursors x i) y 0 ≡ moved t j (λ y. getD cursors₀ y 0) y) z (getD-set-same cursors x i 0 l ∙ q))
+        (λ d. absurd (T-not (bit r y) a d))
+        (rest-other n p h y c))
+        (λ c. getD-set-other cursors x y i 0 (λ z. T-not (bit n y) c (subst (λ w. T (bit n w)) (sym z) (rest-first n p h))) ∙ m .1 y lt c)
+        (test (bit n y))),
   )
 
-  move-yes : (r : ℕ) → x < length cursors → bit (last-at t j) x ≡ true → r ≡ next-at t j x (getD cursors₀ x 0) → Moved t j cursors₀ (x + 1) (set cursors x r)
-  move-yes r h b q =
-      moved-at r (set cursors x r) (getD-set-same cursors x r 0 h) (λ y n. getD-set-other cursors x y r 0 n)
-      (q ∙ ap (λ b. cond b (next-at t j x (getD cursors₀ x 0)) (getD cursors₀ x 0)) (sym b))
-
-  move-no : bit (last-at t j) x ≡ false → Moved t j cursors₀ (x + 1) cursors
-  move-no b = moved-at (getD cursors₀ x 0) cursors (m .1 x (omega arith)) (λ y n. refl)
-      (ap (λ b. cond b (next-at t j x (getD cursors₀ x 0)) (getD cursors₀ x 0)) (sym b))
+  -- a letter that is not below k has no cursor
+  move-no : k ≤ x → Moved t j k cursors₀ r cursors
+  move-no l = (
+    (λ y a. m .0 y (rest-in n p h y a)),
+    (λ y lt a. ⊎-elim
+        (λ c. ⊎-elim (λ z. absurd (omega arith)) (λ d. absurd (T-not (bit r y) a d)) (rest-other n p h y c))
+        (λ c. m .1 y lt c)
+        (test (bit n y))),
+  )
 
 abbrev Inv-loop : tie.InvT-loop
-Inv-loop part j k s moves rows cursors₀ c letters out₀ x₀ cursors out x =
-    (x ≤ k) × (length cursors ≡ length cursors₀) × (out ≡ back-from part j x k s moves (λ y. getD cursors₀ y 0))
-    × Moved part j cursors₀ x cursors
+Inv-loop part j k s moves rows cursors₀ c letters out₀ rest₀ cursors out rest =
+    (rest < 2 ^ 32) × (length cursors ≡ length cursors₀) × ((y : ℕ) → T (bit rest y) → T (bit (last-at part j) y))
+    × (bitOr out (union (λ x. backward-step k s moves (last-at part (next-at part j x (getD cursors₀ x 0))) x) (filter (bit rest) (below k)))
+    ≡ back-from part j k k s moves (λ y. getD cursors₀ y 0))
+    × Moved part j k cursors₀ rest cursors
 
 abbrev μ-loop : tie.MeasureT-loop
-μ-loop part j k s moves rows cursors₀ c letters out₀ x₀ cursors out x = k - x
+μ-loop part j k s moves rows cursors₀ c letters out₀ rest₀ cursors out rest = rest
 
 counts-at-requires : tie.Need-counts-at-requires Inv-loop μ-loop
 counts-at-requires c κs = search needs
@@ -76,13 +89,24 @@ last-at-requires : tie.Need-last-at-requires Inv-loop μ-loop
 last-at-requires c κs = search needs
 
 loop-holds : tie.Need-loop-holds Inv-loop μ-loop
-loop-holds c = (search needs, refl, refl, ((λ y h. absurd (omega arith)), λ y h. refl))
+loop-holds c =
+    let a = c .before .before .before .before .before .args in
+    let t = a .part .now in
+    let from : ℕ → ℕ = λ y. getD (a .cursors .now) y 0 in
+    let f : ℕ → ℕ = λ y. backward-step (a .k) (a .s) (a .moves .now) (last-at t (next-at t (a .j) y (from y))) y in
+    let e = c .last-at .ensures in (
+      search needs,
+      refl,
+      λ y m. subst (λ S. T (bit S y)) e m,
+      ap (λ S. union f (filter (bit S) (below (a .k)))) e,
+      (
+        (λ y m. refl),
+        λ y h m. sym (ap (λ b. cond b (next-at t (a .j) y (from y)) (from y)) (is-false (bit (last-at t (a .j)) y) (subst (λ S. T (not (bit S y))) e m))),
+      ),
+    )
 
-cast-if1 : tie.Need-cast-if1 Inv-loop μ-loop
-cast-if1 c = search needs
-
-shr-if1 : tie.Need-shr-if1 Inv-loop μ-loop
-shr-if1 c = search needs
+cast-x : tie.Need-cast-x Inv-loop μ-loop
+cast-x c = omega (arith, trailing-le 32 (c .before .loop .rest))
 
 mul-from : tie.Need-mul-from Inv-loop μ-loop
 mul-from c = search needs
@@ -106,50 +130,63 @@ last-at-requires-2 : tie.Need-last-at-requires-2 Inv-loop μ-loop
 last-at-requires-2 c κs =
     let s = c .before .before .before .before .before .before .before .before .before .before .before in
     let a = s .args in
-    let x = c .before .before .before .before .before .loop .x in
-    let b : bit (last-at (a .part .now) (a .j)) x ≡ true =
-    sym (tested _ _ x (c .before .before .before .before .before .before .last-at .ensures)) ∙ eq-eqb _ 1 (c .before .before .before .if1 .taken) in
+    let l = c .before .before .before .before .before .loop in
+    let x = trailingZeros 32 (l .rest) in
+    let first = rest-first (l .rest) (omega arith) (omega arith) in
     let e = found (a .part .now) (a .j) x _ (getD (a .cursors .now) x 0) (c .find .result) _ _ (c .before .before .before .before .before .before .before .counts-at .ensures)
-    (c .before .one-more .ensures) (c .before .before .before .before .before .loop .inv .3 .1 x (omega arith)) (c .find .ensures) in
-    let h : x < a .k = omega arith in
-    let l : next-at (a .part .now) (a .j) x (getD (a .cursors .now) x 0) < records-in (a .part .now) = s .pre .1 .0 .finds x h (rw b tt) in
-    omega (arith, e, l)
+    (c .before .one-more .ensures) (l .inv .4 .0 x first) (c .find .ensures) in
+    let h : x < a .k = c .before .before .before .if1 .taken in
+    let g : next-at (a .part .now) (a .j) x (getD (a .cursors .now) x 0) < records-in (a .part .now) = s .pre .1 .0 .finds x h (l .inv .2 x first) in
+    omega (arith, e, g)
 
 backward-by-requires : tie.Need-backward-by-requires Inv-loop μ-loop
 backward-by-requires c κs = search needs
 
-add-x : tie.Need-add-x Inv-loop μ-loop
-add-x c = search needs
+sub-rest : tie.Need-sub-rest Inv-loop μ-loop
+sub-rest c = search needs
 
 loop-less : tie.Need-loop-less Inv-loop μ-loop
-loop-less c = search needs
+loop-less c = let n = c .before .before .loop .rest in omega (arith, and-le-r n (n - 1))
 
 loop-again : tie.Need-loop-again Inv-loop μ-loop
 loop-again c =
     let a = c .before .before .before .before .before .before .before .before .args in
     let t = a .part .now in
-    let x = c .before .before .loop .x in
-    let i = c .before .before .loop .inv in
+    let l = c .before .before .loop in
+    let i = l .inv in
+    let n = l .rest in
+    let x = trailingZeros 32 n in
+    let r = bitAnd n (n - 1) in
     let from : ℕ → ℕ = λ y. getD (a .cursors .now) y 0 in
     let f : ℕ → ℕ = λ y. backward-step (a .k) (a .s) (a .moves .now) (last-at t (next-at t (a .j) y (from y))) y in
-    let same = backward-same (a .k) (a .s) (a .moves .now) (a .rows .now) (c .before .before .before .before .before .before .before .before .pre .1 .1) (omega arith) (omega arith) x (omega arith) in
-    let b = tested _ _ x (c .before .before .before .last-at .ensures) in ⊎-elim
+    let back : ℕ → ℕ = λ S. union f (filter (bit S) (below (a .k))) in
+    let some : 0 < n = omega arith in
+    let few : n < 2 ^ 32 = i .0 in
+    let first = rest-first n some few in
+    let whole = ap back (lowest 32 n some few) in
+    let less : r < 2 ^ 32 = omega (arith, and-le-r n (n - 1)) in ⊎-elim
     (λ w.
-    let q = found t (a .j) x _ (from x) (w .3 .result) _ _ (c .before .before .before .before .counts-at .ensures) (w .2 .ensures) (i .3 .1 x (omega arith)) (w .3 .ensures) in
-    let e : bit (last-at t (a .j)) x ≡ true = sym b ∙ eq-eqb _ 1 (w .0 .taken) in (
-      search needs,
+    let q = found t (a .j) x _ (from x) (w .3 .result) _ _ (c .before .before .before .before .counts-at .ensures) (w .2 .ensures) (i .4 .0 x first) (w .3 .ensures) in
+    let e = is-true (bit (last-at t (a .j)) x) (i .2 x first) in
+    let same = backward-same (a .k) (a .s) (a .moves .now) (a .rows .now) (c .before .before .before .before .before .before .before .before .pre .1 .1) (omega arith) (omega arith) x (w .0 .taken) in
+    let to = w .5 .ensures ∙ ap (λ S. backward-by (a .s) (a .rows .now) S x) (w .4 .ensures ∙ ap (last-at t) q) ∙ same (last-at t (next-at t (a .j) x (from x))) in (
+      less,
       ap length (w .6) ∙ simp length-set (i .1),
-      w .7 ∙ ap₂ bitOr (i .2) (w .5 .ensures ∙ ap (λ S. backward-by (a .s) (a .rows .now) S x) (w .4 .ensures ∙ ap (last-at t) q) ∙ same (last-at t (next-at t (a .j) x (from x))))
-          ∙ sym (union-yes f (last-at t (a .j)) x (rw e tt)),
-      subst (Moved t (a .j) (a .cursors .now) (x + 1)) (sym (w .6)) (move-yes t (a .j) (a .cursors .now) x (c .before .before .loop .cursors) (i .3) (w .3 .result) (omega arith) e q),
+      λ y m. i .2 y (rest-in n some few y m),
+      ap (λ o. bitOr o (back r)) (w .7 ∙ ap (bitOr (l .out)) to) ∙ or-assoc (l .out) (f x) (back r)
+          ∙ ap (bitOr (l .out)) (sym (union-in f x r (a .k) (w .0 .taken)) ∙ whole) ∙ i .3,
+      subst (Moved t (a .j) (a .k) (a .cursors .now) r) (sym (w .6))
+          (move-yes t (a .j) (a .k) (a .cursors .now) n some few (l .cursors) (i .4) (w .3 .result) (omega arith)
+          (q ∙ sym (ap (λ b. cond b (next-at t (a .j) x (from x)) (from x)) e))),
     ))
-    (λ w.
-    let e : bit (last-at t (a .j)) x ≡ false = sym b ∙ ne-eqb _ 1 (w .0 .left) in (
-      search needs,
+    (λ w. (
+      less,
       ap length (w .1) ∙ i .1,
-      w .2 ∙ i .2 ∙ sym (union-no f (last-at t (a .j)) x (rw e tt)),
-      subst (Moved t (a .j) (a .cursors .now) (x + 1)) (sym (w .1)) (move-no t (a .j) (a .cursors .now) x (c .before .before .loop .cursors) (i .3) e),
-    )) (c .if1 .came)
+      λ y m. i .2 y (rest-in n some few y m),
+      ap (λ o. bitOr o (back r)) (w .2) ∙ ap (bitOr (l .out)) (sym (union-out f x r (a .k) (w .0 .left)) ∙ whole) ∙ i .3,
+      subst (Moved t (a .j) (a .k) (a .cursors .now) r) (sym (w .1)) (move-no t (a .j) (a .k) (a .cursors .now) n some few (l .cursors) (i .4) (w .0 .left)),
+    ))
+    (c .if1 .came)
 
 same-length : tie.Need-same-length Inv-loop μ-loop
 same-length c = search needs
@@ -157,9 +194,14 @@ same-length c = search needs
 returns : tie.Need-returns Inv-loop μ-loop
 returns c =
     let a = c .before .before .before .before .before .before .before .args in
-    let e : c .before .loop .x ≡ a .k = omega arith in (
-      c .before .loop .inv .2 ∙ ap (λ n. back-from (a .part .now) (a .j) n (a .k) (a .s) (a .moves .now) (λ y. getD (a .cursors .now) y 0)) e,
-      λ x h. c .before .loop .inv .3 .0 x (omega arith),
+    let t = a .part .now in
+    let l = c .before .loop in
+    let from : ℕ → ℕ = λ y. getD (a .cursors .now) y 0 in
+    let f : ℕ → ℕ = λ y. backward-step (a .k) (a .s) (a .moves .now) (last-at t (next-at t (a .j) y (from y))) y in
+    let e : l .rest ≡ 0 = omega arith in
+    let none : union f (filter (bit (l .rest)) (below (a .k))) ≡ 0 = ap (λ S. union f (filter (bit S) (below (a .k)))) e ∙ union-none f (bit 0) (below (a .k)) not-in-none in (
+      sym (ap (bitOr (l .out)) none ∙ or-zero-r (l .out)) ∙ l .inv .3,
+      λ y h. l .inv .4 .1 y h (not-T (bit (l .rest) y) (λ m. not-in-none y (subst (λ S. T (bit S y)) e m))),
     )
 
 pub back-of-spec : {M : Type 1} → statement M
@@ -171,8 +213,7 @@ back-of-spec =
     counts-at-requires
     last-at-requires
     loop-holds
-    cast-if1
-    shr-if1
+    cast-x
     mul-from
     slice-read-from
     one-more-requires
@@ -181,7 +222,7 @@ back-of-spec =
     slice-write-cursors
     last-at-requires-2
     backward-by-requires
-    add-x
+    sub-rest
     loop-less
     loop-again
     same-length

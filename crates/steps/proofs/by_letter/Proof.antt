@@ -1,5 +1,5 @@
 -- `steps::by_letter` meets its contract. The loop's invariant: the first `i` numbers are put, the others are 0. The measure is what is left of the rows.
-use mathlib.Core.Path.{_≡_, refl, sym, _∙_, ap, ap₂}
+use mathlib.Core.Path.{_≡_, refl, _∙_, ap, ap₂}
 use mathlib.Core.List.{_++_, map}
 use Prim.Native.Nat.{_*_, _-_, _≤_}
 use native.Mathlib.Omega.{arith}

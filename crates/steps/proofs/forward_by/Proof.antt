@@ -1,7 +1,7 @@
 -- `steps::forward_by` meets its contract. The loop's invariant: `out` is the step from the states of the set below `q`. The measure is what is left of `s`.
 use Prim.Native.Nat.{ℕ, _-_, _^_, _≤_}
-use mathlib.Core.Path.{_≡_, refl, sym, _∙_, ap, ap₂}
-use mathlib.Core.Bool.{Bool, true, false}
+use mathlib.Core.Path.{_≡_, refl, sym, _∙_, ap}
+use mathlib.Core.Bool.{true, false}
 use mathlib.Core.Logic.{⊎-elim}
 use native.Mathlib.Nat.{one-mul}
 use native.Mathlib.Omega.{arith}
