@@ -170,8 +170,7 @@ fn fill_total(
     starts: &[u16],
     places: &[u8],
 ) -> Total
-    requires { ⌜ Standing (profile-of shape (now masks) (now moves)) (now log) (now table) part (now starts) (now places) ⌝ }
-    requires { ⌜ now rows ≡ by-letter (shape .k) (shape .s) (now moves) ⌝ }
+    requires { ⌜ Standing (profile-of shape (now masks) (now moves)) (now log) (now table) part (now starts) (now places) × (now rows ≡ by-letter (shape .k) (shape .s) (now moves)) ⌝ }
     ensures { λ r. ⌜ Grows (profile-of shape (now (masks .entry)) (now (moves .entry))) (now (log .entry)) (part .room) (part .t) (part .first) (now (table .entry)) (now (table .exit)) r ⌝ }
 {
     let mut cursors = first_cursors(table, part, shape.k);
@@ -194,11 +193,9 @@ fn fill_total(
         match merged {
             Merged::Nothing => return Total::Put(j, pairs),
             Merged::Full => return Total::Full,
-            Merged::Put(n) => {
-                pairs += n as u64;
-                j += 1;
-            }
+            Merged::Put(n) => pairs += n as u64,
         }
+        j += 1;
     }
 }
 
@@ -216,8 +213,7 @@ fn fill_totals(
     places: &[u8],
 ) -> Filled
     requires { ⌜ Standing (profile-of shape (now masks) (now moves)) (now log) (now table) part (now starts) (now places) ⌝ }
-    requires { ⌜ (part .t ≤ length (now log)) × (number ≡ pairs (profile-of shape (now masks) (now moves)) (now log) (totals (profile-of shape (now masks) (now moves)) (now log) (suc (part .t)))) ⌝ }
-    requires { ⌜ now rows ≡ by-letter (shape .k) (shape .s) (now moves) ⌝ }
+    requires { ⌜ ((part .t ≤ length (now log)) × (number ≡ pairs (profile-of shape (now masks) (now moves)) (now log) (totals (profile-of shape (now masks) (now moves)) (now log) (suc (part .t))))) × (now rows ≡ by-letter (shape .k) (shape .s) (now moves)) ⌝ }
     ensures { λ r. ⌜ Forward (profile-of shape (now (masks .entry)) (now (moves .entry))) (now (log .entry)) (part .room) (now (table .entry)) (now (table .exit)) r ⌝ }
 {
     let mut at = part;
