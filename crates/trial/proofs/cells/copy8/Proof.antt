@@ -1,0 +1,56 @@
+-- `trial::cells::copy8` is safe and ends.
+use borrow.Author.Needs.{needs}
+use Prim.Native.Nat.{_-_}
+use mathlib.Core.Path.{_≡_}
+use lib.ListN.{length}
+use Rattle.trial.proofs.cells.copy8.Statement.{statement}
+use Rattle.trial.proofs.cells.copy8.Tie as tie
+
+abbrev Inv-loop : tie.InvT-loop
+Inv-loop from to₀ i₀ i-end to i = (length to ≡ length to₀)
+
+abbrev μ-loop : tie.MeasureT-loop
+μ-loop from to₀ i₀ i-end to i = i-end - i
+
+loop-holds : tie.Need-loop-holds Inv-loop μ-loop
+loop-holds c = search needs
+
+at8-requires : tie.Need-at8-requires Inv-loop μ-loop
+at8-requires c κs = search needs
+
+byte-requires : tie.Need-byte-requires Inv-loop μ-loop
+byte-requires c κs = search needs
+
+put8-requires : tie.Need-put8-requires Inv-loop μ-loop
+put8-requires c κs = search needs
+
+add-i : tie.Need-add-i Inv-loop μ-loop
+add-i c = search needs
+
+loop-less : tie.Need-loop-less Inv-loop μ-loop
+loop-less c = search needs
+
+loop-again : tie.Need-loop-again Inv-loop μ-loop
+loop-again c = search needs
+
+same-length : tie.Need-same-length Inv-loop μ-loop
+same-length c = search needs
+
+returns : tie.Need-returns Inv-loop μ-loop
+returns c = search needs
+
+pub copy8-spec : {M : Type 1} → statement M
+copy8-spec =
+    tie.close
+    (tie.spec
+    Inv-loop
+    μ-loop
+    loop-holds
+    at8-requires
+    byte-requires
+    put8-requires
+    add-i
+    loop-less
+    loop-again
+    same-length
+    returns)

@@ -1,0 +1,54 @@
+-- `trial::cells::equal8` is safe and ends.
+use borrow.Author.Needs.{needs}
+use Prim.Native.Nat.{_≤_, _-_}
+use Rattle.trial.proofs.cells.equal8.Statement.{statement}
+use Rattle.trial.proofs.cells.equal8.Tie as tie
+
+abbrev Inv-loop : tie.InvT-loop
+Inv-loop a b i₀ i-end i = 0 ≤ 0
+
+abbrev μ-loop : tie.MeasureT-loop
+μ-loop a b i₀ i-end i = i-end - i
+
+returns : tie.Need-returns Inv-loop μ-loop
+returns c = search needs
+
+loop-holds : tie.Need-loop-holds Inv-loop μ-loop
+loop-holds c = search needs
+
+at8-requires : tie.Need-at8-requires Inv-loop μ-loop
+at8-requires c κs = search needs
+
+at8-requires-2 : tie.Need-at8-requires-2 Inv-loop μ-loop
+at8-requires-2 c κs = search needs
+
+returns-2 : tie.Need-returns-2 Inv-loop μ-loop
+returns-2 c = search needs
+
+add-i : tie.Need-add-i Inv-loop μ-loop
+add-i c = search needs
+
+loop-less : tie.Need-loop-less Inv-loop μ-loop
+loop-less c = search needs
+
+loop-again : tie.Need-loop-again Inv-loop μ-loop
+loop-again c = search needs
+
+returns-3 : tie.Need-returns-3 Inv-loop μ-loop
+returns-3 c = search needs
+
+pub equal8-spec : {M : Type 1} → statement M
+equal8-spec =
+    tie.close
+    (tie.spec
+    Inv-loop
+    μ-loop
+    returns
+    loop-holds
+    at8-requires
+    at8-requires-2
+    returns-2
+    add-i
+    loop-less
+    loop-again
+    returns-3)

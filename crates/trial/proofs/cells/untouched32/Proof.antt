@@ -1,0 +1,50 @@
+-- `trial::cells::untouched32` is safe and ends.
+use borrow.Author.Needs.{needs}
+use Prim.Native.Nat.{_≤_, _-_}
+use Rattle.trial.proofs.cells.untouched32.Statement.{statement}
+use Rattle.trial.proofs.cells.untouched32.Tie as tie
+
+abbrev Inv-loop : tie.InvT-loop
+Inv-loop s from n i₀ i-end i = 0 ≤ 0
+
+abbrev μ-loop : tie.MeasureT-loop
+μ-loop s from n i₀ i-end i = i-end - i
+
+loop-holds : tie.Need-loop-holds Inv-loop μ-loop
+loop-holds c = search needs
+
+inside-requires : tie.Need-inside-requires Inv-loop μ-loop
+inside-requires c κs = search needs
+
+kept32-requires : tie.Need-kept32-requires Inv-loop μ-loop
+kept32-requires c κs = search needs
+
+returns : tie.Need-returns Inv-loop μ-loop
+returns c = search needs
+
+add-i : tie.Need-add-i Inv-loop μ-loop
+add-i c = search needs
+
+loop-less : tie.Need-loop-less Inv-loop μ-loop
+loop-less c = search needs
+
+loop-again : tie.Need-loop-again Inv-loop μ-loop
+loop-again c = search needs
+
+returns-2 : tie.Need-returns-2 Inv-loop μ-loop
+returns-2 c = search needs
+
+pub untouched32-spec : {M : Type 1} → statement M
+untouched32-spec =
+    tie.close
+    (tie.spec
+    Inv-loop
+    μ-loop
+    loop-holds
+    inside-requires
+    kept32-requires
+    returns
+    add-i
+    loop-less
+    loop-again
+    returns-2)

@@ -1,0 +1,8 @@
+// What the test programs share: total reads and writes, random profiles and logs, the tested calls on guarded buffers, and the counters.
+pub mod answers;
+pub mod calls;
+pub mod cells;
+pub mod logs;
+pub mod random;
+pub mod shapes;
+pub mod tally;

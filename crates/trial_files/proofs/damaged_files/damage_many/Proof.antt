@@ -1,0 +1,52 @@
+-- `trial_files::damaged_files::damage_many` is safe and ends.
+use borrow.Author.Needs.{needs}
+use Prim.Native.Nat.{_-_}
+use mathlib.Core.Path.{_≡_}
+use lib.ListN.{length}
+use Rattle.trial_files.proofs.damaged_files.damage_many.Statement.{statement}
+use Rattle.trial_files.proofs.damaged_files.damage_many.Tie as tie
+
+abbrev Inv-loop : tie.InvT-loop
+Inv-loop seed₀ many tally₀ counter₀ seed tally counter = (length seed ≡ length seed₀) × (length tally ≡ length tally₀)
+
+abbrev μ-loop : tie.MeasureT-loop
+μ-loop seed₀ many tally₀ counter₀ seed tally counter = many - counter
+
+loop-holds : tie.Need-loop-holds Inv-loop μ-loop
+loop-holds c = search needs
+
+damage-random-requires : tie.Need-damage-random-requires Inv-loop μ-loop
+damage-random-requires c κs = search needs
+
+add-counter : tie.Need-add-counter Inv-loop μ-loop
+add-counter c = search needs
+
+loop-less : tie.Need-loop-less Inv-loop μ-loop
+loop-less c = search needs
+
+loop-again : tie.Need-loop-again Inv-loop μ-loop
+loop-again c = search needs
+
+same-length : tie.Need-same-length Inv-loop μ-loop
+same-length c = search needs
+
+same-length-2 : tie.Need-same-length-2 Inv-loop μ-loop
+same-length-2 c = search needs
+
+returns : tie.Need-returns Inv-loop μ-loop
+returns c = search needs
+
+pub damage-many-spec : {M : Type 1} → statement M
+damage-many-spec =
+    tie.close
+    (tie.spec
+    Inv-loop
+    μ-loop
+    loop-holds
+    damage-random-requires
+    add-counter
+    loop-less
+    loop-again
+    same-length
+    same-length-2
+    returns)

@@ -1,0 +1,34 @@
+-- `trial_logs::listing::earliest` is safe and ends.
+use borrow.Author.Needs.{needs}
+use Prim.Native.Nat.{_≤_, _-_}
+use Rattle.trial_logs.proofs.listing.earliest.Statement.{statement}
+use Rattle.trial_logs.proofs.listing.earliest.Tie as tie
+
+abbrev Inv-loop : tie.InvT-loop
+Inv-loop rows count n best₀ r₀ best r = 0 ≤ 0
+
+abbrev μ-loop : tie.MeasureT-loop
+μ-loop rows count n best₀ r₀ best r = count - r
+
+loop-holds : tie.Need-loop-holds Inv-loop μ-loop
+loop-holds c = search needs
+
+earlier-row-requires : tie.Need-earlier-row-requires Inv-loop μ-loop
+earlier-row-requires c κs = search needs
+
+add-r : tie.Need-add-r Inv-loop μ-loop
+add-r c = search needs
+
+loop-less : tie.Need-loop-less Inv-loop μ-loop
+loop-less c = search needs
+
+loop-again : tie.Need-loop-again Inv-loop μ-loop
+loop-again c = search needs
+
+returns : tie.Need-returns Inv-loop μ-loop
+returns c = search needs
+
+pub earliest-spec : {M : Type 1} → statement M
+earliest-spec =
+    tie.close
+    (tie.spec Inv-loop μ-loop loop-holds earlier-row-requires add-r loop-less loop-again returns)

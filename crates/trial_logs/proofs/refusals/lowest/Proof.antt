@@ -1,0 +1,50 @@
+-- `trial_logs::refusals::lowest` is safe and ends.
+use borrow.Author.Needs.{needs}
+use Prim.Native.Nat.{_≤_, _-_}
+use Rattle.trial_logs.proofs.refusals.lowest.Statement.{statement}
+use Rattle.trial_logs.proofs.refusals.lowest.Tie as tie
+
+abbrev Inv-loop : tie.InvT-loop
+Inv-loop damages known i₀ i = 0 ≤ 0
+
+abbrev μ-loop : tie.MeasureT-loop
+μ-loop damages known i₀ i = 8 - i
+
+loop-holds : tie.Need-loop-holds Inv-loop μ-loop
+loop-holds c = search needs
+
+has-requires : tie.Need-has-requires Inv-loop μ-loop
+has-requires c κs = search needs
+
+number-of-requires : tie.Need-number-of-requires Inv-loop μ-loop
+number-of-requires c κs = search needs
+
+returns : tie.Need-returns Inv-loop μ-loop
+returns c = search needs
+
+add-i : tie.Need-add-i Inv-loop μ-loop
+add-i c = search needs
+
+loop-less : tie.Need-loop-less Inv-loop μ-loop
+loop-less c = search needs
+
+loop-again : tie.Need-loop-again Inv-loop μ-loop
+loop-again c = search needs
+
+returns-2 : tie.Need-returns-2 Inv-loop μ-loop
+returns-2 c = search needs
+
+pub lowest-spec : {M : Type 1} → statement M
+lowest-spec =
+    tie.close
+    (tie.spec
+    Inv-loop
+    μ-loop
+    loop-holds
+    has-requires
+    number-of-requires
+    returns
+    add-i
+    loop-less
+    loop-again
+    returns-2)

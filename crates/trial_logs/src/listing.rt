@@ -1,0 +1,144 @@
+// The listing of the logs reachable from a log: exchanges of neighbouring independent letters, tried on every listed log until nothing new
+// appears. A listed log is a row of eight bytes; the commutation test is this crate's own.
+use trial::cells::at8;
+use trial::cells::at16;
+use trial::cells::bit16;
+use trial::cells::byte;
+use trial::cells::equal8;
+use trial::cells::minus;
+use trial::cells::part8;
+use trial::cells::plus;
+use trial::cells::put8;
+
+// Rows of a listing.
+pub const MOST: usize = 2048;
+
+// Letters i and j are independent: bit j of mask i is set.
+pub fn commute(masks: &[u16], i: usize, j: usize) -> bool {
+    bit16(at16(masks, i), j)
+}
+
+fn row_at(r: usize) -> usize {
+    if r < MOST { 8 * r } else { 0 }
+}
+
+// Listed log r, of n letters.
+pub fn row(rows: &[u8], r: usize, n: usize) -> &[u8] {
+    part8(rows, row_at(r), n)
+}
+
+// Writes the log as row 0.
+fn put_log(rows: &mut [u8], log: &[u8]) {
+    for i in 0..log.len() {
+        put8(rows, i, byte(at8(log, i)));
+    }
+}
+
+// Where the letter at place j stood before the exchange at i and i + 1.
+fn exchanged_place(i: usize, j: usize) -> usize {
+    if j == i {
+        return plus(i, 1);
+    }
+    if j == plus(i, 1) { i } else { j }
+}
+
+// Writes row `from` as row `to`, with the letters at i and i + 1 exchanged.
+fn put_exchanged(rows: &mut [u8], from: usize, to: usize, n: usize, i: usize) {
+    let source = row_at(from);
+    let target = row_at(to);
+    for j in 0..n {
+        let letter = at8(rows, plus(source, exchanged_place(i, j)));
+        put8(rows, plus(target, j), byte(letter));
+    }
+}
+
+// A log of the first `count` rows.
+pub fn listed(rows: &[u8], count: usize, log: &[u8]) -> bool {
+    for r in 0..count {
+        if equal8(row(rows, r, log.len()), log) {
+            return true;
+        }
+    }
+    false
+}
+
+// Adds row r with its letters at i and i + 1 exchanged, where they commute and the log is new; the new number of rows.
+fn add_exchange(
+    masks: &[u16],
+    rows: &mut [u8],
+    n: usize,
+    r: usize,
+    i: usize,
+    count: usize,
+) -> usize {
+    let from = row_at(r);
+    let x = at8(rows, plus(from, i));
+    let y = at8(rows, plus(from, plus(i, 1)));
+    if !commute(masks, x, y) {
+        return count;
+    }
+    if MOST <= count {
+        return count;
+    }
+    put_exchanged(rows, r, count, n, i);
+    if listed(rows, count, row(rows, count, n)) {
+        return count;
+    }
+    plus(count, 1)
+}
+
+// Adds every exchange of row r.
+fn add_exchanges(masks: &[u16], rows: &mut [u8], n: usize, r: usize, count: usize) -> usize {
+    let mut many = count;
+    for i in 0..minus(n, 1) {
+        many = add_exchange(masks, rows, n, r, i, many);
+    }
+    many
+}
+
+// Exchanges in row after row, until no row is left; the number of rows.
+fn close_listing(masks: &[u16], rows: &mut [u8], n: usize) -> usize {
+    let mut count = 1;
+    for r in 0..MOST {
+        if count <= r {
+            return count;
+        }
+        count = add_exchanges(masks, rows, n, r, count);
+    }
+    count
+}
+
+// Lists the logs reachable from the log, and tells how many; 0 where they do not fit.
+pub fn list(masks: &[u16], log: &[u8], rows: &mut [u8]) -> usize {
+    put_log(rows, log);
+    let count = close_listing(masks, rows, log.len());
+    if count < MOST { count } else { 0 }
+}
+
+// Log a comes before log b: at the first place where they differ its letter is smaller.
+pub fn earlier(a: &[u8], b: &[u8]) -> bool {
+    for i in 0..a.len() {
+        if at8(a, i) != at8(b, i) {
+            return at8(a, i) < at8(b, i);
+        }
+    }
+    false
+}
+
+// The earlier one of rows r and t.
+fn earlier_row(rows: &[u8], n: usize, r: usize, t: usize) -> usize {
+    if earlier(row(rows, r, n), row(rows, t, n)) {
+        r
+    } else {
+        t
+    }
+}
+
+// The row of the earliest listed log.
+pub fn earliest(rows: &[u8], count: usize, n: usize) -> usize {
+    let mut best = 0;
+    for r in 0..count {
+        best = earlier_row(rows, n, r, best);
+    }
+    best
+}
