@@ -1,22 +1,22 @@
--- `trial_logs::refusals::combine_all_same` is safe and ends.
+-- `trial_refusals::combine_all` is safe and ends.
 use borrow.Author.Needs.{needs}
 use Prim.Native.Nat.{_-_}
 use mathlib.Core.Path.{_≡_}
 use lib.ListN.{length}
-use Rattle.trial_logs.proofs.refusals.combine_all_same.Statement.{statement}
-use Rattle.trial_logs.proofs.refusals.combine_all_same.Tie as tie
+use Rattle.trial_refusals.proofs.combine_all.Statement.{statement}
+use Rattle.trial_refusals.proofs.combine_all.Tie as tie
 
 abbrev Inv-loop : tie.InvT-loop
 Inv-loop tally₀ c₀ tally c = (length tally ≡ length tally₀)
 
 abbrev μ-loop : tie.MeasureT-loop
-μ-loop tally₀ c₀ tally c = 768 - c
+μ-loop tally₀ c₀ tally c = 3328 - c
 
 loop-holds : tie.Need-loop-holds Inv-loop μ-loop
 loop-holds c = search needs
 
-combine-same-requires : tie.Need-combine-same-requires Inv-loop μ-loop
-combine-same-requires c κs = search needs
+combine-requires : tie.Need-combine-requires Inv-loop μ-loop
+combine-requires c κs = search needs
 
 add-c : tie.Need-add-c Inv-loop μ-loop
 add-c c = search needs
@@ -33,14 +33,14 @@ same-length c = search needs
 returns : tie.Need-returns Inv-loop μ-loop
 returns c = search needs
 
-pub combine-all-same-spec : {M : Type 1} → statement M
-combine-all-same-spec =
+pub combine-all-spec : {M : Type 1} → statement M
+combine-all-spec =
     tie.close
     (tie.spec
     Inv-loop
     μ-loop
     loop-holds
-    combine-same-requires
+    combine-requires
     add-c
     loop-less
     loop-again

@@ -1,8 +1,8 @@
--- `trial_logs::refusals::lowest` is safe and ends.
+-- `trial_refusals::lowest` is safe and ends.
 use borrow.Author.Needs.{needs}
 use Prim.Native.Nat.{_≤_, _-_}
-use Rattle.trial_logs.proofs.refusals.lowest.Statement.{statement}
-use Rattle.trial_logs.proofs.refusals.lowest.Tie as tie
+use Rattle.trial_refusals.proofs.lowest.Statement.{statement}
+use Rattle.trial_refusals.proofs.lowest.Tie as tie
 
 abbrev Inv-loop : tie.InvT-loop
 Inv-loop damages known i₀ i = 0 ≤ 0

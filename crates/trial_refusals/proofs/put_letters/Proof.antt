@@ -1,10 +1,10 @@
--- `trial_logs::refusals::put_letters` is safe and ends.
+-- `trial_refusals::put_letters` is safe and ends.
 use borrow.Author.Needs.{needs}
 use Prim.Native.Nat.{_-_}
 use mathlib.Core.Path.{_≡_}
 use lib.ListN.{length}
-use Rattle.trial_logs.proofs.refusals.put_letters.Statement.{statement}
-use Rattle.trial_logs.proofs.refusals.put_letters.Tie as tie
+use Rattle.trial_refusals.proofs.put_letters.Statement.{statement}
+use Rattle.trial_refusals.proofs.put_letters.Tie as tie
 
 abbrev Inv-loop : tie.InvT-loop
 Inv-loop log₀ n i₀ log i = (length log ≡ length log₀)
