@@ -6,10 +6,10 @@ use Prim.Native.Nat.{ℕ, _*_, _<_}
 use lib.Dec.{T}
 use lib.ListN.{length, drop}
 use Rattle.profile.specs.Lists.{NoDup, Rising, flat-map}
-use Rattle.profile.specs.Traces.{Reachable}
-use Rattle.profile.specs.Automata.{Automaton}
+use Rattle.profile.specs.Traces.{Reachable, bit}
+use Rattle.profile.specs.Automata.{Accepted, Automaton}
 use Rattle.profile.specs.Prefixes.{IsPrefix, count, total}
-use Rattle.profile.specs.Orders.{Same}
+use Rattle.profile.specs.Orders.{NoLater, Same, smaller}
 use Rattle.profile.specs.Tables.{Holds, Layout, count-field, layout, packed, record-length, record-of}
 
 -- "each is reachable from the other"
@@ -20,6 +20,14 @@ same-back may v w s = s .1
 pub marked-too : {may : ℕ → ℕ → Bool} {letter : ℕ → ℕ} {w : List ℕ} {c : ℕ → ℕ} → IsPrefix may letter w c → (u v x : List ℕ) (a b : ℕ)
     → w ≡ u ++ (a ∷ (v ++ (b ∷ x))) → count letter (u ++ (a ∷ v)) (letter b) < c (letter b) → T (not (may a b)) → count letter u (letter a) < c (letter a)
 marked-too p u v x a b e m d = p .closed u v x a b e m d
+
+-- "accepted when some path from the start spells it and ends in a final state"
+pub accepted-final : {M : Automaton} {letter : ℕ → ℕ} {u : List ℕ} (p : Accepted M letter u) → T (bit (M .final) (p .to))
+accepted-final p = p .ends
+
+-- "the smaller letter is earlier"
+pub smaller-earlier : (a b : ℕ) (u v : List ℕ) → a < b → NoLater (a ∷ u) (b ∷ v)
+smaller-earlier a b u v h = smaller h
 
 -- "Every prefix has one record, in rising order of total count …. Numbers past record P − 1 are not written"
 module _ {L : Layout} {may : ℕ → ℕ → Bool} {letter : ℕ → ℕ} {M : Automaton} {k : ℕ} {w before after : List ℕ} (h : Holds L may letter M k w before after) where
