@@ -1,7 +1,7 @@
 -- A set of letters that is gone through from the lowest on: the lowest is in it, and what is left has all others.
 use mathlib.Core.Path.{_≡_, refl, sym, _∙_, ap, subst}
 use mathlib.Core.Logic.{_⊎_, inl, inr, ⊎-elim}
-use Prim.Native.Nat.{ℕ, zero, suc, _+_, _-_, _*_, _/_, _%_, _^_, _<_}
+use Prim.Native.Nat.{ℕ, zero, suc, _-_, _*_, _/_, _%_, _^_, _<_}
 use native.Mathlib.Nat.{div-div-eq-div-mul, div-one, pow-suc, pow-succ'}
 use native.Mathlib.Omega.{arith}
 use lib.Bits.{bitAnd, bitOr, and-self, and-step}

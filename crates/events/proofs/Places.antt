@@ -2,12 +2,12 @@
 use mathlib.Core.Path.{_≡_, refl, sym, _∙_, ap, ap₂, subst}
 use mathlib.Core.Bool.{not}
 use mathlib.Core.Logic.{_⊎_, inl, inr, ⊎-elim, _≢_}
-use mathlib.Core.List.{List, [], _∷_, _++_, map, map-append, append-nil, List·Memᴰ·cases-cons, List·Memᴰ·eq-of-singleton}
+use mathlib.Core.List.{List, [], _∷_, _++_, map, append-nil, List·Memᴰ·cases-cons, List·Memᴰ·eq-of-singleton}
 use Prim.Native.Nat.{ℕ, zero, suc, _+_, _-_, _≤_, _<_}
 use native.Mathlib.Omega.{arith}
 use native.Mathlib.Numerals.{add-one}
 use lib.Dec.{T, not-T, eqb, eqb→eq, eqb-refl, ltb, ltb→lt, lt→ltb}
-use lib.ListN.{length, drop, set, getD, length-append, length-drop, drop-of-length-le, List·getD-append}
+use lib.ListN.{length, drop, getD, length-append, length-drop, drop-of-length-le, List·getD-append}
 use lib.Seq.{sets, drop-append-add, drop-cons, drop-drop, getD-append-add, sets-eq, take-at}
 use Rattle.profile.specs.Lists.{Mem, below, filter, flat-map, range}
 use Rattle.profile.specs.Prefixes.{count, one}
@@ -72,13 +72,6 @@ fill-more t v l n e h =
     sets-eq v (t ++ drop n l) n (omega (arith, length-append t (drop n l), length-drop n l))
     ∙ ap₂ (λ a b. (a ++ v) ++ b) (take-at t (drop n l) n e)
     (ap (λ m. drop (m + length v) (t ++ drop n l)) (sym e) ∙ drop-append-add t (drop n l) (length v) ∙ drop-drop (length v) n l)
-
-pub starts-more : (w l : List ℕ) (k : ℕ) → k < length l
-    → set (map (place-start w) (below k) ++ drop k l) k (place-start w k) ≡ map (place-start w) (below (k + 1)) ++ drop (k + 1) l
-starts-more w l k h =
-    let m : map (place-start w) (below (k + 1)) ≡ map (place-start w) (below k) ++ (place-start w k ∷ []) =
-    ap (λ n. map (place-start w) (below n)) (add-one k) ∙ ap (map (place-start w)) (below-suc k) ∙ map-append (place-start w) (below k) (k ∷ []) in
-    fill-more (map (place-start w) (below k)) (place-start w k ∷ []) l k (length-range (place-start w) k 0) (omega arith) ∙ ap (λ t. t ++ drop (k + 1) l) (sym m)
 
 pub places-more : (w l : List ℕ) (k : ℕ) → length (place-table (k + 1) w) ≤ length l
     → sets (place-table k w ++ drop (length (place-table k w)) l) (length (place-table k w)) (places-of w k) ≡ place-table (k + 1) w ++ drop (length (place-table (k + 1) w)) l

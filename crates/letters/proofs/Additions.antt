@@ -2,16 +2,16 @@
 use mathlib.Core.Path.{_≡_, refl, sym, _∙_, ap, ap₂, subst}
 use mathlib.Core.Bool.{Bool, not, _||_}
 use mathlib.Core.Logic.{_≢_}
-use mathlib.Core.List.{List, [], _∷_, _++_, map, map-append, append-assoc, List·Memᴰ·head, List·Memᴰ·tail}
-use Prim.Native.Nat.{ℕ, suc, _+_, _^_, _≤_, _<_}
+use mathlib.Core.List.{List, [], _∷_, _++_, map, List·Memᴰ·head, List·Memᴰ·tail}
+use Prim.Native.Nat.{ℕ, _+_, _^_, _≤_, _<_}
 use native.Mathlib.Nat.{zero-add}
 use native.Mathlib.Omega.{arith}
 use native.Mathlib.Numerals.{add-one}
 use lib.Bits.{or-lt}
 use lib.Dec.{T, eqb, ltb, lt→ltb}
-use lib.ListN.{length, getD, set, drop, List·getD-append}
+use lib.ListN.{length, getD, set, List·getD-append}
 use lib.Pow.{pow-pos, pow-lt}
-use lib.Seq.{drop-cons, ext-getD, set-at}
+use lib.Seq.{ext-getD}
 use Rattle.profile.specs.Automata.{union}
 use Rattle.profile.specs.Lists.{Mem, all, below, filter}
 use Rattle.profile.specs.Prefixes.{IsPrefix, at}
@@ -30,14 +30,6 @@ use Rattle.events.proofs.Places.{place-found}
 use Rattle.letters.specs.Letters.{letters-by, next-by}
 
 -- ---- for loops in code
-
--- f of one number more, stored behind f of the numbers below x
-pub map-more : (f : ℕ → ℕ) (l : List ℕ) (x : ℕ) → x < length l → set (map f (below x) ++ drop x l) x (f x) ≡ map f (below (x + 1)) ++ drop (x + 1) l
-map-more f l x h =
-    let m : map f (below (suc x)) ≡ map f (below x) ++ (f x ∷ []) = ap (map f) (below-suc x) ∙ map-append f (below x) (x ∷ []) in
-    rw (add-one x, drop-cons l x 0 h)
-    (set-at (map f (below x)) (getD l x 0) (drop (suc x) l) (f x) x (length-range f x 0)
-    ∙ sym (ap (λ t. t ++ drop (suc x) l) m ∙ append-assoc (map f (below x)) (f x ∷ []) (drop (suc x) l)))
 
 -- the next number passes the test, or does not
 pub below-yes : (p : ℕ → Bool) (x : ℕ) → T (p x) → filter p (below (x + 1)) ≡ filter p (below x) ++ (x ∷ [])

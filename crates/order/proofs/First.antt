@@ -2,13 +2,12 @@
 use mathlib.Core.Path.{_≡_, refl, sym, _∙_, ap, ap₂, subst, fun-ext}
 use mathlib.Core.Bool.{Bool, true}
 use mathlib.Core.Logic.{⊎-elim, _≢_}
-use mathlib.Core.List.{List, [], _∷_, _++_, map, append-assoc, map-append}
+use mathlib.Core.List.{List, [], _∷_, _++_, map, append-assoc}
 use mathlib.Core.Option.{some}
 use Prim.Native.Nat.{ℕ, zero, suc, _+_, _≤_, _<_}
 use native.Mathlib.Nat.{zero-add}
 use native.Mathlib.Omega.{arith}
 use lib.Dec.{T, ltb, ltb→lt}
-use native.Mathlib.Numerals.{add-one}
 use lib.ListN.{length, getD, drop, replicate, set, length-append, length-drop, length-map}
 use lib.Seq.{drop-append-add, drop-drop, ext-getD, getD-set-other, getD-set-same, set-split, take-at}
 use Rattle.profile.specs.Lists.{below, first-place, range}
@@ -17,7 +16,7 @@ use Rattle.profile.specs.Prefixes.{IsPrefix, count, one, unmarked}
 use Rattle.profile.specs.Traces.{independent}
 use Rattle.theory.proofs.Counting.{at-map}
 use Rattle.theory.proofs.Earliest.{Greedy, end, first-greedy, greedy-append, greedy-takes, take}
-use Rattle.profile.proofs.Lists.{below-suc, is-true}
+use Rattle.profile.proofs.Lists.{is-true}
 use Rattle.theory.proofs.Prefixes.{addable-at, addable-of, addable?, all-of-pick, count-append, count-le, more, more-of-pick, one-cases, one-same, prefix-of-takes}
 use Rattle.theory.proofs.Profiles.{distinct}
 use Rattle.theory.proofs.Refusals.{GoodLog, Relation}
@@ -54,11 +53,6 @@ fill-next u l a n e h =
     set-split (u ++ drop n l) n a (omega (arith, length-append u (drop n l), length-drop n l))
     ∙ ap₂ (λ x y. x ++ (a ∷ y)) (take-at u (drop n l) n e) (ap (λ i. drop i (u ++ drop n l)) m ∙ drop-append-add u (drop n l) 1 ∙ drop-drop 1 n l)
     ∙ sym (append-assoc u (a ∷ []) (drop (n + 1) l))
-
-pub fill-map : (f : ℕ → ℕ) (l : List ℕ) (x : ℕ) → x < length l → set (map f (below x) ++ drop x l) x (f x) ≡ map f (below (x + 1)) ++ drop (x + 1) l
-fill-map f l x h =
-    let m : map f (below (x + 1)) ≡ map f (below x) ++ (f x ∷ []) = ap (λ n. map f (below n)) (add-one x) ∙ ap (map f) (below-suc x) ∙ map-append f (below x) (x ∷ []) in
-    fill-next (map f (below x)) l (f x) x (length-map (below x) f ∙ length-below x) h ∙ ap (λ t. t ++ drop (x + 1) l) (sym m)
 
 -- ---- the smallest letter that can come next
 

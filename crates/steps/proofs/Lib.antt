@@ -1,4 +1,3 @@
 -- Laws about unions over states and about the moves by letter; the functions' proofs cite them.
-pub mod Fronts
 pub mod Rows
 pub mod Unions

@@ -4,6 +4,8 @@ pub mod Prefixes
 pub mod Scan
 pub mod Counting
 pub mod Levels
+-- lists that a loop fills from their start
+pub mod Fronts
 -- automata and the earliest order
 pub mod Automata
 pub mod Profiles

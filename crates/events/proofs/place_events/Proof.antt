@@ -7,7 +7,8 @@ use native.Mathlib.Omega.{arith}
 use lib.ListN.{length, drop, length-set}
 use Rattle.profile.specs.Lists.{below}
 use Rattle.events.specs.Events.{place-start, place-table}
-use Rattle.events.proofs.Places.{place-table-le, place-table-more, places-more, starts-more}
+use Rattle.theory.proofs.Fronts.{front-put}
+use Rattle.events.proofs.Places.{place-table-le, place-table-more, places-more}
 use Rattle.events.proofs.place_events.Statement.{statement}
 use Rattle.events.proofs.place_events.Tie as tie
 
@@ -54,7 +55,7 @@ loop-again c =
       omega (arith, f .ensures .0, place-table-more (l .x) w),
       length-set (l .starts) (l .x) (l .at) ∙ l .inv .2,
       f .kept .1 .1 .0 ∙ l .inv .3,
-      rw (l .inv .4, l .inv .1) (starts-more w (a .starts .now) (l .x) (omega arith)),
+      rw (l .inv .4, l .inv .1) (front-put (place-start w) (a .starts .now) (l .x) (omega arith)),
       f .ensures .1 ∙ rw (l .inv .5, l .inv .1) (places-more w (a .places .now) (l .x) le),
     )
 

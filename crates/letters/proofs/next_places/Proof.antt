@@ -8,7 +8,7 @@ use lib.ListN.{length, getD, set, drop, length-set}
 use Rattle.profile.specs.Tables.{count-field, layout}
 use Rattle.counts.specs.Counts.{words}
 use Rattle.letters.specs.Letters.{next-by}
-use Rattle.letters.proofs.Additions.{map-more}
+use Rattle.theory.proofs.Fronts.{front-put}
 use Rattle.letters.proofs.next_places.Statement.{statement}
 use Rattle.letters.proofs.next_places.Tie as tie
 
@@ -47,7 +47,7 @@ loop-again c =
     let e : c .next-place .result ≡ place (l .y) (count-field layout (words (a .c)) (l .y)) = c .next-place .ensures ∙ ap (place (l .y)) (c .before .count-of .ensures) in (
       omega arith,
       length-set (l .next) (l .y) (c .next-place .result) ∙ l .inv .1,
-      ap₂ (λ t v. set t (l .y) v) (l .inv .2) e ∙ map-more (λ y. place y (count-field layout (words (a .c)) y)) (a .next .now) (l .y) (omega arith),
+      ap₂ (λ t v. set t (l .y) v) (l .inv .2) e ∙ front-put (λ y. place y (count-field layout (words (a .c)) y)) (a .next .now) (l .y) (omega arith),
     )
 
 same-length : tie.Need-same-length Inv-loop μ-loop

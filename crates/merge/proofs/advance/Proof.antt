@@ -6,7 +6,7 @@ use native.Mathlib.Omega.{arith}
 use lib.ListN.{getD, length, length-set, set}
 use Rattle.profile.specs.Prefixes.{at}
 use Rattle.merge.specs.Merge.{advanced, moved-on}
-use Rattle.steps.proofs.Fronts.{front-next, front-put}
+use Rattle.theory.proofs.Fronts.{front-next, front-put}
 use borrow.Author.Needs.{needs}
 use Rattle.merge.proofs.advance.Statement.{statement}
 use Rattle.merge.proofs.advance.Tie as tie

@@ -5,7 +5,7 @@ use mathlib.Core.Path.{_≡_, refl, _∙_, ap, ap₂}
 use native.Mathlib.Omega.{arith}
 use lib.ListN.{length, length-set, set}
 use Rattle.merge.specs.Merge.{seek-from, started}
-use Rattle.steps.proofs.Fronts.{front-put}
+use Rattle.theory.proofs.Fronts.{front-put}
 use borrow.Author.Needs.{needs}
 use Rattle.merge.proofs.start_cursors.Statement.{statement}
 use Rattle.merge.proofs.start_cursors.Tie as tie

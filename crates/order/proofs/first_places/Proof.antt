@@ -6,7 +6,7 @@ use Prim.Native.Nat.{ℕ, _+_, _-_, _≤_}
 use lib.ListN.{length, getD, drop, set, length-set}
 use lib.Seq.{drop-length}
 use Rattle.profile.specs.Lists.{below}
-use Rattle.order.proofs.First.{fill-map}
+use Rattle.theory.proofs.Fronts.{front-put}
 use native.Mathlib.Omega.{arith}
 use Rattle.order.proofs.first_places.Statement.{statement}
 use Rattle.order.proofs.first_places.Tie as tie
@@ -43,7 +43,7 @@ loop-again c =
     let f = first-of (a .starts .now) (a .places .now) in (
       omega arith,
       length-set (l .next) (l .x) (c .next-place .result) ∙ l .inv .1,
-      ap₂ (λ m v. set m (l .x) v) (l .inv .2) (c .next-place .ensures) ∙ fill-map f (a .next .now) (l .x) (omega arith),
+      ap₂ (λ m v. set m (l .x) v) (l .inv .2) (c .next-place .ensures) ∙ front-put f (a .next .now) (l .x) (omega arith),
     )
 
 same-length : tie.Need-same-length Inv-loop μ-loop

@@ -7,7 +7,7 @@ use borrow.Author.Needs.{needs}
 use lib.ListN.{drop, replicate, set}
 use Rattle.profile.specs.Lists.{below}
 use Rattle.steps.specs.Rows.{by-letter, led}
-use Rattle.steps.proofs.Fronts.{front-put}
+use Rattle.theory.proofs.Fronts.{front-put}
 use Rattle.steps.proofs.by_letter.Statement.{statement}
 use Rattle.steps.proofs.by_letter.Tie as tie
 
