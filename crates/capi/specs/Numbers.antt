@@ -10,8 +10,8 @@ use Rattle.table.specs.declared.Built.the-variants.{Filled}
 use Rattle.verdict.specs.Verdict as verdict
 use Rattle.verdict.specs.declared.Judged.{Judged}
 use Rattle.verdict.specs.declared.Judged.the-variants.{NoOrder, Order}
-use Rattle.order.specs.declared.Compared.{Compared}
-use Rattle.order.specs.declared.Compared.the-variants.{Different, Equal}
+use Rattle.comparison.specs.declared.Compared.{Compared}
+use Rattle.comparison.specs.declared.Compared.the-variants.{Different, Equal}
 use Rattle.order.specs.declared.Ordered.{Ordered}
 use Rattle.order.specs.declared.Ordered.the-variants.{Written}
 use Rattle.logfile.specs.declared.Located.{Located}

@@ -3,16 +3,17 @@ ghost use mathlib.Core.Path.{_≡_};
 ghost use lib.ListN.{length};
 ghost use Rattle.profile.specs.Automata.{profile-of};
 ghost use Rattle.profile.specs.Refusals.{refusal-place};
-ghost use Rattle.order.specs.Order.{comparison, ordered-buffer, ordering};
+ghost use Rattle.comparison.specs.Comparison.{comparison};
+ghost use Rattle.order.specs.Order.{ordered-buffer, ordering};
 ghost use Rattle.logfile.specs.Files.{file-masks, file-moves, file-shape, filled, log-location, log-length, read-refusal, reading};
 ghost use Rattle.filewriter.specs.Written.{file-bytes, write-refusal, writing};
 ghost use Rattle.logreader.specs.Events.{event-of, place-behind};
 ghost use Rattle.capi.specs.Numbers.{Building, Judging, compared-code, compared-told, event-number, located-code, located-told, ordered-code, ordered-told, reading-code, reading-told, writing-code, writing-told};
+use comparison::Compared;
 use filewriter::Writing;
 use logfile::Located;
 use logfile::Reading;
 use logreader::Event;
-use order::Compared;
 use order::Ordered;
 use profile::Refusal;
 use profile::Shape;
@@ -23,7 +24,7 @@ use verdict::Judged;
 fn place_of(r: Refusal) -> u64
     ensures { λ n. ⌜ n ≡ refusal-place r ⌝ }
 {
-    profile::place(r) as u64
+    refusals::place(r) as u64
 }
 
 // The judge.
@@ -52,7 +53,7 @@ pub extern "C" fn fumarehi_judge(
     match judged {
         Judged::Refused(r) => {
             *told = [place_of(r), 0, 0, 0];
-            profile::number(r)
+            refusals::number(r)
         }
         Judged::NoOrder { prefixes, looks } => {
             *told = [0, 0, prefixes as u64, looks];
@@ -90,7 +91,7 @@ pub extern "C" fn fumarehi_table(
     match built {
         Built::Refused(r) => {
             *told = [place_of(r), 0, 0];
-            profile::number(r)
+            refusals::number(r)
         }
         Built::Filled { prefixes, looks } => {
             *told = [0, prefixes as u64, looks];
@@ -110,7 +111,7 @@ pub extern "C" fn fumarehi_same(
 ) -> u32
     ensures { λ r. ⌜ (let c = comparison k (now (masks .entry)) (now (first .entry)) (now (second .entry)) in (r ≡ compared-code c) × (now (told .exit) ≡ compared-told c)) ⌝ }
 {
-    let compared = order::same(k, masks, first, second);
+    let compared = comparison::same(k, masks, first, second);
     match compared {
         Compared::Equal => {
             *told = [0, 0, 1];
@@ -122,7 +123,7 @@ pub extern "C" fn fumarehi_same(
         }
         Compared::Refused(r, log) => {
             *told = [place_of(r), log as u64, 0];
-            profile::number(r)
+            refusals::number(r)
         }
     }
 }
@@ -147,7 +148,7 @@ pub extern "C" fn fumarehi_first_order(
         }
         Ordered::Refused(r) => {
             *told = [place_of(r)];
-            profile::number(r)
+            refusals::number(r)
         }
     }
 }
@@ -169,7 +170,7 @@ pub extern "C" fn fumarehi_read_file(
     match reading {
         Reading::Refused(r) => {
             *told = [place_of(r), 0, 0, 0, 0, 0];
-            profile::number(r)
+            refusals::number(r)
         }
         Reading::Told(shape, n) => {
             let k = shape.k as u64;
@@ -191,7 +192,7 @@ pub extern "C" fn fumarehi_log_part(file: &[u8], told: &mut [u64; 3]) -> u32
     match located {
         Located::Refused(why) => {
             *told = [place_of(why), 0, 0];
-            profile::number(why)
+            refusals::number(why)
         }
         Located::At(offset, n) => {
             *told = [0, offset as u64, n as u64];
@@ -227,7 +228,7 @@ pub extern "C" fn fumarehi_write_file(
     match writing {
         Writing::Refused(r) => {
             *told = [place_of(r), 0];
-            profile::number(r)
+            refusals::number(r)
         }
         Writing::Length(n) => {
             *told = [0, n as u64];

@@ -72,7 +72,7 @@ fn mask_refused(k: usize, masks: &[u16]) -> bool
         if set_from(mask as u32, k) {
             return true;
         }
-        if profile::independent(masks, i, i) {
+        if commutation::independent(masks, i, i) {
             return true;
         }
         i += 1;
@@ -84,8 +84,8 @@ fn mask_refused(k: usize, masks: &[u16]) -> bool
 fn one_way(masks: &[u16], i: usize, j: usize) -> bool
     ensures { λ r. ⌜ r ≡ (independent-by (now (masks .entry)) i j && not (independent-by (now (masks .entry)) j i)) ⌝ }
 {
-    if profile::independent(masks, i, j) {
-        return !profile::independent(masks, j, i);
+    if commutation::independent(masks, i, j) {
+        return !commutation::independent(masks, j, i);
     }
     false
 }

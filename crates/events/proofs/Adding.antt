@@ -6,14 +6,13 @@ use mathlib.Core.Logic.{_⊎_, inl, inr, ⊎-elim, _≢_}
 use mathlib.Core.List.{List, [], _∷_, List·Memᴰ·head, List·Memᴰ·tail}
 use Prim.Native.Nat.{ℕ, zero, suc, _+_, _≤_, _<_}
 use native.Mathlib.Omega.{arith}
-use native.Mathlib.Numerals.{add-one}
 use lib.Dec.{T, T-not, not-T, eqb, eqb→eq, eqb-refl, ltb, ltb→lt, lt→ltb}
 use lib.ListN.{length, getD, set, length-set}
 use lib.Seq.{ext-getD, getD-set-other, getD-set-same}
 use Rattle.profile.specs.Lists.{Mem, all, below}
 use Rattle.profile.specs.Prefixes.{IsPrefix, at, count, less, one, unmarked}
 use Rattle.profile.specs.Traces.{letters-below}
-use Rattle.profile.proofs.Lists.{all-append, all-at, all-of, below-at, below-of, below-suc, both, either, fst-of, is-false, is-true, mem-getD, or-left, or-right, snd-of, test}
+use Rattle.profile.proofs.Lists.{all-at, all-of, below-at, below-of, both, either, fst-of, is-false, is-true, mem-getD, or-left, or-right, snd-of, test}
 use Rattle.theory.proofs.Prefixes.{addable-at, addable-of, addable?, more, more-of-pick, one-cases, one-other, one-same}
 use Rattle.theory.proofs.Scan.{scan-at, scan-of, scan?}
 use Rattle.profile.proofs.Traces.{Pick}
@@ -30,9 +29,6 @@ same-test false q f g = sym (is-false q (not-T q g))
 all-agree : (p q : ℕ → Bool) (l : List ℕ) → ((a : ℕ) → Mem a l → p a ≡ q a) → all p l ≡ all q l
 all-agree p q [] f = refl
 all-agree p q (a ∷ l) f = ap₂ _&&_ (f a (List·Memᴰ·head refl)) (all-agree p q l (λ b m. f b (List·Memᴰ·tail m)))
-
-pub all-more : (p : ℕ → Bool) (k : ℕ) → T (all p (below k)) → T (p k) → T (all p (below (k + 1)))
-all-more p k h t = subst (λ l. T (all p l)) (sym (ap below (add-one k) ∙ below-suc k)) (all-append p (below k) (k ∷ []) h (both (p k) true t tt))
 
 -- ---- one scan of the log says the same
 

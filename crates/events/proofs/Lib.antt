@@ -1,3 +1,4 @@
 -- Laws about the places of events; other crates cite them.
 pub mod Places
 pub mod Adding
+pub mod Keepers

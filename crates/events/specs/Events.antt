@@ -1,10 +1,11 @@
 -- Where the events of each letter stand in a log, where events are letters; and by these places the test whether a letter can be added to a prefix.
-use mathlib.Core.Bool.{Bool, true, false, _&&_, _||_}
+use mathlib.Core.Bool.{Bool, true, false, not, _&&_, _||_}
 use mathlib.Core.List.{List, [], _∷_, map}
-use Prim.Native.Nat.{ℕ, suc}
+use Prim.Native.Nat.{ℕ, suc, _^_}
 use lib.Dec.{eqb, ltb}
 use lib.ListN.{length, getD}
-use Rattle.profile.specs.Lists.{all, below, flat-map}
+use Rattle.profile.specs.Automata.{union}
+use Rattle.profile.specs.Lists.{all, below, filter, flat-map}
 use Rattle.profile.specs.Prefixes.{at}
 
 -- the places of letter x in w, counted from i, and after them the place behind the last event
@@ -33,3 +34,14 @@ lets-by? may next x y = eqb y x || (may y x || ltb (next x) (next y))
 -- letter x of a log of n events can come next: it has an event left, and no letter keeps it from coming next
 abbrev pub comes-next? : (ℕ → ℕ → Bool) → ℕ → ℕ → List ℕ → ℕ → Bool
 comes-next? may k n next x = ltb (at next x) n && all (lets-by? may (at next) x) (below k)
+
+-- letter y keeps letter x from coming next while its next event is earlier: it is another letter, and x may not pass it
+abbrev pub keeps? : (ℕ → ℕ → Bool) → ℕ → ℕ → Bool
+keeps? may x y = not (eqb y x || may y x)
+
+-- the set of the letters below k that keep letter x; that of each letter
+abbrev pub keepers : (ℕ → ℕ → Bool) → ℕ → ℕ → ℕ
+keepers may k x = union (λ y. 2 ^ y) (filter (keeps? may x) (below k))
+
+unfoldable pub all-keepers : (ℕ → ℕ → Bool) → ℕ → List ℕ
+all-keepers may k = map (keepers may k) (below 16)

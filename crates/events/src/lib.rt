@@ -1,14 +1,12 @@
 // The places of each letter's events in a log; by them, with no scan of the log, whether a letter can be added to a prefix.
 ghost use mathlib.Core.Path.{_≡_};
-ghost use mathlib.Core.Bool.{_||_};
 ghost use mathlib.Core.List.{_++_, map};
-ghost use Prim.Native.Nat.{_+_, _≤_};
-ghost use lib.Dec.{eqb, ltb};
+ghost use Prim.Native.Nat.{_+_, _≤_, _<_};
 ghost use lib.ListN.{length, getD, drop};
 ghost use lib.Seq.{sets};
 ghost use Rattle.profile.specs.Lists.{below};
 ghost use Rattle.profile.specs.Traces.{independent as independent-by};
-ghost use Rattle.events.specs.Events.{comes-next?, place-start, place-table, places-of};
+ghost use Rattle.events.specs.Events.{all-keepers, comes-next?, keepers, keeps?, place-start, place-table, places-of};
 
 // Puts the places of letter x, and the log's length behind them, from `at` on; tells where the next letter's begin.
 fn put_places(log: &[u8], x: usize, places: &mut [u8], at: usize) -> usize
@@ -63,34 +61,72 @@ pub fn next_place(starts: &[u16], places: &[u8], x: usize, n: u16) -> u8
     place_at(places, start + n as usize)
 }
 
-// Letter y does not keep x, whose next event is at `own`, from coming next: it is x, or x may pass it, or its next event is later.
-fn lets_by(masks: &[u16], next: &[u8], own: u8, x: usize, y: usize) -> bool
-    ensures { λ r. ⌜ r ≡ (eqb y x || (independent-by (now (masks .entry)) y x || ltb own (getD (now (next .entry)) y 0))) ⌝ }
+// Letter y keeps x from coming next while its next event is earlier: it is another letter, and x may not pass it.
+fn keeps(masks: &[u16], x: usize, y: usize) -> bool
+    ensures { λ r. ⌜ r ≡ keeps? (independent-by (now (masks .entry))) x y ⌝ }
 {
     if y == x {
-        return true;
+        return false;
     }
-    if profile::independent(masks, y, x) {
-        return true;
-    }
-    let other = place_at(next, y);
-    own < other
+    !commutation::independent(masks, y, x)
 }
 
-// Letter x can come next: it has an event left, and each letter that it may not pass has its next event later.
-pub fn comes_next(masks: &[u16], k: usize, n: usize, next: &[u8], x: usize) -> bool
+// The set of the letters below k that keep x.
+fn keepers_of(masks: &[u16], k: usize, x: usize) -> u32
+    requires { ⌜ k ≤ 16 ⌝ }
+    ensures { λ r. ⌜ r ≡ keepers (independent-by (now (masks .entry))) k x ⌝ }
+{
+    let mut set = 0u32;
+    let mut y = 0;
+    while y < k {
+        if keeps(masks, x, y) {
+            set = set | (1u32 << y);
+        }
+        y += 1;
+    }
+    set
+}
+
+// The set of the letters below k that keep each letter.
+pub fn all_keepers(masks: &[u16], k: usize) -> [u32; 16]
+    requires { ⌜ k ≤ 16 ⌝ }
+    ensures { λ r. ⌜ r ≡ all-keepers (independent-by (now (masks .entry))) k ⌝ }
+{
+    let mut sets = [0u32; 16];
+    let mut x = 0;
+    while x < 16 {
+        let set = keepers_of(masks, k, x);
+        sets[x] = set;
+        x += 1;
+    }
+    sets
+}
+
+// Letter x can come next: it has an event left, and each letter that keeps it has its next event later. Each turn takes the lowest of those
+// letters out of the set that is left.
+pub fn comes_next(
+    masks: &[u16],
+    keepers: &[u32; 16],
+    k: usize,
+    n: usize,
+    next: &[u8],
+    x: usize,
+) -> bool
+    requires { ⌜ (k ≤ 16) × (x < k) ⌝ }
+    requires { ⌜ now keepers ≡ all-keepers (independent-by (now masks)) k ⌝ }
     ensures { λ r. ⌜ r ≡ comes-next? (independent-by (now (masks .entry))) k n (now (next .entry)) x ⌝ }
 {
     let own = place_at(next, x);
     if n <= own as usize {
         return false;
     }
-    let mut y = 0;
-    while y < k {
-        if !lets_by(masks, next, own, x, y) {
+    let mut rest = keepers[x];
+    while rest != 0 {
+        let y = u32::trailing_zeros(rest) as usize;
+        if place_at(next, y) <= own {
             return false;
         }
-        y += 1;
+        rest = rest & (rest - 1);
     }
     true
 }

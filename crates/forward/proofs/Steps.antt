@@ -18,8 +18,8 @@ use Rattle.profile.proofs.Lists.{lt-or-le, mem-getD}
 use Rattle.theory.proofs.Merge.{Cursor, Grown, cursor-end, cursor-next, cursor-start, extends?, forward-merge, hits, least-of-all, level-grown, some-hits}
 use Rattle.theory.proofs.Prefixes.{addable?}
 use Rattle.theory.proofs.Profiles.{lawful}
+use Rattle.theory.proofs.SetLoops.{passing-bit}
 use Rattle.counts.proofs.Packed.{Small}
-use Rattle.letters.proofs.Additions.{letters-bit}
 use Rattle.merge.specs.Merge.{advanced, givers, least-of, started, united}
 use Rattle.merge.proofs.Levels.{level-advanced, level-least, level-least-none, level-letters, level-started, level-united}
 use Rattle.forward.specs.Forward.{Ready}
@@ -43,7 +43,7 @@ module _ {p : Profile} {w : List ℕ} {m room : ℕ} {starts places : List ℕ} 
 
   -- the last number of a record says which letters can be added
   bits : (c : List ℕ) (x : ℕ) → Mem c C → x < p .k → bit (letters-set p w c) x ≡ add x c
-  bits c x i lt = letters-bit (addable? (independent (p .masks)) (λ a. a) w (at c)) (p .k) x lt
+  bits c x i lt = passing-bit (addable? (independent (p .masks)) (λ a. a) w (at c)) (p .k) x lt
 
   sizes : (c : List ℕ) → Mem c C → length c ≡ p .k
   sizes c i = counted r n c i .0
@@ -85,7 +85,7 @@ module _ {p : Profile} {w : List ℕ} {m room : ℕ} {starts places : List ℕ} 
           ap (λ S. bit S x) (level-letters (forward-set p w) (letters-set p w) C t written (p .k) (r .profile .relation .most) sizes cursors stands e
           (counted r (suc n) e in-next .0) (counted r (suc n) e in-next .1)
           (λ x h. least-of-all grown (take j E) e (drop (suc j) E) (split-at E j [] lt) x (at cursors x) (cursor-at x h)) (hit .0) (hit .1) (hit .2))
-          ∙ letters-bit (λ y. hits C y e (at cursors y)) (p .k) x h
+          ∙ passing-bit (λ y. hits C y e (at cursors y)) (p .k) x h
 
       -- their forward set
       pub next-forward : united (p .k) (p .s) (p .moves) t cursors (givers t (p .k) cursors) ≡ forward-set p w e

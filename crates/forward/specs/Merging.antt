@@ -12,7 +12,9 @@ use Rattle.profile.specs.Traces.{independent}
 use Rattle.theory.proofs.Looks.{pairs-in}
 use Rattle.theory.proofs.Merge.{Cursor, extends?}
 use Rattle.counts.specs.Counts.{words}
+use Rattle.events.specs.Events.{all-keepers}
 use Rattle.merge.specs.Merge.{advanced, givers, least-of, united}
+use Rattle.steps.specs.Rows.{by-letter}
 use Rattle.forward.specs.declared.Merged.{Merged}
 use Rattle.forward.specs.declared.Merged.the-variants as merged
 use Rattle.forward.specs.declared.Next.{Next}
@@ -35,6 +37,10 @@ module _ (p : Profile) (w : List ℕ) where
   abbrev pub begun : List (List ℕ) → List ℕ → List ℕ
   begun C t = drafted p w C ++ drop (record-length layout * length C) t
 
+-- what is computed once for all records: the moves by letter, and the letters that keep each letter from coming next
+abbrev pub Prepared : Profile → List ℕ → List ℕ → Type 0
+Prepared p rows keepers = (rows ≡ by-letter (p .k) (p .s) (p .moves)) × (keepers ≡ all-keepers (independent (p .masks)) (p .k))
+
 -- the records of the table from record a on and before record b
 abbrev pub records-between : List ℕ → ℕ → ℕ → List ℕ
 records-between t a b = take (record-length layout * b - record-length layout * a) (drop (record-length layout * a) t)
@@ -48,6 +54,10 @@ pub record Begun (p : Profile) (w table : List ℕ) (room t from first : ℕ) : 
 
 abbrev pub Standing : Profile → List ℕ → List ℕ → Part → List ℕ → List ℕ → Type 0
 Standing p w table a starts places = Ready p w (length table) (a .room) starts places × Begun p w table (a .room) (a .t) (a .from) (a .first)
+
+-- where total t + 1 stands, if it has n records
+abbrev pub part-behind : Part → ℕ → Part
+part-behind a n = record { shape = a .shape; room = a .room; t = a .t + 1; from = a .first; first = a .first + n }
 
 -- total t + 1 is put behind them, or does not fit
 abbrev pub Grows : Profile → List ℕ → ℕ → ℕ → ℕ → List ℕ → List ℕ → Total → Type 0

@@ -1,16 +1,18 @@
 // The forward pass: the records of all prefixes, one total after the other; document 01, "Prefixes and their table".
 ghost use mathlib.Core.Path.{_≡_};
 ghost use mathlib.Core.List.{[], _∷_, _++_};
-ghost use Prim.Native.Nat.{suc, _+_, _*_, _≤_};
+ghost use Prim.Native.Nat.{suc, _+_, _*_, _≤_, _<_};
 ghost use lib.ListN.{length, replicate};
 ghost use Rattle.profile.specs.Automata.{profile-of};
 ghost use Rattle.profile.specs.Tables.{layout, record-length};
+ghost use Rattle.profile.specs.Traces.{independent};
 ghost use Rattle.counts.specs.Counts.{words};
+ghost use Rattle.events.specs.Events.{all-keepers};
 ghost use Rattle.merge.specs.Merge.{started};
 ghost use Rattle.records.specs.Records.{put-record};
 ghost use Rattle.steps.specs.Rows.{by-letter};
 ghost use Rattle.forward.specs.Forward.{Forward, Ready};
-ghost use Rattle.forward.specs.Merging.{Comes, Grows, Halfway, Standing, Steps, begun, pairs, records-between, totals};
+ghost use Rattle.forward.specs.Merging.{Comes, Grows, Halfway, Prepared, Standing, Steps, begun, pairs, part-behind, records-between, totals};
 use counts::Counts;
 use merge::Least;
 use profile::Shape;
@@ -24,8 +26,10 @@ pub enum Filled {
     Done { records: usize, looks: u64 },
 }
 
-// Where total t stands in a table that `room` records fit: from record `from` to before record `first`, at which the next total begins.
+// Where total t of a profile of this shape stands in a table that `room` records fit: from record `from` to before record `first`, at which the
+// next total begins.
 struct Part {
+    shape: Shape,
     room: usize,
     t: usize,
     from: usize,
@@ -54,22 +58,23 @@ enum Next {
 // Puts the record of the empty prefix; the number of letters that can be added to it.
 fn put_first(
     table: &mut [u32],
-    room: usize,
     shape: Shape,
     masks: &[u16],
+    keepers: &[u32; 16],
     moves: &[u32],
     log: &[u8],
     starts: &[u16],
     places: &[u8],
 ) -> u32
-    requires { ⌜ Ready (profile-of shape (now masks) (now moves)) (now log) (length (now table)) room (now starts) (now places) × (1 ≤ room) ⌝ }
+    requires { ⌜ now keepers ≡ all-keepers (independent (now masks)) (shape .k) ⌝ }
+    requires { ⌜ Ready (profile-of shape (now masks) (now moves)) (now log) (length (now table)) 1 (now starts) (now places) ⌝ }
     ensures { λ r. ⌜ (r ≡ pairs (profile-of shape (now (masks .entry)) (now (moves .entry))) (now (log .entry)) (totals (profile-of shape (now (masks .entry)) (now (moves .entry))) (now (log .entry)) 1))
         × (now (table .exit) ≡ begun (profile-of shape (now (masks .entry)) (now (moves .entry))) (now (log .entry)) (totals (profile-of shape (now (masks .entry)) (now (moves .entry))) (now (log .entry)) 1) (now (table .entry))) ⌝ }
 {
     let k = shape.k;
     let start = shape.start;
     let c = counts::none_counted();
-    let letters = letters::addable(c, k, masks, log.len(), starts, places);
+    let letters = letters::addable(c, k, masks, keepers, log.len(), starts, places);
     records::put(table, 0, c, 1u32 << start, letters.set);
     letters.number
 }
@@ -112,21 +117,21 @@ fn merge_next(
     table: &mut [u32],
     part: Part,
     j: usize,
-    shape: Shape,
     masks: &[u16],
     moves: &[u32],
     rows: &[u32; 512],
+    keepers: &[u32; 16],
     log: &[u8],
     starts: &[u16],
     places: &[u8],
     cursors: &mut [usize],
 ) -> Merged
-    requires { ⌜ Halfway (profile-of shape (now masks) (now moves)) (now log) (now table) part j (now cursors) (now starts) (now places) ⌝ }
-    requires { ⌜ now rows ≡ by-letter (shape .k) (shape .s) (now moves) ⌝ }
-    ensures { λ r. ⌜ Steps (profile-of shape (now (masks .entry)) (now (moves .entry))) (now (log .entry)) (part .room) (part .t) (part .first) j (now (table .entry)) (now (table .exit)) (now (cursors .exit)) r ⌝ }
+    requires { ⌜ Halfway (profile-of (part .shape) (now masks) (now moves)) (now log) (now table) part j (now cursors) (now starts) (now places) ⌝ }
+    requires { ⌜ Prepared (profile-of (part .shape) (now masks) (now moves)) (now rows) (now keepers) ⌝ }
+    ensures { λ r. ⌜ Steps (profile-of (part .shape) (now (masks .entry)) (now (moves .entry))) (now (log .entry)) (part .room) (part .t) (part .first) j (now (table .entry)) (now (table .exit)) (now (cursors .exit)) r ⌝ }
 {
-    let k = shape.k;
-    let s = shape.s;
+    let k = part.shape.k;
+    let s = part.shape.s;
     let room = part.room;
     let first = part.first;
     let start = RECORD * part.from;
@@ -136,7 +141,7 @@ fn merge_next(
         Next::Nothing => Merged::Nothing,
         Next::At(c, forward) => {
             if first + j < room {
-                let letters = letters::addable(c, k, masks, log.len(), starts, places);
+                let letters = letters::addable(c, k, masks, keepers, log.len(), starts, places);
                 put_in(table, first, j, c, forward, letters.set);
                 Merged::Put(letters.number)
             } else {
@@ -162,18 +167,18 @@ fn first_cursors(table: &[u32], part: Part, k: usize) -> [usize; 16]
 fn fill_total(
     table: &mut [u32],
     part: Part,
-    shape: Shape,
     masks: &[u16],
     moves: &[u32],
     rows: &[u32; 512],
+    keepers: &[u32; 16],
     log: &[u8],
     starts: &[u16],
     places: &[u8],
 ) -> Total
-    requires { ⌜ Standing (profile-of shape (now masks) (now moves)) (now log) (now table) part (now starts) (now places) × (now rows ≡ by-letter (shape .k) (shape .s) (now moves)) ⌝ }
-    ensures { λ r. ⌜ Grows (profile-of shape (now (masks .entry)) (now (moves .entry))) (now (log .entry)) (part .room) (part .t) (part .first) (now (table .entry)) (now (table .exit)) r ⌝ }
+    requires { ⌜ Standing (profile-of (part .shape) (now masks) (now moves)) (now log) (now table) part (now starts) (now places) × Prepared (profile-of (part .shape) (now masks) (now moves)) (now rows) (now keepers) ⌝ }
+    ensures { λ r. ⌜ Grows (profile-of (part .shape) (now (masks .entry)) (now (moves .entry))) (now (log .entry)) (part .room) (part .t) (part .first) (now (table .entry)) (now (table .exit)) r ⌝ }
 {
-    let mut cursors = first_cursors(table, part, shape.k);
+    let mut cursors = first_cursors(table, part, part.shape.k);
     let mut pairs = 0u64;
     let mut j = 0;
     loop {
@@ -181,10 +186,10 @@ fn fill_total(
             table,
             part,
             j,
-            shape,
             masks,
             moves,
             rows,
+            keepers,
             log,
             starts,
             places,
@@ -199,37 +204,46 @@ fn fill_total(
     }
 }
 
+// Where the total behind the part stands, which has so many records.
+fn next_part(part: Part, records: usize) -> Part
+    requires { ⌜ (part .t < 255) × (part .first + records ≤ part .room) ⌝ }
+    ensures { λ r. ⌜ r ≡ part-behind part records ⌝ }
+{
+    let shape = part.shape;
+    Part {
+        shape: shape,
+        room: part.room,
+        t: part.t + 1,
+        from: part.first,
+        first: part.first + records,
+    }
+}
+
 // Puts the records of the totals behind the part, where those up to it have `number` pairs of a record and a letter that can be added.
 fn fill_totals(
     table: &mut [u32],
     part: Part,
     number: u32,
-    shape: Shape,
     masks: &[u16],
     moves: &[u32],
     rows: &[u32; 512],
+    keepers: &[u32; 16],
     log: &[u8],
     starts: &[u16],
     places: &[u8],
 ) -> Filled
-    requires { ⌜ Standing (profile-of shape (now masks) (now moves)) (now log) (now table) part (now starts) (now places) ⌝ }
-    requires { ⌜ ((part .t ≤ length (now log)) × (number ≡ pairs (profile-of shape (now masks) (now moves)) (now log) (totals (profile-of shape (now masks) (now moves)) (now log) (suc (part .t))))) × (now rows ≡ by-letter (shape .k) (shape .s) (now moves)) ⌝ }
-    ensures { λ r. ⌜ Forward (profile-of shape (now (masks .entry)) (now (moves .entry))) (now (log .entry)) (part .room) (now (table .entry)) (now (table .exit)) r ⌝ }
+    requires { ⌜ Standing (profile-of (part .shape) (now masks) (now moves)) (now log) (now table) part (now starts) (now places) ⌝ }
+    requires { ⌜ ((part .t ≤ length (now log)) × (number ≡ pairs (profile-of (part .shape) (now masks) (now moves)) (now log) (totals (profile-of (part .shape) (now masks) (now moves)) (now log) (suc (part .t))))) × Prepared (profile-of (part .shape) (now masks) (now moves)) (now rows) (now keepers) ⌝ }
+    ensures { λ r. ⌜ Forward (profile-of (part .shape) (now (masks .entry)) (now (moves .entry))) (now (log .entry)) (part .room) (now (table .entry)) (now (table .exit)) r ⌝ }
 {
     let mut at = part;
     let mut looks = number as u64;
     while at.t < log.len() {
-        let total = fill_total(table, at, shape, masks, moves, rows, log, starts, places);
+        let total = fill_total(table, at, masks, moves, rows, keepers, log, starts, places);
         match total {
             Total::Full => return Filled::Full,
             Total::Put(records, pairs) => {
-                let next = Part {
-                    room: at.room,
-                    t: at.t + 1,
-                    from: at.first,
-                    first: at.first + records,
-                };
-                at = next;
+                at = next_part(at, records);
                 looks += pairs;
             }
         }
@@ -257,9 +271,11 @@ pub fn fill_forward(
     if room == 0 {
         return Filled::Full;
     }
-    let number = put_first(table, room, shape, masks, moves, log, starts, places);
+    let keepers = events::all_keepers(masks, shape.k);
+    let number = put_first(table, shape, masks, &keepers, moves, log, starts, places);
     let rows = steps::by_letter(moves, shape.k, shape.s);
     let part = Part {
+        shape: shape,
         room: room,
         t: 0,
         from: 0,
@@ -269,10 +285,10 @@ pub fn fill_forward(
         table,
         part,
         number,
-        shape,
         masks,
         moves,
         &rows,
+        &keepers,
         log,
         starts,
         places,

@@ -1,28 +1,25 @@
 -- The letters that can be added: for the counts of a prefix and the places of the log's events, those of which one more gives a prefix again.
-use mathlib.Core.Path.{_≡_, refl, sym, _∙_, ap, ap₂, subst}
+use mathlib.Core.Path.{_≡_, sym, _∙_, ap, ap₂, subst}
 use mathlib.Core.Bool.{Bool, not, _||_}
 use mathlib.Core.Logic.{_≢_}
-use mathlib.Core.List.{List, [], _∷_, _++_, map, List·Memᴰ·head, List·Memᴰ·tail}
+use mathlib.Core.List.{List, [], _∷_, _++_, map}
 use Prim.Native.Nat.{ℕ, _+_, _^_, _≤_, _<_}
 use native.Mathlib.Nat.{zero-add}
 use native.Mathlib.Omega.{arith}
 use native.Mathlib.Numerals.{add-one}
-use lib.Bits.{or-lt}
 use lib.Dec.{T, eqb, ltb, lt→ltb}
-use lib.ListN.{length, getD, set, List·getD-append}
-use lib.Pow.{pow-pos, pow-lt}
+use lib.ListN.{length, getD, List·getD-append}
 use lib.Seq.{ext-getD}
-use Rattle.profile.specs.Automata.{union}
-use Rattle.profile.specs.Lists.{Mem, all, below, filter}
+use Rattle.profile.specs.Lists.{all, below, filter}
 use Rattle.profile.specs.Prefixes.{IsPrefix, at}
 use Rattle.profile.specs.Tables.{count-field, layout, packed}
-use Rattle.profile.specs.Traces.{bit, letters-below}
+use Rattle.profile.specs.Traces.{letters-below}
 use Rattle.theory.proofs.Counting.{at-map, length-range}
-use Rattle.profile.proofs.Lists.{all-at, all-of, below-at, below-of, below-suc, both, filter-agree, filter-at, filter-last-no, filter-last-yes, filter-of, fst-of, mem-place, snd-of}
+use Rattle.profile.proofs.Lists.{all-at, all-of, below-at, below-suc, both, filter-agree, filter-last-no, filter-last-yes, fst-of, mem-place, snd-of}
 use Rattle.theory.proofs.Looks.{additions}
 use Rattle.theory.proofs.Packing.{field-packed}
 use Rattle.theory.proofs.Prefixes.{count-le}
-use Rattle.profile.proofs.Sets.{T-eq, bit-self, bit-single, union-at, union-of}
+use Rattle.profile.proofs.Sets.{T-eq}
 use Rattle.counts.proofs.Packed.{Small}
 use Rattle.events.specs.Events.{comes-next?, lets-by?, next-places, place-start, place-table, places-of}
 use Rattle.events.proofs.Adding.{at-next, comes-next-addable}
@@ -93,21 +90,3 @@ module _ (may : ℕ → ℕ → Bool) (k : ℕ) (w v s p : List ℕ) (short : le
       → letters-by may k (length w) (map (place-start w) (below k) ++ s) (place-table k w ++ p) (packed layout v) ≡ additions may (λ a. a) k w v
   letters-placed distinct letters = ap (λ l. filter (comes-next? may k (length w) l) (below k)) next-placed
       ∙ filter-agree _ _ (below k) (λ x m. comes-next-addable may distinct k w letters (at v) prefix x (below-at k x m))
-
--- ---- the set of the letters
-
--- letter x is in the set when it passes the test
-pub letters-bit : (p : ℕ → Bool) (k x : ℕ) → x < k → bit (union (λ x. 2 ^ x) (filter p (below k))) x ≡ p x
-letters-bit p k x lt = T-eq (bit (union (λ x. 2 ^ x) (filter p (below k))) x) (p x)
-    (λ t.
-    let n = union-at (λ x. 2 ^ x) (filter p (below k)) x t in
-    subst (λ y. T (p y)) (bit-single (n .0) x (n .2)) (filter-at p (below k) (n .1) .1))
-    (λ t. union-of (λ x. 2 ^ x) x (filter-of p (below-of k x lt) t) (bit-self x))
-
--- the set has no bit from k on
-pub letters-set-below : (p : ℕ → Bool) (k : ℕ) → union (λ x. 2 ^ x) (filter p (below k)) < 2 ^ k
-letters-set-below p k = go (filter p (below k)) (λ x m. below-at k x (filter-at p (below k) m .0))
-  where
-    go : (l : List ℕ) → ((x : ℕ) → Mem x l → x < k) → union (λ x. 2 ^ x) l < 2 ^ k
-    go [] h = pow-pos k
-    go (x ∷ l) h = or-lt k (2 ^ x) (union (λ x. 2 ^ x) l) (pow-lt (h x (List·Memᴰ·head refl))) (go l (λ y m. h y (List·Memᴰ·tail m)))

@@ -7,6 +7,7 @@ ghost use lib.ListN.{length, drop};
 ghost use Rattle.profile.specs.Automata.{union};
 ghost use Rattle.profile.specs.Traces.{independent};
 ghost use Rattle.counts.specs.Counts.{words};
+ghost use Rattle.events.specs.Events.{all-keepers};
 ghost use Rattle.letters.specs.Letters.{next-by, letters-by};
 
 // The set of the letters that can be added, and how many they are.
@@ -28,16 +29,18 @@ fn next_places(c: Counts, k: usize, starts: &[u16], places: &[u8], next: &mut [u
     }
 }
 
-// The letters below k that can be added to the counts c of a log of n events.
+// The letters below k that can be added to the counts c of a log of n events; `keepers` are the sets of the letters that keep each letter.
 pub fn addable(
     c: Counts,
     k: usize,
     masks: &[u16],
+    keepers: &[u32; 16],
     n: usize,
     starts: &[u16],
     places: &[u8],
 ) -> Letters
     requires { ⌜ k ≤ 16 ⌝ }
+    requires { ⌜ now keepers ≡ all-keepers (independent (now masks)) k ⌝ }
     ensures { λ r. ⌜ (r .set ≡ union (λ x. 2 ^ x) (letters-by (independent (now (masks .entry))) k n (now (starts .entry)) (now (places .entry)) (words c)))
         × (r .number ≡ length (letters-by (independent (now (masks .entry))) k n (now (starts .entry)) (now (places .entry)) (words c))) ⌝ }
 {
@@ -47,7 +50,7 @@ pub fn addable(
     let mut number = 0u32;
     let mut x = 0;
     while x < k {
-        if events::comes_next(masks, k, n, &next, x) {
+        if events::comes_next(masks, keepers, k, n, &next, x) {
             set = set | (1u32 << x);
             number += 1;
         }

@@ -30,7 +30,7 @@ use Rattle.records.proofs.Drafts.{counts-of-draft, forward-of-draft, last-of-dr
 use Rattle.merge.specs.Merge.{advanced, better, candidate, givers, grown, joined, least-of, moved-on, seek-from, started, united}
 use Rattle.merge.proofs.Cursors.{better-none}
 use Rattle.theory.proofs.Fronts.{front-at}
-use Rattle.steps.proofs.Unions.{union-next}
+use Rattle.theory.proofs.SetLoops.{union-next}
 use Rattle.profile.proofs.Sets.{union-agree}
 use Rattle.records.specs.Drafts.{draft}
 

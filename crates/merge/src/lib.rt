@@ -3,12 +3,11 @@ ghost use mathlib.Core.Path.{_≡_};
 ghost use mathlib.Core.Option.{some};
 ghost use Prim.Native.Nat.{_≤_, _<_};
 ghost use lib.ListN.{length};
-ghost use lib.Dec.{T};
 ghost use Rattle.profile.specs.Traces.{bit};
 ghost use Rattle.counts.specs.Counts.{words};
 ghost use Rattle.records.specs.Records.{records-in};
 ghost use Rattle.steps.specs.Rows.{by-letter};
-ghost use Rattle.merge.specs.Merge.{Given, advanced, better, candidate, givers, joined, least-letters, least-of, least-words, moved-on, seek-from, started, united};
+ghost use Rattle.merge.specs.Merge.{Given, advanced, better, candidate, givers, joined, least-letters, least-of, least-words, seek-from, started, united};
 use counts::Counts;
 
 // Letter x is in the set.
@@ -102,7 +101,8 @@ pub fn least_counts(level: &[u32], k: usize, cursors: &[usize]) -> Least
     best
 }
 
-// The states to which the letters of a set lead from the forward sets of the records at their cursors; `rows` are the moves by letter.
+// The states to which the letters of a set lead from the forward sets of the records at their cursors; `rows` are the moves by letter. Each turn takes
+// the lowest letter out of those that are left.
 pub fn unite(
     level: &[u32],
     moves: &[u32],
@@ -119,39 +119,31 @@ pub fn unite(
     ensures { λ r. ⌜ r ≡ united k s (now (moves .entry)) (now (level .entry)) (now (cursors .entry)) set ⌝ }
 {
     let mut out = 0u32;
-    let mut x = 0;
-    while x < k {
-        if has_letter(set, x) {
+    let mut rest = set;
+    while rest != 0 {
+        let x = u32::trailing_zeros(rest) as usize;
+        if x < k {
             let j = cursors[x];
             out = out | steps::forward_by(rows, s, records::forward_at(level, j), x);
         }
-        x += 1;
+        rest = rest & (rest - 1);
     }
     out
 }
 
-// Where the cursor of letter x goes from record `from` once those of a set of letters move on.
-fn move_on(level: &[u32], from: usize, x: usize, set: u32) -> usize
-    requires { ⌜ (x < 32) × (T (bit set x) → from < records-in (now level)) ⌝ }
-    ensures { λ r. ⌜ r ≡ moved-on (now (level .entry)) from x set ⌝ }
-{
-    if has_letter(set, x) {
-        seek(level, from + 1, x)
-    } else {
-        from
-    }
-}
-
-// Moves the cursors of a set of letters on to the next record to which their letter can be added.
+// Moves the cursors of a set of letters on to the next record to which their letter can be added, from the lowest letter on.
 pub fn advance(level: &[u32], k: usize, cursors: &mut [usize], set: u32)
     requires { ⌜ (k ≤ 16) × (k ≤ length (now cursors)) ⌝ }
     requires { ⌜ Given k (now level) (now cursors) set ⌝ }
     ensures { λ _. ⌜ now (cursors .exit) ≡ advanced k (now (level .entry)) (now (cursors .entry)) set ⌝ }
 {
-    let mut x = 0;
-    while x < k {
-        let next = move_on(level, cursors[x], x, set);
-        cursors[x] = next;
-        x += 1;
+    let mut left = set;
+    while left != 0 {
+        let x = u32::trailing_zeros(left) as usize;
+        if x < k {
+            let next = seek(level, cursors[x] + 1, x);
+            cursors[x] = next;
+        }
+        left = left & (left - 1);
     }
 }

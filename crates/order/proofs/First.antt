@@ -25,7 +25,7 @@ use Rattle.events.specs.Events.{comes-next?, next-places, place-start, place-ta
 use Rattle.events.proofs.Adding.{comes-next-addable, next-places-more}
 use Rattle.events.proofs.Places.{place-found}
 use Rattle.order.specs.Order.{first-letters, letters-or-none}
-use Rattle.order.proofs.Projections.{first-least, first-passes}
+use Rattle.theory.proofs.FirstPlaces.{first-least, first-passes}
 
 -- ---- the numbers below k as a list
 

@@ -17,9 +17,11 @@ use Rattle.profile.proofs.Lists.{is-true}
 use Rattle.theory.proofs.Refusals.{log-at, relation-at}
 use Rattle.theory.proofs.Sameness.{same-test}
 use Rattle.profile.proofs.Traces.{order-of-mem, takes-length}
-use Rattle.order.specs.declared.Compared.the-variants.{Equal}
-use Rattle.order.specs.Order.{comparison, first-letters, letters-or-none, ordered-buffer}
-use Rattle.order.proofs.Answers.{answers, compared-same, ordered-none}
+use Rattle.comparison.specs.declared.Compared.the-variants.{Equal}
+use Rattle.comparison.specs.Comparison.{comparison}
+use Rattle.comparison.proofs.Answers.{compared-same}
+use Rattle.order.specs.Order.{first-letters, letters-or-none, ordered-buffer}
+use Rattle.order.proofs.Answers.{answers, ordered-none}
 
 -- the first order is that of its letters, as many as the log has
 first-letters-of : (masks w : List ℕ) → first-order (independent masks) w ≡ some (first-letters masks w)

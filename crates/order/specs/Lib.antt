@@ -1,2 +1,2 @@
--- The answers of a comparison and of a first order.
+-- The answers of a first order.
 pub mod Order

@@ -1,50 +1,27 @@
--- Document 01, "Comparison, first order": the answers, and the order buffer afterwards.
+-- Document 01, "first order": the answers, and the order buffer afterwards.
 use mathlib.Core.Path.{_≡_}
-use mathlib.Core.Bool.{Bool, true, false, _||_}
 use mathlib.Core.List.{List, [], _∷_, _++_, map}
 use mathlib.Core.Option.{Option, none, some}
 use Prim.Native.Nat.{ℕ, _≤_}
 use lib.ListN.{drop, getD, length}
 use Rattle.profile.specs.declared.Refusal.{Refusal}
-use Rattle.profile.specs.Lists.{below, equal?}
-use Rattle.profile.specs.Orders.{first-order, mutual?, project, same?}
-use Rattle.profile.specs.Refusals.{first-order-refusal, log-refusals, lowest, refusal-number, refusal-place, relation-refusals, same-refusal}
+use Rattle.profile.specs.Lists.{below}
+use Rattle.profile.specs.Orders.{first-order}
+use Rattle.profile.specs.Refusals.{first-order-refusal, log-refusals, lowest, refusal-number, refusal-place, relation-refusals}
 use Rattle.profile.specs.Traces.{independent}
 use Rattle.events.specs.Events.{place-start, place-table}
-use Rattle.order.specs.declared.Compared.{Compared}
-use Rattle.order.specs.declared.Compared.the-variants.{Different, Equal, Refused}
 use Rattle.order.specs.declared.Ordered.{Ordered}
-use Rattle.order.specs.declared.Ordered.the-variants.{Refused as RefusedOrder, Written}
-
--- the answer of a comparison: a refusal with the log that it is about, or whether the logs are the same
-abbrev pub compared-as : Option (Refusal × ℕ) → Bool → Compared
-compared-as none true = Equal
-compared-as none false = Different
-compared-as (some r) b = Refused (r .0) (r .1)
-
--- "Same"
-abbrev pub comparison : ℕ → List ℕ → List ℕ → List ℕ → Compared
-comparison k masks v w = compared-as (same-refusal k masks v w) (same? (independent masks) k v w)
-
--- document 01's values of an answer: 1 for yes and 0 for no; of a refusal its number, its place and the log's number
-abbrev pub compared-values : Compared → List ℕ
-compared-values Equal = 1 ∷ []
-compared-values Different = 0 ∷ []
-compared-values (Refused r n) = refusal-number r ∷ refusal-place r ∷ n ∷ []
-
--- letters x and y are exchanged both ways, or the logs agree where only x and y are kept
-abbrev pub pair-agrees? : List ℕ → List ℕ → List ℕ → ℕ → ℕ → Bool
-pair-agrees? masks v w x y = mutual? (independent masks) x y || equal? (project x y v) (project x y w)
+use Rattle.order.specs.declared.Ordered.the-variants.{Refused, Written}
 
 -- the answer of a first order: a refusal, or that it is written
 abbrev pub ordered-as : Option Refusal → Ordered
 ordered-as none = Written
-ordered-as (some r) = RefusedOrder r
+ordered-as (some r) = Refused r
 
 -- document 01's values of an answer: of a refusal its number and its place
 abbrev pub ordered-values : Ordered → List ℕ
 ordered-values Written = []
-ordered-values (RefusedOrder r) = refusal-number r ∷ refusal-place r ∷ []
+ordered-values (Refused r) = refusal-number r ∷ refusal-place r ∷ []
 
 -- "First order", where the order buffer has n places
 abbrev pub ordering : ℕ → List ℕ → List ℕ → ℕ → Ordered

@@ -84,7 +84,7 @@ fn put_refused(out: &mut [u8], refusal: Refusal) -> usize
     requires { ⌜ 64 ≤ length (now out) ⌝ }
     ensures { λ r. ⌜ Put (now (out .entry)) 0 (refusal-line refusal) (now (out .exit)) r ⌝ }
 {
-    let number = profile::number(refusal) as u64;
+    let number = refusals::number(refusal) as u64;
     put_line(out, 0, b"refused ", number)
 }
 

@@ -16,7 +16,7 @@ fn leads(row: &[u32], a: usize) -> u32
 }
 
 // The states to which letter a may lead from state q.
-pub fn leads_from(moves: &[u32], k: usize, q: usize, a: usize) -> u32
+fn leads_from(moves: &[u32], k: usize, q: usize, a: usize) -> u32
     requires { ⌜ (k ≤ 16) × (q < 32) ⌝ }
     ensures { λ r. ⌜ r ≡ row-at k (now (moves .entry)) q a ⌝ }
 {

@@ -29,7 +29,7 @@ fn show(shape: Shape, masks: &[u16], moves: &[u32], log: &[u8]) {
     let built = table::build(shape, masks, moves, log, &mut numbers);
     match built {
         Built::Refused(r) => {
-            let number = profile::number(r);
+            let number = refusals::number(r);
             io::write_all(STDOUT_FILENO, b"refused ");
             say(wide(number));
             if number == 10 {

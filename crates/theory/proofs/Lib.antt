@@ -4,8 +4,10 @@ pub mod Prefixes
 pub mod Scan
 pub mod Counting
 pub mod Levels
--- lists that a loop fills from their start
+-- the first place that passes; lists that a loop fills from their start; sets in loops
+pub mod FirstPlaces
 pub mod Fronts
+pub mod SetLoops
 -- automata and the earliest order
 pub mod Automata
 pub mod Profiles

@@ -1,6 +1,6 @@
 // The answers of the tested calls as numbers.
+use comparison::Compared;
 use filewriter::Writing;
-use order::Compared;
 use order::Ordered;
 use profile::Refusal;
 use table::Built;
@@ -31,8 +31,8 @@ fn told(verdict: usize, prefixes: usize, looks: u64) -> Answer {
 
 fn refused(r: Refusal, log: usize) -> Answer {
     Answer {
-        refusal: profile::number(r) as usize,
-        place: profile::place(r),
+        refusal: refusals::number(r) as usize,
+        place: refusals::place(r),
         log: log,
         verdict: NONE,
         prefixes: 0,

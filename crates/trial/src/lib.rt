@@ -4,5 +4,6 @@ pub mod calls;
 pub mod cells;
 pub mod logs;
 pub mod random;
+pub mod records;
 pub mod shapes;
 pub mod tally;

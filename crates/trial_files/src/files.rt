@@ -161,8 +161,8 @@ pub fn compare_written(
 fn of_reading(reading: Reading) -> Content {
     match reading {
         Reading::Refused(r) => Content {
-            refusal: profile::number(r) as usize,
-            place: profile::place(r),
+            refusal: refusals::number(r) as usize,
+            place: refusals::place(r),
             k: 0,
             s: 0,
             start: 0,

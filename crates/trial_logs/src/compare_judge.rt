@@ -1,6 +1,5 @@
 // The judge against the listing: the verdict, the earliest accepted listed log, P, looks, the records, and the bytes that stay.
 use crate::compare_table::compare_records;
-use crate::compare_table::record_at;
 use crate::listing::list;
 use crate::listing::row;
 use crate::paths::earliest_accepted;
@@ -18,6 +17,7 @@ use trial::cells::equal8;
 use trial::cells::part8;
 use trial::cells::untouched8;
 use trial::cells::untouched32;
+use trial::records::record_at;
 use trial::tally;
 
 // The order buffer is the guard but for the expected order, which stands at the lent part's start; no order is expected where `order` is none.

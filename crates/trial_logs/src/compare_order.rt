@@ -41,8 +41,8 @@ pub fn compare_pair(
     tally: &mut [u64],
 ) {
     let verdict = one_if_listed(rows, count, first, second);
-    let there = of_compared(order::same(k, masks, first, second));
-    let back = of_compared(order::same(k, masks, second, first));
+    let there = of_compared(comparison::same(k, masks, first, second));
+    let back = of_compared(comparison::same(k, masks, second, first));
     tally::expect(tally, tally::SAME, compared_right(there, verdict));
     tally::expect(tally, tally::SAME, compared_right(back, verdict));
     tally::count(tally, tally::PAIRS);

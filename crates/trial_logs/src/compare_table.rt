@@ -12,48 +12,16 @@ use trial::calls::NUMBERS;
 use trial::calls::build_in;
 use trial::calls::table_part;
 use trial::cells::GUARD32;
-use trial::cells::at;
 use trial::cells::at32;
 use trial::cells::minus;
 use trial::cells::part8;
 use trial::cells::plus;
-use trial::cells::put;
 use trial::cells::untouched32;
-use trial::cells::wide32;
+use trial::records::put_counts;
+use trial::records::record_at;
+use trial::records::sum_of;
+use trial::records::total_of;
 use trial::tally;
-
-// Where record r begins.
-pub fn record_at(r: usize) -> usize {
-    if r < 1000000 { 6 * r } else { 0 }
-}
-
-// "Letter i has bits 8 × (i mod 4) and up of number i div 4."
-pub fn count_of(table: &[u32], r: usize, letter: usize) -> usize {
-    let word = at32(table, plus(record_at(r), letter / 4));
-    let shift = 8 * (letter % 4);
-    wide32((word >> shift) & 255)
-}
-
-fn put_counts(table: &[u32], r: usize, counts: &mut [usize]) {
-    for x in 0..16 {
-        put(counts, x, count_of(table, r, x));
-    }
-}
-
-fn sum_of(counts: &[usize]) -> usize {
-    let mut sum = 0;
-    for x in 0..counts.len() {
-        sum = plus(sum, at(counts, x));
-    }
-    sum
-}
-
-// The total of record r.
-pub fn total_of(table: &[u32], r: usize) -> usize {
-    let mut counts = [0usize; 16];
-    put_counts(table, r, &mut counts);
-    sum_of(&counts)
-}
 
 fn same_counts(table: &[u32], r: usize, t: usize) -> bool {
     for i in 0..4 {

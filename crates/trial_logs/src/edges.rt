@@ -5,7 +5,6 @@ use crate::compare_table::compare_build;
 use crate::compare_table::compare_full;
 use crate::listing::list;
 use crate::listing::row;
-use crate::long_logs::long_logs;
 use crate::paths::earliest_accepted;
 use crate::prefixes::prefix_count;
 use crate::small::compare_log;
@@ -194,5 +193,4 @@ pub fn all_edges(tally: &mut [u64]) {
     case_of_four_letters(tally);
     case_of_three_letters(tally);
     table_lengths(tally);
-    long_logs(tally);
 }

@@ -5,7 +5,6 @@ mod compare_order;
 mod compare_table;
 mod edges;
 mod listing;
-mod long_logs;
 mod paths;
 mod prefixes;
 mod profiles;

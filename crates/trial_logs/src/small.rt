@@ -5,7 +5,6 @@ use crate::compare_order::compare_orders;
 use crate::compare_order::compare_pair;
 use crate::compare_table::compare_build;
 use crate::compare_table::compare_full;
-use crate::compare_table::record_at;
 use crate::listing::list;
 use crate::prefixes::prefix_count;
 use profile::Shape;
@@ -14,6 +13,7 @@ use trial::cells::part8;
 use trial::cells::plus;
 use trial::logs::log_count;
 use trial::logs::put_log_number;
+use trial::records::record_at;
 
 // Judge and build with enough room, and with a table or an order buffer that is too short.
 fn compare_tables(

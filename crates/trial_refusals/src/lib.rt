@@ -495,7 +495,7 @@ fn combine_same(damages: usize, variant: usize, tally: &mut [u64]) {
         plus(variant, 1),
         &mut second,
     );
-    let answer = of_compared(order::same(
+    let answer = of_compared(comparison::same(
         letters_of(damages, variant),
         part16(&masks, mask_count(damages, variant)),
         part8(&first, 0, n),

@@ -18,15 +18,15 @@ use Rattle.profile.specs.Tables.{layout}
 use Rattle.profile.specs.Traces.{bit}
 use Rattle.profile.proofs.Lists.{is-false, is-true, test}
 use Rattle.theory.proofs.Merge.{seek}
+use Rattle.theory.proofs.SetLoops.{lowest, rest-first, rest-in, rest-other, rest-without}
 use Rattle.profile.proofs.Sets.{not-in-none, or-assoc}
 use Rattle.counts.specs.Counts.{add-count, words}
 use Rattle.counts.specs.declared.Counts.{Counts}
 use Rattle.records.specs.Records.{counts-at, last-at, records-in}
 use Rattle.steps.specs.Rows.{backward-by}
 use Rattle.steps.proofs.Rows.{backward-same}
-use Rattle.steps.proofs.Unions.{lowest, union-in, union-none, union-out}
+use Rattle.steps.proofs.Unions.{union-in, union-none, union-out}
 use Rattle.backward.specs.Backward.{back-from, moved, next-at}
-use Rattle.backward.proofs.Rests.{rest-first, rest-in, rest-other, rest-without}
 use Rattle.backward.proofs.back_of.Statement.{statement}
 use Rattle.backward.proofs.back_of.Tie as tie
 

@@ -1,25 +1,27 @@
--- `events::comes_next` meets its contract. The loop's invariant: no letter below y keeps x from coming next.
+-- `events::comes_next` meets its contract. The loop's invariant: every letter that is not left lets x by. The measure is the number of the letters that are left.
 use borrow.Author.Needs.{needs}
-use borrow.Author.Tests.{le-ltb, not-false, not-true}
+use borrow.Author.Tests.{le-ltb}
 use mathlib.Core.Path.{_≡_, sym, _∙_, ap, subst}
-use mathlib.Core.Bool.{false, _&&_, _||_}
+use mathlib.Core.Bool.{_&&_}
 use Prim.Native.Nat.{_-_, _≤_, _<_}
 use native.Mathlib.Omega.{arith}
-use lib.Dec.{T, not-T, eqb, ltb, lt→ltb}
+use lib.Bits.{and-le-r}
+use lib.Count.{trailing-le, trailingZeros}
+use lib.Dec.{not-T, ltb, lt→ltb}
 use Rattle.profile.specs.Lists.{all, below}
 use Rattle.profile.specs.Prefixes.{at}
 use Rattle.profile.specs.Traces.{independent}
-use Rattle.profile.proofs.Lists.{all-at, below-of, both, is-false, is-true, snd-of}
-use Rattle.events.specs.Events.{lets-by?}
-use Rattle.events.proofs.Adding.{all-more}
+use Rattle.profile.proofs.Lists.{both, is-false, is-true, snd-of}
+use Rattle.events.specs.Events.{keepers, lets-by?}
+use Rattle.events.proofs.Keepers.{Left, keepers-own, left-first, left-next, left-none, left-stops}
 use Rattle.events.proofs.comes_next.Statement.{statement}
 use Rattle.events.proofs.comes_next.Tie as tie
 
 abbrev Inv-loop : tie.InvT-loop
-Inv-loop masks k n next x own y₀ y = (y ≤ k) × T (all (lets-by? (independent masks) (at next) x) (below y))
+Inv-loop masks keepers k n next x own rest₀ rest = Left (independent masks) k x (at next) rest
 
 abbrev μ-loop : tie.MeasureT-loop
-μ-loop masks k n next x own y₀ y = k - y
+μ-loop masks keepers k n next x own rest₀ rest = rest
 
 place-at-requires : tie.Need-place-at-requires Inv-loop μ-loop
 place-at-requires c κs = search needs
@@ -33,55 +35,60 @@ returns c =
     let h : a .n ≤ at (a .next .now) (a .x) = omega (arith, c .before .place-at .ensures) in
     rw (le-ltb (at (a .next .now) (a .x)) (a .n) h)
 
+mul-rest : tie.Need-mul-rest Inv-loop μ-loop
+mul-rest c = search needs
+
+element-copy-out-rest : tie.Need-element-copy-out-rest Inv-loop μ-loop
+element-copy-out-rest c = search needs
+
 loop-holds : tie.Need-loop-holds Inv-loop μ-loop
-loop-holds c = (omega arith, tt)
+loop-holds c =
+    let s = c .before .before .before .before .before in
+    let a = s .args in
+    let may = independent (a .masks .now) in
+    let e : at (a .keepers .now) (a .x) ≡ keepers may (a .k) (a .x) = ap (λ l. at l (a .x)) (s .pre .1) ∙ keepers-own may (a .k) (a .x) (omega arith) in
+    subst (Left may (a .k) (a .x) (at (a .next .now))) (sym e) (left-first may (a .k) (a .x) (at (a .next .now)) (s .pre .0 .0))
 
-lets-by-requires : tie.Need-lets-by-requires Inv-loop μ-loop
-lets-by-requires c κs = search needs
+cast-y : tie.Need-cast-y Inv-loop μ-loop
+cast-y c = omega (arith, trailing-le 32 (c .before .loop .rest))
 
--- what the callee tells of letter y
-let-by : (c : tie.After-lets-by Inv-loop μ-loop)
-    → c .lets-by .result ≡ lets-by? (independent (c .before .before .before .before .before .before .before .args .masks .now))
-    (at (c .before .before .before .before .before .before .before .args .next .now)) (c .before .before .before .before .before .before .before .args .x) (c .before .before .loop .y)
-let-by c =
-    let a = c .before .before .before .before .before .before .before .args in
-    let y = c .before .before .loop .y in
-    c .lets-by .ensures ∙ ap (λ o. eqb y (a .x) || (independent (a .masks .now) y (a .x) || ltb o (at (a .next .now) y))) (c .before .before .before .before .place-at .ensures)
+place-at-requires-2 : tie.Need-place-at-requires-2 Inv-loop μ-loop
+place-at-requires-2 c κs = search needs
 
 returns-2 : tie.Need-returns-2 Inv-loop μ-loop
 returns-2 c =
-    let a = c .before .before .before .before .before .before .before .before .args in
-    let y = c .before .before .before .loop .y in
+    let a = c .before .before .before .before .before .before .before .before .before .args in
+    let l = c .before .before .before .loop in
     let p = lets-by? (independent (a .masks .now)) (at (a .next .now)) (a .x) in
     let q = ltb (at (a .next .now) (a .x)) (a .n) in
-    let f : p y ≡ false = sym (let-by (c .before)) ∙ not-true (c .before .lets-by .result) (c .if2 .taken) in
+    let h : at (a .next .now) (trailingZeros 32 (l .rest)) ≤ at (a .next .now) (a .x) = omega (arith, c .before .place-at2 .ensures, c .before .before .before .before .before .before .place-at .ensures) in
     sym (is-false (q && all p (below (a .k))) (not-T (q && all p (below (a .k))) (λ t.
-    subst T f (all-at p (snd-of q (all p (below (a .k))) t) (below-of (a .k) y (c .before .before .loop-test .taken))))))
+    left-stops (independent (a .masks .now)) (a .k) (a .x) (at (a .next .now)) (l .rest) (omega arith) (l .inv) h (snd-of q (all p (below (a .k))) t))))
 
-add-y : tie.Need-add-y Inv-loop μ-loop
-add-y c = search needs
+sub-rest : tie.Need-sub-rest Inv-loop μ-loop
+sub-rest c = search needs
 
 loop-less : tie.Need-loop-less Inv-loop μ-loop
-loop-less c = search needs
+loop-less c = let n = c .before .before .before .loop .rest in omega (arith, and-le-r n (n - 1))
 
 loop-again : tie.Need-loop-again Inv-loop μ-loop
 loop-again c =
-    let a = c .before .before .before .before .before .before .before .before .args in
+    let a = c .before .before .before .before .before .before .before .before .before .args in
     let l = c .before .before .before .loop in
-    let p = lets-by? (independent (a .masks .now)) (at (a .next .now)) (a .x) in
-    let t : T (p (l .y)) = subst T (sym (not-false (c .before .lets-by .result) (c .if2 .left)) ∙ let-by (c .before)) tt in
-    (omega arith, all-more p (l .y) (l .inv .1) t)
+    let h : at (a .next .now) (a .x) < at (a .next .now) (trailingZeros 32 (l .rest)) = omega (arith, c .before .place-at2 .ensures, c .before .before .before .before .before .before .place-at .ensures) in
+    left-next (independent (a .masks .now)) (a .k) (a .x) (at (a .next .now)) (l .rest) (omega arith) (l .inv) h
 
 returns-3 : tie.Need-returns-3 Inv-loop μ-loop
 returns-3 c =
-    let a = c .before .before .before .before .before .before .args in
-    let y = c .before .loop .y in
-    let p = lets-by? (independent (a .masks .now)) (at (a .next .now)) (a .x) in
+    let a = c .before .before .before .before .before .before .before .args in
+    let may = independent (a .masks .now) in
+    let p = lets-by? may (at (a .next .now)) (a .x) in
     let q = ltb (at (a .next .now) (a .x)) (a .n) in
-    let e : y ≡ a .k = omega arith in
-    let h : at (a .next .now) (a .x) < a .n = omega (arith, c .before .before .before .place-at .ensures) in
+    let h : at (a .next .now) (a .x) < a .n = omega (arith, c .before .before .before .before .place-at .ensures) in
+    let e : c .before .loop .rest ≡ 0 = omega arith in
     sym (is-true (q && all p (below (a .k))) (both q (all p (below (a .k)))
-    (lt→ltb (at (a .next .now) (a .x)) (a .n) h) (subst (λ k. T (all p (below k))) e (c .before .loop .inv .1))))
+    (lt→ltb (at (a .next .now) (a .x)) (a .n) h) (left-none may (a .k) (a .x) (at (a .next .now)) (subst (Left may (a .k) (a .x) (at (a .next .now))) e (c .before .loop .inv)))))
 
 pub comes-next-spec : {M : Type 1} → statement M
-comes-next-spec = tie.close (tie.spec Inv-loop μ-loop place-at-requires cast-if1 returns loop-holds lets-by-requires returns-2 add-y loop-less loop-again returns-3)
+comes-next-spec = tie.close
+    (tie.spec Inv-loop μ-loop place-at-requires cast-if1 returns mul-rest element-copy-out-rest loop-holds cast-y place-at-requires-2 returns-2 sub-rest loop-less loop-again returns-3)

@@ -27,7 +27,7 @@ part-next-counts-end : tie.Need-part-next-counts-end
 part-next-counts-end c = search needs
 
 next-counts-requires : tie.Need-next-counts-requires
-next-counts-requires c κs = (search needs, c .before .before .before .before .before .before .before .before .before .before .before .pre .1)
+next-counts-requires c κs = (search needs, c .before .before .before .before .before .before .before .before .before .before .before .pre .1 .0)
 
 enum-told : tie.Need-enum-told
 enum-told c = search needs
@@ -39,7 +39,9 @@ add-if1 : tie.Need-add-if1
 add-if1 c = search needs
 
 addable-requires : tie.Need-addable-requires
-addable-requires c κs = c .before .before .before .before .before .before .before .before .before .before .before .before .before .before .before .before .before .before .pre .0 .0 .profile .relation .most
+addable-requires c κs =
+    let h = c .before .before .before .before .before .before .before .before .before .before .before .before .before .before .before .before .before .before .pre in
+    (h .0 .0 .profile .relation .most, h .1 .1)
 
 put-in-requires : tie.Need-put-in-requires
 put-in-requires c κs = omega (arith, c .before .before .if1 .taken, c .before .before .before .before .before .before .before .before .before .before .before .before .before .before .before .before .before .before .before .before .pre .0 .0 .fits)
@@ -56,7 +58,7 @@ returns c =
     let h = c .before .before .before .before .before .before .before .before .before .before .before .before .before .before .before .before .pre .0 in
     let x = c .before .before .before .before .next-counts in
     let level = records-between (a .table .now) (a .part .from) (a .part .first) in
-    let g = subst (Comes (a .shape .k) (a .shape .s) (a .moves .now) level (a .cursors .now) (x .last .1 .1 .1 .1 .1 .0)) (c .enum-told .given .1) (x .ensures) in
+    let g = subst (Comes (a .part .shape .k) (a .part .shape .s) (a .moves .now) level (a .cursors .now) (x .last .1 .1 .1 .1 .1 .0)) (c .enum-told .given .1) (x .ensures) in
     (merge-none (h .0) (h .1) g, refl)
 
 same-length-3 : tie.Need-same-length-3
@@ -72,7 +74,7 @@ returns-2 c =
     let h = c .before .before .before .before .before .before .before .before .before .before .before .before .before .before .before .before .before .before .before .before .before .before .before .pre .0 in
     let x = c .before .before .before .before .before .before .before .before .before .before .before .next-counts in
     let level = records-between (a .table .now) (a .part .from) (a .part .first) in
-    let g = subst (Comes (a .shape .k) (a .shape .s) (a .moves .now) level (a .cursors .now) (x .last .1 .1 .1 .1 .1 .0)) (q .1) (x .ensures) in
+    let g = subst (Comes (a .part .shape .k) (a .part .shape .s) (a .moves .now) level (a .cursors .now) (x .last .1 .1 .1 .1 .1 .0)) (q .1) (x .ensures) in
     let y = c .before .before .before .before .addable in
     let z = c .before .before .put-in in
     merge-put (h .0) (h .1) (words (q .0 .0)) (g .0) (q .0 .1 .0) (y .result .set) (y .result .number) (z .last .0) (x .last .1 .1 .1 .1 .1 .0)
@@ -91,7 +93,7 @@ returns-3 c =
     let h = c .before .before .before .before .before .before .before .before .before .before .before .before .before .before .before .before .before .before .pre .0 in
     let x = c .before .before .before .before .before .before .next-counts in
     let level = records-between (a .table .now) (a .part .from) (a .part .first) in
-    let g = subst (Comes (a .shape .k) (a .shape .s) (a .moves .now) level (a .cursors .now) (x .last .1 .1 .1 .1 .1 .0)) (q .1) (x .ensures) in
+    let g = subst (Comes (a .part .shape .k) (a .part .shape .s) (a .moves .now) level (a .cursors .now) (x .last .1 .1 .1 .1 .1 .0)) (q .1) (x .ensures) in
     merge-full (h .0) (h .1) (words (q .0 .0)) (g .0) (c .if1 .left)
 
 pub merge-next-spec : {M : Type 1} → statement M

@@ -27,7 +27,7 @@ same-length c = search needs
 returns : tie.Need-returns
 returns c =
     let a = c .before .before .before .before .before .before .before .before .before .before .before .before .args in
-    let r = c .before .before .before .before .before .before .before .before .before .before .before .before .pre .0 in
+    let r = c .before .before .before .before .before .before .before .before .before .before .before .before .pre .1 in
     let v = c .before .before .before .before .before .none-counted in
     let l = c .before .before .before .before .addable in (
       first-pairs r (words (v .result)) (v .ensures) (l .result .number) (l .ensures .1),

@@ -23,12 +23,12 @@ use Rattle.letters.proofs.addable.Statement.{statement}
 use Rattle.letters.proofs.addable.Tie as tie
 
 abbrev Inv-loop : tie.InvT-loop
-Inv-loop k masks n starts places next set₀ number₀ x₀ set number x =
+Inv-loop k masks keepers n starts places next set₀ number₀ x₀ set number x =
     (x ≤ k) × (number ≤ x) × (set ≡ union (λ y. 2 ^ y) (filter (comes-next? (independent masks) k n next) (below x)))
     × (number ≡ length (filter (comes-next? (independent masks) k n next) (below x)))
 
 abbrev μ-loop : tie.MeasureT-loop
-μ-loop k masks n starts places next set₀ number₀ x₀ set number x = k - x
+μ-loop k masks keepers n starts places next set₀ number₀ x₀ set number x = k - x
 
 slice-aggregate-next-places : tie.Need-slice-aggregate-next-places Inv-loop μ-loop
 slice-aggregate-next-places c = search needs

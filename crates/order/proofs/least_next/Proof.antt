@@ -7,16 +7,16 @@ use Rattle.profile.specs.Lists.{below, first-place}
 use Rattle.profile.specs.Traces.{independent}
 use Rattle.events.specs.Events.{comes-next?}
 use Rattle.order.proofs.First.{getD-below, length-below}
-use Rattle.order.proofs.Projections.{place-end, place-no, place-yes}
+use Rattle.theory.proofs.FirstPlaces.{place-end, place-no, place-yes}
 use native.Mathlib.Omega.{arith}
 use Rattle.order.proofs.least_next.Statement.{statement}
 use Rattle.order.proofs.least_next.Tie as tie
 
 abbrev Inv-loop : tie.InvT-loop
-Inv-loop masks k n next a₀ a = first-place (comes-next? (independent masks) k n next) (below k) ≡ a + first-place (comes-next? (independent masks) k n next) (drop a (below k))
+Inv-loop masks keepers k n next a₀ a = first-place (comes-next? (independent masks) k n next) (below k) ≡ a + first-place (comes-next? (independent masks) k n next) (drop a (below k))
 
 abbrev μ-loop : tie.MeasureT-loop
-μ-loop masks k n next a₀ a = k - a
+μ-loop masks keepers k n next a₀ a = k - a
 
 loop-holds : tie.Need-loop-holds Inv-loop μ-loop
 loop-holds c = omega arith

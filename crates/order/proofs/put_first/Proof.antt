@@ -10,6 +10,9 @@ use native.Mathlib.Omega.{arith}
 use Rattle.order.proofs.put_first.Statement.{statement}
 use Rattle.order.proofs.put_first.Tie as tie
 
+all-keepers-requires : tie.Need-all-keepers-requires
+all-keepers-requires c κs = let a = c .before .before .before .args in omega (arith, relation-at (a .k) (a .masks .now) (c .before .before .before .pre .0) .most)
+
 slice-aggregate-place-events : tie.Need-slice-aggregate-place-events
 slice-aggregate-place-events c = search needs
 
@@ -18,8 +21,8 @@ slice-aggregate-place-events-2 c = search needs
 
 place-events-requires : tie.Need-place-events-requires
 place-events-requires c κs =
-    let a = c .before .before .before .before .before .args in
-    let p = c .before .before .before .before .before .pre in
+    let a = c .before .before .before .before .before .before .args in
+    let p = c .before .before .before .before .before .before .pre in
     (relation-at (a .k) (a .masks .now) (p .0) .most, log-at (a .k) (a .log .now) (p .1) .short, refl, refl)
 
 slice-aggregate-put-letters : tie.Need-slice-aggregate-put-letters
@@ -35,26 +38,28 @@ part-next-start : tie.Need-part-next-start
 part-next-start c = search needs
 
 part-next-end : tie.Need-part-next-end
-part-next-end c = let a = c .before .before .before .before .before .before .before .before .before .before .args in relation-at (a .k) (a .masks .now) (c .before .before .before .before .before .before .before .before .before .before .pre .0) .most
+part-next-end c = let a = c .before .before .before .before .before .before .before .before .before .before .before .before .args in relation-at (a .k) (a .masks .now) (c .before .before .before .before .before .before .before .before .before .before .before .before .pre .0) .most
 
 slice-aggregate-put-letters-3 : tie.Need-slice-aggregate-put-letters-3
 slice-aggregate-put-letters-3 c = search needs
 
 put-letters-requires : tie.Need-put-letters-requires
 put-letters-requires c κs =
-    let a = c .before .before .before .before .before .before .before .before .before .before .before .before .before .args in
-    let p = c .before .before .before .before .before .before .before .before .before .before .before .before .before .pre in
-    let e = c .before .before .before .before .before .before .before .place-events .ensures in
-    record {
-      relation = p .0;
-      log = p .1;
-      room = p .2;
-      start = (_, e .0);
-      place = (_, e .1);
-      wide = let m = relation-at (a .k) (a .masks .now) (p .0) .most in length-take-le (a .k - 0) (replicate 16 0) (omega arith) ∙ omega arith;
-      long = relation-at (a .k) (a .masks .now) (p .0) .most;
-      unused = getD-zeros 16;
-    }
+    let a = c .before .before .before .before .before .before .before .before .before .before .before .before .before .before .before .args in
+    let p = c .before .before .before .before .before .before .before .before .before .before .before .before .before .before .before .pre in
+    let e = c .before .before .before .before .before .before .before .before .place-events .ensures in (
+      record {
+        relation = p .0;
+        log = p .1;
+        room = p .2;
+        start = (_, e .0);
+        place = (_, e .1);
+        wide = let m = relation-at (a .k) (a .masks .now) (p .0) .most in length-take-le (a .k - 0) (replicate 16 0) (omega arith) ∙ omega arith;
+        long = relation-at (a .k) (a .masks .now) (p .0) .most;
+        unused = getD-zeros 16;
+      },
+      c .before .before .before .before .before .before .before .before .before .before .before .all-keepers .ensures,
+    )
 
 same-length : tie.Need-same-length
 same-length c = search needs
@@ -66,6 +71,7 @@ pub put-first-spec : {M : Type 1} → statement M
 put-first-spec =
     tie.close
     (tie.spec
+    all-keepers-requires
     slice-aggregate-place-events
     slice-aggregate-place-events-2
     place-events-requires

@@ -12,11 +12,11 @@ use Rattle.order.proofs.put_letters.Statement.{statement}
 use Rattle.order.proofs.put_letters.Tie as tie
 
 abbrev Inv-loop : tie.InvT-loop
-Inv-loop k masks log starts places next₀ used₀ out₀ n t₀ next used out t =
+Inv-loop k masks keepers log starts places next₀ used₀ out₀ n t₀ next used out t =
     (t ≤ length log) × (length next ≡ length next₀) × (length used ≡ length used₀) × (length out ≡ length out₀) × Chosen k masks log out₀ next used out t
 
 abbrev μ-loop : tie.MeasureT-loop
-μ-loop k masks log starts places next₀ used₀ out₀ n t₀ next used out t = length log - t
+μ-loop k masks keepers log starts places next₀ used₀ out₀ n t₀ next used out t = length log - t
 
 first-places-requires : tie.Need-first-places-requires Inv-loop μ-loop
 first-places-requires c κs = search needs
@@ -24,13 +24,15 @@ first-places-requires c κs = search needs
 loop-holds : tie.Need-loop-holds Inv-loop μ-loop
 loop-holds c =
     let a = c .before .before .before .before .before .before .before .before .before .before .before .args in
-    let p = c .before .before .before .before .before .before .before .before .before .before .before .pre in
+    let p = c .before .before .before .before .before .before .before .before .before .before .before .pre .0 in
     let e = c .before .before .first-places .ensures ∙ ap (λ n. map (λ x. getD (a .places .now) (getD (a .starts .now) x 0 + 0) 0) (below n)) (p .wide) in
     let q = e ∙ first-coming (a .k) (a .log .now) (a .starts .now) (a .places .now) (p .start) (p .place) in
     (omega arith, refl, refl, refl, chosen-none (a .k) (a .masks .now) (a .log .now) (a .out .now) (c .before .before .first-places .last .1 .1 .0) (a .used .now) q (p .unused))
 
 least-next-requires : tie.Need-least-next-requires Inv-loop μ-loop
-least-next-requires c κs = search needs
+least-next-requires c κs =
+    let s = c .before .before .before .before .before .before .before .before .before .before .before .before .before .before in
+    (relation-at (s .args .k) (s .args .masks .now) (s .pre .0 .relation) .most, s .pre .1)
 
 -- what is known of the letter that is chosen
 letter-of : (c : tie.After-least-next Inv-loop μ-loop)
@@ -40,7 +42,7 @@ letter-of : (c : tie.After-least-next Inv-loop μ-loop)
     × (getD (c .before .before .before .loop .used) (c .least-next .result) 0 + 1 ≤ 255)
 letter-of c =
     let a = c .before .before .before .before .before .before .before .before .before .before .before .before .before .before .before .args in
-    let p = c .before .before .before .before .before .before .before .before .before .before .before .before .before .before .before .pre in
+    let p = c .before .before .before .before .before .before .before .before .before .before .before .before .before .before .before .pre .0 in
     let l = c .before .before .before .loop in
     let below = chosen-below (a .k) (a .masks .now) (a .log .now) (relation-at (a .k) (a .masks .now) (p .relation)) (log-at (a .k) (a .log .now) (p .log)) (a .out .now) (l .next) (l .used) (l .out) (l .t) (l .inv .4)
     (omega arith) (c .least-next .result) (c .least-next .ensures) in
@@ -53,7 +55,7 @@ cast-out : tie.Need-cast-out Inv-loop μ-loop
 cast-out c = omega (arith, letter-of c)
 
 slice-write-out : tie.Need-slice-write-out Inv-loop μ-loop
-slice-write-out c = omega (arith, c .before .before .before .before .before .before .before .before .before .before .before .before .before .before .before .pre .room)
+slice-write-out c = omega (arith, c .before .before .before .before .before .before .before .before .before .before .before .before .before .before .before .pre .0 .room)
 
 mul-m : tie.Need-mul-m Inv-loop μ-loop
 mul-m c = omega (arith, letter-of c)
@@ -85,7 +87,7 @@ loop-less c = omega arith
 loop-again : tie.Need-loop-again Inv-loop μ-loop
 loop-again c =
     let a = c .before .before .before .before .before .before .before .before .before .before .before .before .before .before .before .before .before .args in
-    let p = c .before .before .before .before .before .before .before .before .before .before .before .before .before .before .before .before .before .pre in
+    let p = c .before .before .before .before .before .before .before .before .before .before .before .before .before .before .before .before .before .pre .0 in
     let l = c .before .before .before .before .before .loop in
     let x = c .before .before .least-next .result in (
       omega arith,
@@ -109,7 +111,7 @@ same-length-3 c = c .before .loop .inv .3
 returns : tie.Need-returns Inv-loop μ-loop
 returns c =
     let a = c .before .before .before .before .before .before .before .before .before .before .before .before .before .args in
-    let p = c .before .before .before .before .before .before .before .before .before .before .before .before .before .pre in
+    let p = c .before .before .before .before .before .before .before .before .before .before .before .before .before .pre .0 in
     let l = c .before .loop in
     chosen-all (a .k) (a .masks .now) (a .log .now) (relation-at (a .k) (a .masks .now) (p .relation)) (log-at (a .k) (a .log .now) (p .log)) (a .out .now) (l .next) (l .used) (l .out) (l .t) (l .inv .4) (omega arith)
 

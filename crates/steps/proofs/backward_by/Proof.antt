@@ -9,8 +9,8 @@ use borrow.Author.Needs.{needs}
 use lib.Bits.{bitOr}
 use lib.Pow.{shl-exact}
 use Rattle.profile.specs.Automata.{meets}
+use Rattle.theory.proofs.SetLoops.{union-next}
 use Rattle.steps.specs.Rows.{backward-by, led-by}
-use Rattle.steps.proofs.Unions.{union-next}
 use Rattle.steps.proofs.backward_by.Statement.{statement}
 use Rattle.steps.proofs.backward_by.Tie as tie
 

@@ -10,9 +10,9 @@ use lib.Bits.{bitOr}
 use lib.Pow.{shl-exact}
 use Rattle.profile.specs.Automata.{meets}
 use Rattle.profile.specs.Traces.{bit}
+use Rattle.theory.proofs.SetLoops.{union-next}
 use Rattle.steps.specs.Rows.{forward-by, led-by}
 use Rattle.steps.proofs.Rows.{meets-one}
-use Rattle.steps.proofs.Unions.{union-next}
 use Rattle.steps.proofs.forward_by.Statement.{statement}
 use Rattle.steps.proofs.forward_by.Tie as tie
 

@@ -1,0 +1,3 @@
+-- Laws about the answers, and about the steps of the loops.
+pub mod Projections
+pub mod Answers

@@ -1,0 +1,2 @@
+-- The answers of a comparison.
+pub mod Comparison

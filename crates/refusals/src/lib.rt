@@ -1,0 +1,40 @@
+// The number and the place of a refusal: document 01, "A refusal gives its number and a place".
+ghost use mathlib.Core.Path.{_≡_};
+ghost use Rattle.profile.specs.Refusals.{refusal-number, refusal-place};
+use profile::Refusal;
+
+// The number of document 01.
+pub fn number(r: Refusal) -> u32
+    ensures { λ n. ⌜ n ≡ refusal-number r ⌝ }
+{
+    match r {
+        Refusal::ShortFile => 1,
+        Refusal::OutOfRange => 2,
+        Refusal::Distance => 3,
+        Refusal::MaskBit => 4,
+        Refusal::Asymmetric => 5,
+        Refusal::StateBit => 6,
+        Refusal::LongLog => 7,
+        Refusal::BadLetter(_) => 8,
+        Refusal::ShortBuffer => 9,
+        Refusal::FullTable => 10,
+    }
+}
+
+// The place of document 01.
+pub fn place(r: Refusal) -> usize
+    ensures { λ n. ⌜ n ≡ refusal-place r ⌝ }
+{
+    match r {
+        Refusal::ShortFile => 0,
+        Refusal::OutOfRange => 0,
+        Refusal::Distance => 0,
+        Refusal::MaskBit => 0,
+        Refusal::Asymmetric => 0,
+        Refusal::StateBit => 0,
+        Refusal::LongLog => 0,
+        Refusal::BadLetter(i) => i,
+        Refusal::ShortBuffer => 0,
+        Refusal::FullTable => 0,
+    }
+}
