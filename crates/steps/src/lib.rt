@@ -81,15 +81,24 @@ pub fn by_letter(moves: &[u32], k: usize, s: usize) -> [u32; 512]
     rows
 }
 
+// s itself. The test shows the compiler, which reads no contract, that it is at most 32: a loop over the states is then laid out with no way back.
+fn bounded(s: usize) -> usize
+    requires { ⌜ s ≤ 32 ⌝ }
+    ensures { λ r. ⌜ r ≡ s ⌝ }
+{
+    if s < ROW { s } else { ROW }
+}
+
 // The states to which letter a leads from the states of a set. The number is read before the test, so that no turn depends on what it finds.
 pub fn forward_by(rows: &[u32; 512], s: usize, set: u32, a: usize) -> u32
     requires { ⌜ (s ≤ 32) × (a < 16) ⌝ }
     ensures { λ r. ⌜ r ≡ forward-by s (now (rows .entry)) set a ⌝ }
 {
     let at = ROW * a;
+    let end = bounded(s);
     let mut out = 0u32;
     let mut q = 0;
-    while q < s {
+    while q < end {
         let to = rows[at + q];
         if meet(set, 1u32 << q) {
             out = out | to;
@@ -105,9 +114,10 @@ pub fn backward_by(rows: &[u32; 512], s: usize, set: u32, a: usize) -> u32
     ensures { λ r. ⌜ r ≡ backward-by s (now (rows .entry)) set a ⌝ }
 {
     let at = ROW * a;
+    let end = bounded(s);
     let mut out = 0u32;
     let mut q = 0;
-    while q < s {
+    while q < end {
         let to = rows[at + q];
         if meet(to, set) {
             out = out | (1u32 << q);

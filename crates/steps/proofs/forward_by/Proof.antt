@@ -17,16 +17,19 @@ use Rattle.steps.proofs.forward_by.Statement.{statement}
 use Rattle.steps.proofs.forward_by.Tie as tie
 
 abbrev Inv-loop : tie.InvT-loop
-Inv-loop rows s set a at out₀ q₀ out q = (q ≤ s) × (out ≡ forward-by q rows set a)
+Inv-loop rows s set a at end out₀ q₀ out q = (q ≤ s) × (end ≡ s) × (out ≡ forward-by q rows set a)
 
 abbrev μ-loop : tie.MeasureT-loop
-μ-loop rows s set a at out₀ q₀ out q = s - q
+μ-loop rows s set a at end out₀ q₀ out q = s - q
 
 mul-at : tie.Need-mul-at Inv-loop μ-loop
 mul-at c = search needs
 
+bounded-requires : tie.Need-bounded-requires Inv-loop μ-loop
+bounded-requires c κs = search needs
+
 loop-holds : tie.Need-loop-holds Inv-loop μ-loop
-loop-holds c = (search needs, refl)
+loop-holds c = (search needs, c .bounded .ensures, refl)
 
 add-to : tie.Need-add-to Inv-loop μ-loop
 add-to c = search needs
@@ -54,23 +57,24 @@ loop-less c = search needs
 
 loop-again : tie.Need-loop-again Inv-loop μ-loop
 loop-again c =
-    let a = c .before .before .before .before .before .args in
+    let a = c .before .before .before .before .before .before .args in
     let l = c .before .before .before .before .loop in
     let f : ℕ → ℕ = led-by (a .rows .now) (a .a) in
     let one = shl-exact 1 (l .q) 32 (omega arith) (omega arith) ∙ one-mul (2 ^ l .q) in
     let m : bit (a .set) (l .q) ≡ c .before .meet .result = sym (c .before .meet .ensures ∙ ap (meets (a .set)) one ∙ meets-one (a .set) (l .q)) in (
       search needs,
+      l .inv .1,
       ⊎-elim
-          (λ w. w .1 ∙ ap (λ o. bitOr o (f (l .q))) (l .inv .1) ∙ sym (union-next f (bit (a .set)) (l .q) true (m ∙ w .0 .taken)))
-          (λ w. w .1 ∙ l .inv .1 ∙ sym (union-next f (bit (a .set)) (l .q) false (m ∙ w .0 .left)))
+          (λ w. w .1 ∙ ap (λ o. bitOr o (f (l .q))) (l .inv .2) ∙ sym (union-next f (bit (a .set)) (l .q) true (m ∙ w .0 .taken)))
+          (λ w. w .1 ∙ l .inv .2 ∙ sym (union-next f (bit (a .set)) (l .q) false (m ∙ w .0 .left)))
           (c .if1 .came),
     )
 
 returns : tie.Need-returns Inv-loop μ-loop
 returns c =
-    let a = c .before .before .args in
+    let a = c .before .before .before .args in
     let e : c .before .loop .q ≡ a .s = omega arith in
-    c .before .loop .inv .1 ∙ ap (λ n. forward-by n (a .rows .now) (a .set) (a .a)) e
+    c .before .loop .inv .2 ∙ ap (λ n. forward-by n (a .rows .now) (a .set) (a .a)) e
 
 pub forward-by-spec : {M : Type 1} → statement M
 forward-by-spec =
@@ -79,6 +83,7 @@ forward-by-spec =
     Inv-loop
     μ-loop
     mul-at
+    bounded-requires
     loop-holds
     add-to
     mul-to
