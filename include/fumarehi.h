@@ -22,7 +22,7 @@
  *   - every pointer is not null and is aligned for its type, also where the length is 0;
  *   - it points to as many elements as the length says, which stay allocated and, unless the type is const, are no other argument's, during the call;
  *   - no other thread writes them meanwhile.
- * The functions keep no pointer, use no global data, no heap and no file, and may be called by several threads at once. The most stack measured is 7 KiB.
+ * The functions keep no pointer, use no global data, no heap and no file, and may be called by several threads at once. The most stack measured is 3.3 KB.
  *
  * A profile is k letters (1 to 16), s states (1 to 32), the start state (below s), the set of final states (bit q for state q), k masks (bit j of mask i
  * is set where letters i and j are independent) and s * k moves (at q * k + a, bit r is set where letter a may lead from state q to state r).

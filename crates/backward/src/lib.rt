@@ -131,7 +131,8 @@ pub fn fill_backward(
         ++ drop (record-length layout * records) (now (table .entry)) ⌝ }
 {
     let finals = shape.finals;
-    let rows = by_letter(moves, shape.k, shape.s);
+    let mut rows = [0u32; 512];
+    by_letter(moves, shape.k, shape.s, &mut rows);
     let mut t = log.len();
     let mut end = records - 1;
     put_last(table, end, finals);

@@ -273,7 +273,8 @@ pub fn fill_forward(
     }
     let keepers = events::all_keepers(masks, shape.k);
     let number = put_first(table, shape, masks, &keepers, moves, log, starts, places);
-    let rows = steps::by_letter(moves, shape.k, shape.s);
+    let mut rows = [0u32; 512];
+    steps::by_letter(moves, shape.k, shape.s, &mut rows);
     let part = Part {
         shape: shape,
         room: room,

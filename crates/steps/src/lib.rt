@@ -1,7 +1,7 @@
 // The moves of one state and of a set of states.
 ghost use mathlib.Core.Path.{_≡_};
 ghost use Prim.Native.Nat.{_≤_, _<_};
-ghost use lib.ListN.{getD};
+ghost use lib.ListN.{getD, replicate};
 ghost use Rattle.profile.specs.Automata.{forward-step, meets, row as row-at};
 ghost use Rattle.steps.specs.Rows.{backward-by, by-letter, forward-by, led as led-at};
 
@@ -66,19 +66,17 @@ fn led(moves: &[u32], k: usize, s: usize, i: usize) -> u32
 }
 
 // The moves by letter, so that a step reads numbers that stand in a row.
-pub fn by_letter(moves: &[u32], k: usize, s: usize) -> [u32; 512]
-    requires { ⌜ k ≤ 16 ⌝ }
-    ensures { λ r. ⌜ r ≡ by-letter k s (now (moves .entry)) ⌝ }
+pub fn by_letter(moves: &[u32], k: usize, s: usize, rows: &mut [u32; 512])
+    requires { ⌜ (k ≤ 16) × (now rows ≡ replicate 512 0) ⌝ }
+    ensures { λ _. ⌜ now (rows .exit) ≡ by-letter k s (now (moves .entry)) ⌝ }
 {
     let end = ROW * k;
-    let mut rows = [0u32; 512];
     let mut i = 0;
     while i < end {
         let to = led(moves, k, s, i);
         rows[i] = to;
         i += 1;
     }
-    rows
 }
 
 // s itself. The test shows the compiler, which reads no contract, that it is at most 32: a loop over the states is then laid out with no way back.

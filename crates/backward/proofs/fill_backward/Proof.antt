@@ -33,18 +33,18 @@ records s = some-record (s .pre .profile) (s .pre .log) (s .args .table .now) (s
 
 -- the last record's last number put, what stands behind the records is as it was
 kept : (c : tie.After-put-last Inv-loop μ-loop)
-    → drop (record-length layout * c .before .before .before .before .before .before .before .args .records) (c .put-last .last .0)
-    ≡ drop (record-length layout * c .before .before .before .before .before .before .before .args .records) (c .before .before .before .before .before .before .before .args .table .now)
+    → drop (record-length layout * c .before .before .before .before .before .before .before .before .args .records) (c .put-last .last .0)
+    ≡ drop (record-length layout * c .before .before .before .before .before .before .before .before .args .records) (c .before .before .before .before .before .before .before .before .args .table .now)
 kept c =
-    let s = c .before .before .before .before .before .before .before in
+    let s = c .before .before .before .before .before .before .before .before in
     let n = record-length layout * s .args .records in
     ap (drop n) (c .put-last .ensures) ∙ drop-set-lt n (s .args .table .now) (record-length layout * (s .args .records - 1) + (layout .numbers + 1)) _ (omega (arith, records s))
 
 -- in a turn: the total that is filled is the one before `t`
 down : (c : tie.In-loop Inv-loop μ-loop)
-    → Down (profile (c .before .before .before .before .before .before .before .before .before .before .before)) (word (c .before .before .before .before .before .before .before .before .before .before .before))
+    → Down (profile (c .before .before .before .before .before .before .before .before .before .before .before .before)) (word (c .before .before .before .before .before .before .before .before .before .before .before .before))
     (suc (c .before .loop .t - 1)) (c .before .loop .end) (c .before .loop .table)
-    (drop (record-length layout * c .before .before .before .before .before .before .before .before .before .before .before .args .records) (c .before .before .before .before .put-last .last .0))
+    (drop (record-length layout * c .before .before .before .before .before .before .before .before .before .before .before .before .args .records) (c .before .before .before .before .put-last .last .0))
 down c = let e : c .before .loop .t ≡ suc (c .before .loop .t - 1) = omega arith in rw e at (c .before .loop .inv .2)
 
 -- and its records stand before those of `t`
@@ -52,7 +52,7 @@ first-le : (c : tie.After-total-start Inv-loop μ-loop)
     → (c .total-start .result ≤ c .before .before .before .loop .end) × (record-length layout * c .before .before .before .loop .end ≤ length (c .before .before .before .loop .table))
 first-le c =
     let i = c .before .before in
-    let s = i .before .before .before .before .before .before .before .before .before .before .before in
+    let s = i .before .before .before .before .before .before .before .before .before .before .before .before in
     let l = i .before .loop in (
       first-before (s .pre .profile) (s .pre .log) (l .t - 1) (omega arith) (l .end) (l .table) _ (down i) (c .total-start .result) (c .total-start .ensures),
       down-room (profile s) (word s) (suc (l .t - 1)) (l .end) (l .table) _ (down i),
@@ -62,14 +62,14 @@ by-letter-requires : tie.Need-by-letter-requires Inv-loop μ-loop
 by-letter-requires c κs = search needs
 
 sub-end : tie.Need-sub-end Inv-loop μ-loop
-sub-end c = records (c .before .before .before .before .before)
+sub-end c = records (c .before .before .before .before .before .before)
 
 put-last-requires : tie.Need-put-last-requires Inv-loop μ-loop
-put-last-requires c κs = let s = c .before .before .before .before .before .before in omega (arith, records s, s .pre .fits)
+put-last-requires c κs = let s = c .before .before .before .before .before .before .before in omega (arith, records s, s .pre .fits)
 
 loop-holds : tie.Need-loop-holds Inv-loop μ-loop
 loop-holds c =
-    let s = c .before .before .before .before .before .before .before .before .before in
+    let s = c .before .before .before .before .before .before .before .before .before .before in
     let a = s .args in (
       search needs,
       refl,
@@ -103,7 +103,7 @@ sub-fill-total-2 c = first-le (c .before) .0
 fill-total-requires : tie.Need-fill-total-requires Inv-loop μ-loop
 fill-total-requires c κs =
     let i = c .before .before .before .before in
-    let s = i .before .before .before .before .before .before .before .before .before .before .before in
+    let s = i .before .before .before .before .before .before .before .before .before .before .before .before in
     let l = i .before .loop in
     (down-part (s .pre .profile) (s .pre .log) (l .t - 1) (omega arith) (l .end) (l .table) _ (down i) (c .before .before .total-start .result) (c .before .before .total-start .ensures), i .before .before .before .before .before .before .by-letter .ensures)
 
@@ -113,7 +113,7 @@ loop-less c = search needs
 loop-again : tie.Need-loop-again Inv-loop μ-loop
 loop-again c =
     let i = c .before .before .before .before .before .before .before in
-    let s = i .before .before .before .before .before .before .before .before .before .before .before in
+    let s = i .before .before .before .before .before .before .before .before .before .before .before .before in
     let l = i .before .loop in
     let b = c .before .before .before .before .before .total-start in (
       search needs,
@@ -127,7 +127,7 @@ same-length c = search needs
 
 returns : tie.Need-returns Inv-loop μ-loop
 returns c =
-    let s = c .before .before .before .before .before .before .before .before .before .before .before in
+    let s = c .before .before .before .before .before .before .before .before .before .before .before .before in
     let a = s .args in
     let z : c .before .loop .t ≡ 0 = omega arith in
     down-end (profile s) (word s) (c .before .loop .end) (c .before .loop .table) _ (rw z at (c .before .loop .inv .2)) ∙ ap (λ r. filled-all (profile s) (word s) ++ r) (kept (c .before .before .before .before))

@@ -24,14 +24,14 @@ by-letter-requires c κs = search needs
 
 fill-totals-requires : tie.Need-fill-totals-requires
 fill-totals-requires c κs =
-    let a = c .before .before .before .before .before .before .before .before .before .before .before .before .before .before .before .before .before .args in
-    let h = c .before .before .before .before .before .before .before .before .before .before .before .before .before .before .before .before .before .pre in
-    let x = c .before .before .before .before .before .before .put-first in (
+    let a = c .before .before .before .before .before .before .before .before .before .before .before .before .before .before .before .before .before .before .args in
+    let h = c .before .before .before .before .before .before .before .before .before .before .before .before .before .before .before .before .before .before .pre in
+    let x = c .before .before .before .before .before .before .before .put-first in (
       (
         subst (λ m. Ready (profile-of (a .shape) (a .masks .now) (a .moves .now)) (a .log .now) m (a .room) (a .starts .now) (a .places .now)) (sym (x .kept .0)) h,
         first-begun h (omega arith) (a .table .now) (x .last .0) (x .ensures .1),
       ),
-      ((omega arith, x .ensures .0), (c .before .before .before .by-letter .ensures, c .before .before .before .before .before .before .before .before .before .all-keepers .ensures)),
+      ((omega arith, x .ensures .0), (c .before .before .before .by-letter .ensures, c .before .before .before .before .before .before .before .before .before .before .all-keepers .ensures)),
     )
 
 same-length : tie.Need-same-length
@@ -39,9 +39,9 @@ same-length c = search needs
 
 returns-2 : tie.Need-returns-2
 returns-2 c =
-    let x = c .before .before .before .before .before .before .before .before .before .put-first in
+    let x = c .before .before .before .before .before .before .before .before .before .before .put-first in
     let y = c .before .before .fill-totals in
-    from-first (c .before .before .before .before .before .before .before .before .before .before .before .before .before .before .before .before .before .before .before .before .pre) (c .before .before .before .before .before .before .before .before .before .before .before .before .before .before .before .before .before .before .before .before .args .table .now) (x .last .0) (y .last .0) (x .ensures .1) (y .result) (y .ensures)
+    from-first (c .before .before .before .before .before .before .before .before .before .before .before .before .before .before .before .before .before .before .before .before .before .pre) (c .before .before .before .before .before .before .before .before .before .before .before .before .before .before .before .before .before .before .before .before .before .args .table .now) (x .last .0) (y .last .0) (x .ensures .1) (y .result) (y .ensures)
 
 pub fill-forward-spec : {M : Type 1} → statement M
 fill-forward-spec =

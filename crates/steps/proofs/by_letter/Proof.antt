@@ -1,5 +1,5 @@
 -- `steps::by_letter` meets its contract. The loop's invariant: the first `i` numbers are put, the others are 0. The measure is what is left of the rows.
-use mathlib.Core.Path.{_≡_, refl, _∙_, ap, ap₂}
+use mathlib.Core.Path.{_≡_, _∙_, ap, ap₂}
 use mathlib.Core.List.{_++_, map}
 use Prim.Native.Nat.{_*_, _-_, _≤_}
 use native.Mathlib.Omega.{arith}
@@ -12,16 +12,16 @@ use Rattle.steps.proofs.by_letter.Statement.{statement}
 use Rattle.steps.proofs.by_letter.Tie as tie
 
 abbrev Inv-loop : tie.InvT-loop
-Inv-loop moves k s end rows₀ i₀ rows i = (i ≤ end) × (rows ≡ map (led k s moves) (below i) ++ drop i (replicate 512 0))
+Inv-loop moves k s rows₀ end i₀ rows i = (i ≤ end) × (rows ≡ map (led k s moves) (below i) ++ drop i (replicate 512 0))
 
 abbrev μ-loop : tie.MeasureT-loop
-μ-loop moves k s end rows₀ i₀ rows i = end - i
+μ-loop moves k s rows₀ end i₀ rows i = end - i
 
 mul-end : tie.Need-mul-end Inv-loop μ-loop
 mul-end c = search needs
 
 loop-holds : tie.Need-loop-holds Inv-loop μ-loop
-loop-holds c = (search needs, refl)
+loop-holds c = (search needs, c .before .pre .1)
 
 led-requires : tie.Need-led-requires Inv-loop μ-loop
 led-requires c κs = search needs
@@ -29,8 +29,8 @@ led-requires c κs = search needs
 mul-rows : tie.Need-mul-rows Inv-loop μ-loop
 mul-rows c = search needs
 
-array-write-rows : tie.Need-array-write-rows Inv-loop μ-loop
-array-write-rows c = search needs
+element-write-rows : tie.Need-element-write-rows Inv-loop μ-loop
+element-write-rows c = search needs
 
 add-i : tie.Need-add-i Inv-loop μ-loop
 add-i c = search needs
@@ -63,7 +63,7 @@ by-letter-spec =
     loop-holds
     led-requires
     mul-rows
-    array-write-rows
+    element-write-rows
     add-i
     loop-less
     loop-again
