@@ -4,3 +4,5 @@ pub mod Words
 pub mod Order
 -- counts, packed: one more, equal, before, total
 pub mod Packed
+-- one of four numbers changed, by tests of its place
+pub mod Choices

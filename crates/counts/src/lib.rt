@@ -1,9 +1,10 @@
 // The counts of a prefix record, packed: document 01, "Prefixes and their table".
 ghost use mathlib.Core.Path.{_≡_};
-ghost use mathlib.Core.Bool.{not};
+ghost use mathlib.Core.Bool.{not, cond};
 ghost use mathlib.Core.List.{[]};
-ghost use Prim.Native.Nat.{_<_, _%_, _^_};
-ghost use lib.ListN.{getD, set};
+ghost use Prim.Native.Nat.{_+_, _<_, _%_, _^_};
+ghost use lib.Dec.{eqb};
+ghost use lib.ListN.{getD};
 ghost use Rattle.profile.specs.Lists.{equal?};
 ghost use Rattle.profile.specs.Orders.{no-later?};
 ghost use Rattle.profile.specs.Prefixes.{total};
@@ -40,47 +41,18 @@ pub fn none_counted() -> Counts
     }
 }
 
-// Number i of counts; 0 past the last.
-fn word_of(c: Counts, i: usize) -> u32
-    ensures { λ r. ⌜ r ≡ getD (words c) i 0 ⌝ }
+// w where i is j, else v: a choice for which the compiler needs no jump.
+fn pick(i: usize, j: usize, w: u32, v: u32) -> u32
+    ensures { λ r. ⌜ r ≡ cond (eqb i j) w v ⌝ }
 {
-    if i == 0 {
-        return c.w0;
-    }
-    if i == 1 {
-        return c.w1;
-    }
-    if i == 2 {
-        return c.w2;
-    }
-    if i == 3 {
-        return c.w3;
-    }
-    0
+    if i == j { w } else { v }
 }
 
-// The counts with number i replaced by w; unchanged past the last.
-fn with_word(c: Counts, i: usize, w: u32) -> Counts
-    ensures { λ r. ⌜ words r ≡ set (words c) i w ⌝ }
+// Number j of counts, with `one` added where j is i.
+fn added(w: u32, i: usize, j: usize, one: u32) -> u32
+    ensures { λ r. ⌜ r ≡ cond (eqb i j) ((w + one) % 2 ^ 32) w ⌝ }
 {
-    let mut d = c;
-    if i == 0 {
-        d.w0 = w;
-        return d;
-    }
-    if i == 1 {
-        d.w1 = w;
-        return d;
-    }
-    if i == 2 {
-        d.w2 = w;
-        return d;
-    }
-    if i == 3 {
-        d.w3 = w;
-        return d;
-    }
-    d
+    pick(i, j, std::num::wrapping_add_u32(w, one), w)
 }
 
 // The count that the number w holds at the place of letter a.
@@ -91,11 +63,19 @@ fn count_in(w: u32, a: usize) -> u32
     (w >> (WIDTH * (a % PER))) % BOUND
 }
 
-// The count of letter a; 0 for a letter past the last.
-pub fn count_of(c: Counts, a: usize) -> usize
-    ensures { λ r. ⌜ r ≡ count-field layout (words c) a ⌝ }
+// The numbers of counts in a row, for a loop over the letters.
+pub fn numbers(c: Counts) -> [u32; 4]
+    ensures { λ r. ⌜ r ≡ words c ⌝ }
 {
-    let w = word_of(c, a / PER);
+    [c.w0, c.w1, c.w2, c.w3]
+}
+
+// The count of letter a in numbers that stand in a row.
+pub fn count_of(t: &[u32; 4], a: usize) -> usize
+    requires { ⌜ a < 16 ⌝ }
+    ensures { λ r. ⌜ r ≡ count-field layout (now (t .entry)) a ⌝ }
+{
+    let w = t[a / PER];
     count_in(w, a) as usize
 }
 
@@ -105,8 +85,12 @@ pub fn one_more(c: Counts, a: usize) -> Counts
 {
     let i = a / PER;
     let one = 1u32 << (WIDTH * (a % PER));
-    let w = std::num::wrapping_add_u32(word_of(c, i), one);
-    with_word(c, i, w)
+    Counts {
+        w0: added(c.w0, i, 0, one),
+        w1: added(c.w1, i, 1, one),
+        w2: added(c.w2, i, 2, one),
+        w3: added(c.w3, i, 3, one),
+    }
 }
 
 // a and b have the same counts.

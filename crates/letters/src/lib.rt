@@ -18,15 +18,24 @@ pub struct Letters {
 
 // Puts the place of the next event of each letter below k.
 fn next_places(c: Counts, k: usize, starts: &[u16], places: &[u8], next: &mut [u8])
-    requires { ⌜ k ≤ length (now next) ⌝ }
+    requires { ⌜ (k ≤ 16) × (k ≤ length (now next)) ⌝ }
     ensures { λ r. ⌜ now (next .exit) ≡ next-by k (now (starts .entry)) (now (places .entry)) (words c) ++ drop k (now (next .entry)) ⌝ }
 {
+    let t = counts::numbers(c);
     let mut y = 0;
     while y < k {
-        let n = counts::count_of(c, y) as u16;
+        let n = counts::count_of(&t, y) as u16;
         next[y] = events::next_place(starts, places, y, n);
         y += 1;
     }
+}
+
+// k itself. The test shows the compiler, which reads no contract, that it is at most 16: no place is then tested again in the loops over the letters.
+fn bounded(k: usize) -> usize
+    requires { ⌜ k ≤ 16 ⌝ }
+    ensures { λ r. ⌜ r ≡ k ⌝ }
+{
+    if k < 16 { k } else { 16 }
 }
 
 // The letters below k that can be added to the counts c of a log of n events; `keepers` are the sets of the letters that keep each letter.
@@ -44,12 +53,13 @@ pub fn addable(
     ensures { λ r. ⌜ (r .set ≡ union (λ x. 2 ^ x) (letters-by (independent (now (masks .entry))) k n (now (starts .entry)) (now (places .entry)) (words c)))
         × (r .number ≡ length (letters-by (independent (now (masks .entry))) k n (now (starts .entry)) (now (places .entry)) (words c))) ⌝ }
 {
+    let end = bounded(k);
     let mut next = [0u8; 16];
-    next_places(c, k, starts, places, &mut next);
+    next_places(c, end, starts, places, &mut next);
     let mut set = 0u32;
     let mut number = 0u32;
     let mut x = 0;
-    while x < k {
+    while x < end {
         if events::comes_next(masks, keepers, k, n, &next, x) {
             set = set | (1u32 << x);
             number += 1;

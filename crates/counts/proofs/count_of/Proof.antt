@@ -1,14 +1,14 @@
 -- `counts::count_of` meets its contract: the number of the letter, and its count there.
-use mathlib.Core.Path.{_∙_, ap}
-use Prim.Native.Nat.{_%_}
-use Rattle.profile.specs.Tables.{layout}
 use Rattle.counts.specs.Counts.{word-count}
 use borrow.Author.Needs.{needs}
 use Rattle.counts.proofs.count_of.Statement.{statement}
 use Rattle.counts.proofs.count_of.Tie as tie
 
-word-of-requires : tie.Need-word-of-requires
-word-of-requires c κs = search needs
+mul-w : tie.Need-mul-w
+mul-w c = search needs
+
+element-copy-out-w : tie.Need-element-copy-out-w
+element-copy-out-w c = search needs
 
 count-in-requires : tie.Need-count-in-requires
 count-in-requires c κs = search needs
@@ -18,7 +18,7 @@ cast-result c = search needs
 
 returns : tie.Need-returns
 unfolding word-count
-returns c = c .count-in .ensures .0 ∙ ap (λ w. word-count layout w (c .before .before .args .a % layout .per)) (c .before .word-of .ensures)
+returns c = c .count-in .ensures .0
 
 pub count-of-spec : {M : Type 1} → statement M
-count-of-spec = tie.close (tie.spec word-of-requires count-in-requires cast-result returns)
+count-of-spec = tie.close (tie.spec mul-w element-copy-out-w count-in-requires cast-result returns)

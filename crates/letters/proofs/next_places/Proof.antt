@@ -13,10 +13,13 @@ use Rattle.letters.proofs.next_places.Statement.{statement}
 use Rattle.letters.proofs.next_places.Tie as tie
 
 abbrev Inv-loop : tie.InvT-loop
-Inv-loop c k starts places next₀ y₀ next y = (y ≤ k) × (length next ≡ length next₀) × (next ≡ next-by y starts places (words c) ++ drop y next₀)
+Inv-loop k starts places next₀ t y₀ next y = (y ≤ k) × (length next ≡ length next₀) × (next ≡ next-by y starts places t ++ drop y next₀)
 
 abbrev μ-loop : tie.MeasureT-loop
-μ-loop c k starts places next₀ y₀ next y = k - y
+μ-loop k starts places next₀ t y₀ next y = k - y
+
+numbers-requires : tie.Need-numbers-requires Inv-loop μ-loop
+numbers-requires c κs = search needs
 
 loop-holds : tie.Need-loop-holds Inv-loop μ-loop
 loop-holds c = (omega arith, refl, refl)
@@ -41,13 +44,14 @@ loop-less c = search needs
 
 loop-again : tie.Need-loop-again Inv-loop μ-loop
 loop-again c =
-    let l = c .before .before .before .loop in
-    let a = c .before .before .before .before .before .before .before .args in
+    let l = c .before .before .before .before .loop in
+    let a = c .before .before .before .before .before .before .before .before .before .args in
+    let t = c .before .before .before .before .before .numbers .result in
     let place : ℕ → ℕ → ℕ = λ y n. getD (a .places .now) (getD (a .starts .now) y 0 + n) 0 in
-    let e : c .next-place .result ≡ place (l .y) (count-field layout (words (a .c)) (l .y)) = c .next-place .ensures ∙ ap (place (l .y)) (c .before .count-of .ensures) in (
+    let e : c .next-place .result ≡ place (l .y) (count-field layout t (l .y)) = c .next-place .ensures ∙ ap (place (l .y)) (c .before .count-of .ensures) in (
       omega arith,
       length-set (l .next) (l .y) (c .next-place .result) ∙ l .inv .1,
-      ap₂ (λ t v. set t (l .y) v) (l .inv .2) e ∙ front-put (λ y. place y (count-field layout (words (a .c)) y)) (a .next .now) (l .y) (omega arith),
+      ap₂ (λ n v. set n (l .y) v) (l .inv .2) e ∙ front-put (λ y. place y (count-field layout t y)) (a .next .now) (l .y) (omega arith),
     )
 
 same-length : tie.Need-same-length Inv-loop μ-loop
@@ -55,9 +59,11 @@ same-length c = search needs
 
 returns : tie.Need-returns Inv-loop μ-loop
 returns c =
-    let e : c .before .loop .y ≡ c .before .before .before .before .before .args .k = omega arith in
-    rw e at (c .before .loop .inv .2)
+    let a = c .before .before .before .before .before .before .args in
+    let e : c .before .loop .y ≡ a .k = omega arith in
+    c .before .loop .inv .2
+    ∙ ap₂ (λ y t. next-by y (a .starts .now) (a .places .now) t ++ drop y (a .next .now)) e (c .before .before .numbers .ensures)
 
 pub next-places-spec : {M : Type 1} → statement M
 next-places-spec = tie.close
-    (tie.spec Inv-loop μ-loop loop-holds count-of-requires cast-n next-place-requires slice-write-next add-y loop-less loop-again same-length returns)
+    (tie.spec Inv-loop μ-loop numbers-requires loop-holds count-of-requires cast-n next-place-requires slice-write-next add-y loop-less loop-again same-length returns)
