@@ -4,7 +4,6 @@ ghost use mathlib.Core.Bool.{not, cond};
 ghost use mathlib.Core.List.{[]};
 ghost use Prim.Native.Nat.{_+_, _<_, _%_, _^_};
 ghost use lib.Dec.{eqb};
-ghost use lib.ListN.{getD};
 ghost use Rattle.profile.specs.Lists.{equal?};
 ghost use Rattle.profile.specs.Orders.{no-later?};
 ghost use Rattle.profile.specs.Prefixes.{total};

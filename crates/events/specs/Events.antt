@@ -39,9 +39,10 @@ comes-next? may k n next x = ltb (at next x) n && all (lets-by? may (at next) x)
 abbrev pub keeps? : (ℕ → ℕ → Bool) → ℕ → ℕ → Bool
 keeps? may x y = not (eqb y x || may y x)
 
--- the set of the letters below k that keep letter x; that of each letter
+-- the set of the letters below k that keep letter x: those that it depends on, itself left out
 abbrev pub keepers : (ℕ → ℕ → Bool) → ℕ → ℕ → ℕ
 keepers may k x = union (λ y. 2 ^ y) (filter (keeps? may x) (below k))
 
+-- that set of each of the 16 letters that there may be
 unfoldable pub all-keepers : (ℕ → ℕ → Bool) → ℕ → List ℕ
 all-keepers may k = map (keepers may k) (below 16)

@@ -2,14 +2,14 @@
 use mathlib.Core.Path.{_≡_, refl, sym, _∙_, ap, ap₂, subst, fun-ext}
 use mathlib.Core.Bool.{Bool, true}
 use mathlib.Core.Logic.{⊎-elim, _≢_}
-use mathlib.Core.List.{List, [], _∷_, _++_, map, append-assoc}
+use mathlib.Core.List.{List, [], _∷_, _++_, map}
 use mathlib.Core.Option.{some}
 use Prim.Native.Nat.{ℕ, zero, suc, _+_, _≤_, _<_}
 use native.Mathlib.Nat.{zero-add}
 use native.Mathlib.Omega.{arith}
 use lib.Dec.{T, ltb, ltb→lt}
-use lib.ListN.{length, getD, drop, replicate, set, length-append, length-drop, length-map}
-use lib.Seq.{drop-append-add, drop-drop, ext-getD, getD-set-other, getD-set-same, set-split, take-at}
+use lib.ListN.{length, getD, drop, replicate, set, length-append, length-map}
+use lib.Seq.{ext-getD, getD-set-other, getD-set-same}
 use Rattle.profile.specs.Lists.{below, first-place, range}
 use Rattle.profile.specs.Orders.{first-order}
 use Rattle.profile.specs.Prefixes.{IsPrefix, count, one, unmarked}
@@ -26,6 +26,7 @@ use Rattle.events.proofs.Adding.{comes-next-addable, next-places-more}
 use Rattle.events.proofs.Places.{place-found}
 use Rattle.order.specs.Order.{first-letters, letters-or-none}
 use Rattle.theory.proofs.FirstPlaces.{first-least, first-passes}
+use Rattle.theory.proofs.Fronts.{front-set}
 
 -- ---- the numbers below k as a list
 
@@ -43,16 +44,6 @@ length-below k = range-length k 0
 
 pub getD-below : (k i : ℕ) → i < k → getD (below k) i 0 ≡ i
 getD-below k i h = omega (arith, getD-range k 0 i h)
-
--- ---- a list that is filled from its start
-
--- u stands at the front of l, and one element more is stored behind it
-pub fill-next : (u l : List ℕ) (a n : ℕ) → length u ≡ n → n < length l → set (u ++ drop n l) n a ≡ (u ++ (a ∷ [])) ++ drop (n + 1) l
-fill-next u l a n e h =
-    let m : suc n ≡ length u + 1 = omega arith in
-    set-split (u ++ drop n l) n a (omega (arith, length-append u (drop n l), length-drop n l))
-    ∙ ap₂ (λ x y. x ++ (a ∷ y)) (take-at u (drop n l) n e) (ap (λ i. drop i (u ++ drop n l)) m ∙ drop-append-add u (drop n l) 1 ∙ drop-drop 1 n l)
-    ∙ sym (append-assoc u (a ∷ []) (drop (n + 1) l))
 
 -- ---- the smallest letter that can come next
 
@@ -229,5 +220,5 @@ module _ (k : ℕ) (masks w : List ℕ) (R : Relation k masks) (G : GoodLog k w)
               ap (λ y. getD (set used a (getD used a 0 + 1)) y 0) (sym d) ∙ getD-set-same used a (getD used a 0 + 1) 0 (omega arith) in
               omega (arith, g, n, m, ap (one a) d, one-same a, ap (counts (C .taken)) d))
               (λ z. getD-set-other used a x (getD used a 0 + 1) 0 (λ d. omega (arith, ap (one a) d, one-same a)) ∙ omega (arith, C .spent x x<, n)) (one-cases a x);
-          written = ap (λ l. set l t a) (C .written) ∙ fill-next (C .taken) before a t (C .many) (omega arith);
+          written = ap (λ l. set l t a) (C .written) ∙ front-set (C .taken) before a t (C .many) (omega arith);
         }

@@ -79,7 +79,7 @@ pub fn by_letter(moves: &[u32], k: usize, s: usize, rows: &mut [u32; 512])
     }
 }
 
-// s itself. The test shows the compiler, which reads no contract, that it is at most 32: a loop over the states is then laid out with no way back.
+// s itself. The test shows the compiler, which reads no contract, that it is at most 32: the loops over the states are then unrolled.
 fn bounded(s: usize) -> usize
     requires { ⌜ s ≤ 32 ⌝ }
     ensures { λ r. ⌜ r ≡ s ⌝ }

@@ -6,7 +6,6 @@ use Prim.Native.Nat.{ℕ, _+_, _-_, _≤_}
 use native.Mathlib.Omega.{arith}
 use lib.ListN.{length, getD, set, drop, length-set}
 use Rattle.profile.specs.Tables.{count-field, layout}
-use Rattle.counts.specs.Counts.{words}
 use Rattle.letters.specs.Letters.{next-by}
 use Rattle.theory.proofs.Fronts.{front-put}
 use Rattle.letters.proofs.next_places.Statement.{statement}
