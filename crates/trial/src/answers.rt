@@ -1,4 +1,9 @@
 // The answers of the tested calls as numbers.
+use crate::calls::NUMBERS;
+use crate::cells::plus;
+use crate::cells::times;
+use crate::cells::untouched8;
+use crate::cells::untouched32;
 use comparison::Compared;
 use filewriter::Writing;
 use order::Ordered;
@@ -29,10 +34,10 @@ fn told(verdict: usize, prefixes: usize, looks: u64) -> Answer {
     }
 }
 
-fn refused(r: Refusal, log: usize) -> Answer {
+fn by_number(number: usize, place: usize, log: usize) -> Answer {
     Answer {
-        refusal: refusals::number(r) as usize,
-        place: refusals::place(r),
+        refusal: number,
+        place: place,
         log: log,
         verdict: NONE,
         prefixes: 0,
@@ -40,16 +45,13 @@ fn refused(r: Refusal, log: usize) -> Answer {
     }
 }
 
+fn refused(r: Refusal, log: usize) -> Answer {
+    by_number(refusals::number(r) as usize, refusals::place(r), log)
+}
+
 // What no call answers.
 pub fn no_answer() -> Answer {
-    Answer {
-        refusal: 11,
-        place: 0,
-        log: 0,
-        verdict: NONE,
-        prefixes: 0,
-        looks: 0,
-    }
+    by_number(11, 0, 0)
 }
 
 pub fn of_judged(judged: Judged) -> Answer {
@@ -90,21 +92,25 @@ pub fn of_writing(writing: Writing) -> Answer {
     }
 }
 
-// The answer is a refusal by the number, at the place, about the log.
+// The answer is a refusal by the number, at the place, about the log, with no verdict; number 0 is none, with any verdict.
 pub fn is_refusal(answer: Answer, number: usize, place: usize, log: usize) -> bool {
-    if answer.refusal != number {
-        return false;
-    }
-    if answer.place != place {
-        return false;
-    }
-    answer.log == log
+    (answer.refusal == number)
+        & (answer.place == place)
+        & (answer.log == log)
+        & (number == 0 || answer.verdict == NONE)
 }
 
-// Looks lies from P - 1 to P * k.
-pub fn looks_fit(looks: usize, prefixes: usize, k: usize) -> bool {
-    if crate::cells::plus(looks, 1) < prefixes {
-        return false;
-    }
-    looks <= crate::cells::times(prefixes, k)
+// The answer is not a refusal, and has the verdict, P, and looks from P - 1 to P × k.
+pub fn is_verdict(answer: Answer, verdict: usize, prefixes: usize, k: usize) -> bool {
+    (answer.refusal == 0)
+        & (answer.verdict == verdict)
+        & (answer.prefixes == prefixes)
+        & (prefixes <= plus(answer.looks, 1))
+        & (answer.looks <= times(k, prefixes))
+}
+
+// A refusal leaves the order buffer as it was, and the table too unless the number is 10: then what lies past its `size` numbers stays.
+pub fn is_unchanged(number: usize, buffer: &[u8], numbers: &[u32], size: usize) -> bool {
+    let free = if number == 10 { size } else { 0 };
+    untouched8(buffer, 0, 0) & untouched32(numbers, NUMBERS, free)
 }

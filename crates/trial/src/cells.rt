@@ -21,10 +21,6 @@ pub fn at32(s: &[u32], i: usize) -> u32 {
     if i < s.len() { s[i] } else { 0 }
 }
 
-pub fn at(s: &[usize], i: usize) -> usize {
-    if i < s.len() { s[i] } else { 0 }
-}
-
 pub fn put8(s: &mut [u8], i: usize, v: u8) {
     if i < s.len() {
         s[i] = v;
@@ -38,12 +34,6 @@ pub fn put16(s: &mut [u16], i: usize, v: u16) {
 }
 
 pub fn put32(s: &mut [u32], i: usize, v: u32) {
-    if i < s.len() {
-        s[i] = v;
-    }
-}
-
-pub fn put(s: &mut [usize], i: usize, v: usize) {
     if i < s.len() {
         s[i] = v;
     }
@@ -71,6 +61,10 @@ pub fn times(a: usize, b: usize) -> usize {
     sum
 }
 
+pub fn least(a: usize, b: usize) -> usize {
+    if a < b { a } else { b }
+}
+
 // v div d and v mod d; 0 where d is.
 pub fn quotient(v: usize, d: usize) -> usize {
     if 0 < d { v / d } else { 0 }
@@ -80,14 +74,9 @@ pub fn rest(v: usize, d: usize) -> usize {
     if 0 < d { v % d } else { 0 }
 }
 
-// Bit i of a set of 32.
-pub fn bit32(set: u32, i: usize) -> bool {
-    if i < 32 { (set >> i) & 1 == 1 } else { false }
-}
-
-// Bit i of a mask of 16.
-pub fn bit16(mask: u16, i: usize) -> bool {
-    if i < 16 { (mask >> i) & 1 == 1 } else { false }
+// Bit i of v.
+pub fn bit(v: usize, i: usize) -> bool {
+    if i < 64 { (v >> i) & 1 == 1 } else { false }
 }
 
 pub fn one32(i: usize) -> u32 {
@@ -154,48 +143,35 @@ fn inside(i: usize, from: usize, n: usize) -> bool {
     if i < from { false } else { i - from < n }
 }
 
-fn kept8(s: &[u8], i: usize) -> bool {
-    if i < s.len() { s[i] == GUARD8 } else { true }
-}
-
-// Every byte is the guard, but for the n from `from` on.
+// Every element is the guard, but for the n from `from` on.
 pub fn untouched8(s: &[u8], from: usize, n: usize) -> bool {
     for i in 0..s.len() {
-        if !inside(i, from, n) {
-            if !kept8(s, i) {
-                return false;
-            }
+        if at8(s, i) != 165 && !inside(i, from, n) {
+            return false;
         }
     }
     true
-}
-
-fn kept16(s: &[u16], i: usize) -> bool {
-    if i < s.len() { s[i] == GUARD16 } else { true }
 }
 
 pub fn untouched16(s: &[u16], from: usize, n: usize) -> bool {
     for i in 0..s.len() {
-        if !inside(i, from, n) {
-            if !kept16(s, i) {
-                return false;
-            }
+        if at16(s, i) != GUARD16 && !inside(i, from, n) {
+            return false;
         }
     }
     true
-}
-
-fn kept32(s: &[u32], i: usize) -> bool {
-    if i < s.len() { s[i] == GUARD32 } else { true }
 }
 
 pub fn untouched32(s: &[u32], from: usize, n: usize) -> bool {
     for i in 0..s.len() {
-        if !inside(i, from, n) {
-            if !kept32(s, i) {
-                return false;
-            }
+        if at32(s, i) != GUARD32 && !inside(i, from, n) {
+            return false;
         }
     }
     true
+}
+
+// The bytes stand from `from` on, and around them is the guard.
+pub fn holds8(s: &[u8], from: usize, bytes: &[u8]) -> bool {
+    untouched8(s, from, bytes.len()) & equal8(part8(s, from, bytes.len()), bytes)
 }

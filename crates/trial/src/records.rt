@@ -1,9 +1,22 @@
-// The numbers of a table, by document 01's words.
-use crate::cells::at;
+// Profiles' shapes, and the numbers of a table by document 01's words.
 use crate::cells::at32;
 use crate::cells::plus;
-use crate::cells::put;
 use crate::cells::wide32;
+use profile::Shape;
+
+pub fn shape_of(k: usize, s: usize, start: usize, finals: u32) -> Shape {
+    Shape {
+        k: k,
+        s: s,
+        start: start,
+        finals: finals,
+    }
+}
+
+// Courses ab, abab and so on: Alt of document 01.
+pub fn alt() -> Shape {
+    shape_of(2, 2, 0, 1)
+}
 
 // Where record r begins.
 pub fn record_at(r: usize) -> usize {
@@ -17,24 +30,16 @@ pub fn count_of(table: &[u32], r: usize, letter: usize) -> usize {
     wide32((word >> shift) & 255)
 }
 
-// The counts of record r.
-pub fn put_counts(table: &[u32], r: usize, counts: &mut [usize]) {
-    for x in 0..16 {
-        put(counts, x, count_of(table, r, x));
-    }
-}
-
-pub fn sum_of(counts: &[usize]) -> usize {
+// The total of record r.
+pub fn total_of(table: &[u32], r: usize) -> usize {
     let mut sum = 0;
-    for x in 0..counts.len() {
-        sum = plus(sum, at(counts, x));
+    for x in 0..16 {
+        sum = plus(sum, count_of(table, r, x));
     }
     sum
 }
 
-// The total of record r.
-pub fn total_of(table: &[u32], r: usize) -> usize {
-    let mut counts = [0usize; 16];
-    put_counts(table, r, &mut counts);
-    sum_of(&counts)
+// Number 4 is the forward set of record r, number 5 its backward set.
+pub fn set_of(table: &[u32], r: usize, number: usize) -> u32 {
+    at32(table, plus(record_at(r), number))
 }

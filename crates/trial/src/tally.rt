@@ -1,7 +1,13 @@
-// How much was compared, and what was wrong: counters in one array, so that a test that shrinks or fails shows in what is printed.
+// How much was compared, and what was wrong: counters by value, so that a test that shrinks or fails shows in what is printed.
+use crate::cells::part8;
+use crate::cells::plus;
 use libc::STDOUT_FILENO;
 
-// Counters.
+pub struct Tally {
+    pub cells: [u64; 128],
+}
+
+// Counters, in the order in which they are printed.
 pub const LOGS: usize = 0;
 
 pub const ACCEPTED: usize = 1;
@@ -36,29 +42,25 @@ pub const EDGES: usize = 15;
 
 pub const COMBINED: usize = 16;
 
-// Groups of comparisons; the wrong ones of a group are counted at WRONG and up.
-const WRONG: usize = 32;
+// Wrong comparisons.
+pub const JUDGE: usize = 17;
 
-pub const JUDGE: usize = 0;
+pub const TABLE: usize = 18;
 
-pub const TABLE: usize = 1;
+pub const SAME: usize = 19;
 
-pub const SAME: usize = 2;
+pub const FIRST: usize = 20;
 
-pub const FIRST: usize = 3;
+pub const REFUSAL: usize = 21;
 
-pub const FILE: usize = 4;
+pub const FILE: usize = 22;
 
-pub const EVENT: usize = 5;
+pub const EVENT: usize = 23;
 
-pub const REFUSAL: usize = 6;
-
-pub const EDGE: usize = 7;
-
-const GROUPS: usize = 8;
+pub const EDGE: usize = 24;
 
 // Refusals that came as expected: eleven counters for each call.
-const REFUSED: usize = 64;
+const REFUSED: usize = 32;
 
 pub const BY_JUDGE: usize = 0;
 
@@ -76,37 +78,32 @@ pub const BY_WRITE: usize = 6;
 
 const CALLS: usize = 7;
 
-// Length of the array.
-pub const COUNTERS: usize = 160;
-
-fn at64(tally: &[u64], i: usize) -> u64 {
-    if i < tally.len() { tally[i] } else { 0 }
+pub fn nothing() -> Tally {
+    let cells = [0u64; 128];
+    Tally { cells: cells }
 }
 
 // Adds to a counter.
-pub fn count_many(tally: &mut [u64], which: usize, many: usize) {
-    if which < tally.len() {
-        tally[which] = std::num::wrapping_add_u64(tally[which], many as u64);
+pub fn count_many(t: Tally, which: usize, many: usize) -> Tally {
+    let mut u = t;
+    if which < 128 {
+        u.cells[which] = std::num::wrapping_add_u64(u.cells[which], many as u64);
     }
+    u
 }
 
-pub fn count(tally: &mut [u64], which: usize) {
-    count_many(tally, which, 1);
+pub fn count(t: Tally, which: usize) -> Tally {
+    count_many(t, which, 1)
 }
 
 // Counts a wrong comparison of the group.
-pub fn expect(tally: &mut [u64], group: usize, right: bool) {
-    if !right {
-        if group < GROUPS {
-            count(tally, WRONG + group);
-        }
-    }
+pub fn expect(t: Tally, group: usize, right: bool) -> Tally {
+    if right { t } else { count(t, group) }
 }
 
 // Counts an edge.
-pub fn edge(tally: &mut [u64], right: bool) {
-    expect(tally, EDGE, right);
-    count(tally, EDGES);
+pub fn edge(t: Tally, right: bool) -> Tally {
+    count(expect(t, EDGE, right), EDGES)
 }
 
 // The counter of the refusals of a call by a number; past all counters where there is none.
@@ -116,36 +113,63 @@ fn refusal_cell(call: usize, number: usize) -> usize {
             return REFUSED + 11 * call + number;
         }
     }
-    COUNTERS
+    128
 }
 
-// Counts a refusal of a call by a number.
-pub fn count_refusal(tally: &mut [u64], call: usize, number: usize) {
-    count(tally, refusal_cell(call, number));
+// Counts a refusal of a call by a number, where it came as expected, or a wrong comparison of the group.
+pub fn refused(t: Tally, group: usize, right: bool, call: usize, number: usize) -> Tally {
+    if right {
+        count(t, refusal_cell(call, number))
+    } else {
+        count(t, group)
+    }
 }
 
-pub fn text(words: &[u8]) {
-    io::write_all(STDOUT_FILENO, words);
+// Counts an edge at which a call is refused by the number; 0 is none.
+pub fn refused_edge(t: Tally, right: bool, call: usize, number: usize) -> Tally {
+    refused(count(t, EDGES), EDGE, right, call, number)
 }
 
-pub fn number(n: u64) {
-    io::print_decimal(STDOUT_FILENO, n);
+fn cell(t: Tally, which: usize) -> u64 {
+    let cells = t.cells;
+    if which < 128 { cells[which] } else { 0 }
 }
 
-// Prints the words and then a counter.
-pub fn part(tally: &[u64], words: &[u8], which: usize) {
-    text(words);
-    number(at64(tally, which));
+// Prints byte i of the text, or the counter where the byte is #; the counter after it.
+fn say_byte(t: Tally, text: &[u8], i: usize, which: usize, step: usize) -> usize {
+    let one = part8(text, i, 1);
+    if one.len() == 1 {
+        if one[0] == b'#' {
+            io::print_decimal(STDOUT_FILENO, cell(t, which));
+            return plus(which, step);
+        }
+    }
+    io::write_all(STDOUT_FILENO, one);
+    which
 }
 
-// Prints the words and then how often a call was refused by number n.
-pub fn refusals(tally: &[u64], words: &[u8], call: usize, n: usize) {
-    part(tally, words, refusal_cell(call, n));
+// Prints the text with a counter in place of each #: the first, and then each that is a step further.
+pub fn say(t: Tally, text: &[u8], first: usize, step: usize) {
+    let mut which = first;
+    for i in 0..text.len() {
+        which = say_byte(t, text, i, which, step);
+    }
 }
 
-// Prints the words and then the wrong comparisons of a group.
-pub fn wrong(tally: &[u64], words: &[u8], group: usize) {
-    if group < GROUPS {
-        part(tally, words, WRONG + group);
+// Prints the refusals by number n of every call.
+fn say_refusals(t: Tally, n: usize) {
+    io::write_all(STDOUT_FILENO, b"refusal ");
+    io::print_decimal(STDOUT_FILENO, n as u64);
+    say(
+        t,
+        b": judge #, build #, same #, first order #, read #, log part #, write #\n",
+        plus(REFUSED, n),
+        11,
+    );
+}
+
+pub fn say_all_refusals(t: Tally) {
+    for n in 1..11 {
+        say_refusals(t, n);
     }
 }

@@ -1,46 +1,55 @@
 // A second reader of log files, from document 01's table of the trailer and its list of refusals.
 use trial::cells::at8;
+use trial::cells::bit;
 use trial::cells::minus;
 use trial::cells::plus;
 use trial::cells::times;
-use trial::cells::wide32;
 
-// What a file says: a refusal by 1 to 8 with its place, or 0; its numbers; where its sections begin.
-pub struct Content {
-    pub refusal: usize,
-    pub place: usize,
-    pub k: usize,
-    pub s: usize,
-    pub start: usize,
-    pub n: usize,
-    pub finals: u32,
-    pub masks_at: usize,
-    pub moves_at: usize,
-    pub log_at: usize,
-}
-
-fn widen(x: u8) -> u32 {
-    x as u32
-}
-
-fn byte32(file: &[u8], i: usize) -> u32 {
-    if i < file.len() { widen(file[i]) } else { 0 }
-}
-
-// Two bytes, low byte first.
+// The number of two bytes at `at`, low byte first, and of four.
 fn half(file: &[u8], at: usize) -> usize {
     (at8(file, plus(at, 1)) << 8) | at8(file, at)
 }
 
-// Four bytes, low byte first.
-fn word(file: &[u8], at: usize) -> u32 {
-    let low = (byte32(file, plus(at, 1)) << 8) | byte32(file, at);
-    let high = (byte32(file, plus(at, 3)) << 8) | byte32(file, plus(at, 2));
-    (high << 16) | low
+pub fn word(file: &[u8], at: usize) -> usize {
+    (half(file, plus(at, 2)) << 16) | half(file, at)
 }
 
-fn bit(v: usize, i: usize) -> bool {
-    if i < 64 { (v >> i) & 1 == 1 } else { false }
+// Where the trailer begins.
+pub fn trailer(file: &[u8]) -> usize {
+    minus(file.len(), 16)
+}
+
+// Trailer byte i: k, s, start and n are 0, 1, 2 and 3.
+pub fn field(file: &[u8], i: usize) -> usize {
+    at8(file, plus(trailer(file), i))
+}
+
+// s × k.
+pub fn move_count(file: &[u8]) -> usize {
+    times(field(file, 1), field(file, 0))
+}
+
+// The final set.
+pub fn finals(file: &[u8]) -> usize {
+    word(file, plus(trailer(file), 12))
+}
+
+// The distance at trailer bytes i and i + 1: 4 for the masks, 6 for the moves, 8 for the log.
+fn distance(file: &[u8], i: usize) -> usize {
+    half(file, plus(trailer(file), i))
+}
+
+// Where the section begins whose distance that is.
+pub fn section(file: &[u8], i: usize) -> usize {
+    minus(trailer(file), distance(file, i))
+}
+
+pub fn mask(file: &[u8], i: usize) -> usize {
+    half(file, plus(section(file, 4), plus(i, i)))
+}
+
+pub fn move_set(file: &[u8], i: usize) -> usize {
+    word(file, plus(section(file, 6), times(4, i)))
 }
 
 // Some bit of v from i on is set.
@@ -48,51 +57,30 @@ fn bit_from(v: usize, i: usize) -> bool {
     if i < 64 { v >> i != 0 } else { false }
 }
 
-// Mask i of masks that begin at `at`.
-pub fn mask(file: &[u8], at: usize, i: usize) -> usize {
-    half(file, plus(at, plus(i, i)))
-}
-
-// Move i of moves that begin at `at`.
-pub fn move_set(file: &[u8], at: usize, i: usize) -> u32 {
-    word(file, plus(at, times(4, i)))
-}
-
 // 2.
-fn out_of_range(k: usize, s: usize, start: usize, zero: usize) -> bool {
-    if k < 1 {
-        return true;
-    }
-    if 16 < k {
-        return true;
-    }
-    if s < 1 {
-        return true;
-    }
-    if 32 < s {
-        return true;
-    }
-    if s <= start {
-        return true;
-    }
-    zero != 0
+fn out_of_range(file: &[u8]) -> bool {
+    let k = field(file, 0);
+    let s = field(file, 1);
+    (k < 1) | (16 < k) | (s < 1) | (32 < s) | (s <= field(file, 2)) | (distance(file, 10) != 0)
 }
 
 // 3: "a distance is at least its section's size and at most the trailer's own offset".
-fn far(distance: usize, size: usize, trailer: usize) -> bool {
-    if distance < size {
-        return true;
-    }
-    trailer < distance
+fn far(file: &[u8], i: usize, size: usize) -> bool {
+    let d = distance(file, i);
+    (d < size) | (trailer(file) < d)
+}
+
+fn far_section(file: &[u8]) -> bool {
+    far(file, 4, times(2, field(file, 0)))
+        | far(file, 6, times(4, move_count(file)))
+        | far(file, 8, field(file, 3))
 }
 
 // 4.
-fn bad_mask(file: &[u8], at: usize, k: usize) -> bool {
+fn bad_mask(file: &[u8]) -> bool {
+    let k = field(file, 0);
     for i in 0..k {
-        if bit_from(mask(file, at, i), k) {
-            return true;
-        }
-        if bit(mask(file, at, i), i) {
+        if bit_from(mask(file, i), k) | bit(mask(file, i), i) {
             return true;
         }
     }
@@ -100,41 +88,36 @@ fn bad_mask(file: &[u8], at: usize, k: usize) -> bool {
 }
 
 // 5, of letters i and j.
-fn one_way(file: &[u8], at: usize, k: usize, i: usize, j: usize) -> bool {
-    if k <= i {
-        return false;
-    }
-    if k <= j {
-        return false;
-    }
-    if bit(mask(file, at, i), j) {
-        !bit(mask(file, at, j), i)
-    } else {
-        false
-    }
+fn one_way(file: &[u8], i: usize, j: usize) -> bool {
+    bit(mask(file, i), j) & !bit(mask(file, j), i)
 }
 
-fn asymmetric(file: &[u8], at: usize, k: usize) -> bool {
-    for p in 0..256 {
-        if one_way(file, at, k, p / 16, p % 16) {
+fn asymmetric(file: &[u8]) -> bool {
+    let k = field(file, 0);
+    for p in 0..times(k, k) {
+        if one_way(file, trial::cells::quotient(p, k), trial::cells::rest(p, k)) {
             return true;
         }
     }
     false
 }
 
-// 6, of the moves.
-fn bad_move(file: &[u8], at: usize, s: usize, many: usize) -> bool {
-    for i in 0..many {
-        if bit_from(wide32(move_set(file, at, i)), s) {
+// 6.
+fn bad_set(file: &[u8]) -> bool {
+    let s = field(file, 1);
+    for i in 0..move_count(file) {
+        if bit_from(move_set(file, i), s) {
             return true;
         }
     }
-    false
+    bit_from(finals(file), s)
 }
 
 // 8: the first place whose byte is k or more; n where there is none.
-fn bad_place(file: &[u8], at: usize, k: usize, n: usize) -> usize {
+fn bad_place(file: &[u8]) -> usize {
+    let k = field(file, 0);
+    let n = field(file, 3);
+    let at = section(file, 8);
     for i in 0..n {
         if k <= at8(file, plus(at, i)) {
             return i;
@@ -143,85 +126,39 @@ fn bad_place(file: &[u8], at: usize, k: usize, n: usize) -> usize {
     n
 }
 
-fn refused(c: Content, number: usize, place: usize) -> Content {
-    Content {
-        refusal: number,
-        place: place,
-        k: c.k,
-        s: c.s,
-        start: c.start,
-        n: c.n,
-        finals: c.finals,
-        masks_at: c.masks_at,
-        moves_at: c.moves_at,
-        log_at: c.log_at,
+// 4 to 8; 0 is none.
+fn content_refusal(file: &[u8]) -> usize {
+    if bad_mask(file) {
+        return 4;
+    }
+    if asymmetric(file) {
+        return 5;
+    }
+    if bad_set(file) {
+        return 6;
+    }
+    if bad_place(file) < field(file, 3) {
+        8
+    } else {
+        0
     }
 }
 
-// The numbers of a file, as its trailer says them.
-fn numbers(file: &[u8], t: usize) -> Content {
-    Content {
-        refusal: 0,
-        place: 0,
-        k: at8(file, t),
-        s: at8(file, plus(t, 1)),
-        start: at8(file, plus(t, 2)),
-        n: at8(file, plus(t, 3)),
-        finals: word(file, plus(t, 12)),
-        masks_at: minus(t, half(file, plus(t, 4))),
-        moves_at: minus(t, half(file, plus(t, 6))),
-        log_at: minus(t, half(file, plus(t, 8))),
-    }
-}
-
-// 3, of the three sections.
-fn far_section(file: &[u8], t: usize, c: Content) -> bool {
-    let masks = times(2, c.k);
-    let moves = times(4, times(c.s, c.k));
-    if far(half(file, plus(t, 4)), masks, t) {
-        return true;
-    }
-    if far(half(file, plus(t, 6)), moves, t) {
-        return true;
-    }
-    far(half(file, plus(t, 8)), c.n, t)
-}
-
-// 4 to 8.
-fn checked(file: &[u8], c: Content) -> Content {
-    let k = c.k;
-    let s = c.s;
-    if bad_mask(file, c.masks_at, k) {
-        return refused(c, 4, 0);
-    }
-    if asymmetric(file, c.masks_at, k) {
-        return refused(c, 5, 0);
-    }
-    if bad_move(file, c.moves_at, s, times(s, k)) {
-        return refused(c, 6, 0);
-    }
-    if bit_from(wide32(c.finals), s) {
-        return refused(c, 6, 0);
-    }
-    let place = bad_place(file, c.log_at, k, c.n);
-    if place < c.n {
-        return refused(c, 8, place);
-    }
-    c
-}
-
-// What the file says.
-pub fn read_content(file: &[u8]) -> Content {
-    let t = minus(file.len(), 16);
-    let c = numbers(file, t);
+// The refusal of the file by 1 to 8; 0 is none.
+pub fn file_refusal(file: &[u8]) -> usize {
     if file.len() < 16 {
-        return refused(c, 1, 0);
+        return 1;
     }
-    if out_of_range(c.k, c.s, c.start, half(file, plus(t, 10))) {
-        return refused(c, 2, 0);
+    if out_of_range(file) {
+        return 2;
     }
-    if far_section(file, t, c) {
-        return refused(c, 3, 0);
+    if far_section(file) {
+        return 3;
     }
-    checked(file, c)
+    content_refusal(file)
+}
+
+// The place of that refusal.
+pub fn refusal_place(file: &[u8], number: usize) -> usize {
+    if number == 8 { bad_place(file) } else { 0 }
 }

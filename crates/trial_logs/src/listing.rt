@@ -2,24 +2,25 @@
 // appears. A listed log is a row of eight bytes; the commutation test is this crate's own.
 use trial::cells::at8;
 use trial::cells::at16;
-use trial::cells::bit16;
+use trial::cells::bit;
 use trial::cells::byte;
+use trial::cells::copy8;
 use trial::cells::equal8;
 use trial::cells::minus;
 use trial::cells::part8;
 use trial::cells::plus;
 use trial::cells::put8;
 
-// Rows of a listing.
+// Rows of a listing, the last of which is left for an exchange that is tried.
 pub const MOST: usize = 2048;
 
 // Letters i and j are independent: bit j of mask i is set.
 pub fn commute(masks: &[u16], i: usize, j: usize) -> bool {
-    bit16(at16(masks, i), j)
+    bit(at16(masks, i) as usize, j)
 }
 
 fn row_at(r: usize) -> usize {
-    if r < MOST { 8 * r } else { 0 }
+    if r < MOST { 8 * r } else { 16376 }
 }
 
 // Listed log r, of n letters.
@@ -27,11 +28,9 @@ pub fn row(rows: &[u8], r: usize, n: usize) -> &[u8] {
     part8(rows, row_at(r), n)
 }
 
-// Writes the log as row 0.
-fn put_log(rows: &mut [u8], log: &[u8]) {
-    for i in 0..log.len() {
-        put8(rows, i, byte(at8(log, i)));
-    }
+// Letter i of row r.
+fn letter(rows: &[u8], r: usize, i: usize) -> usize {
+    at8(rows, plus(row_at(r), i))
 }
 
 // Where the letter at place j stood before the exchange at i and i + 1.
@@ -44,11 +43,10 @@ fn exchanged_place(i: usize, j: usize) -> usize {
 
 // Writes row `from` as row `to`, with the letters at i and i + 1 exchanged.
 fn put_exchanged(rows: &mut [u8], from: usize, to: usize, n: usize, i: usize) {
-    let source = row_at(from);
-    let target = row_at(to);
+    let at = row_at(to);
     for j in 0..n {
-        let letter = at8(rows, plus(source, exchanged_place(i, j)));
-        put8(rows, plus(target, j), byte(letter));
+        let moved = letter(rows, from, exchanged_place(i, j));
+        put8(rows, plus(at, j), byte(moved));
     }
 }
 
@@ -62,6 +60,15 @@ pub fn listed(rows: &[u8], count: usize, log: &[u8]) -> bool {
     false
 }
 
+// The number of rows with row `count`, where it is new.
+fn counted(rows: &[u8], n: usize, count: usize) -> usize {
+    if listed(rows, count, row(rows, count, n)) {
+        count
+    } else {
+        plus(count, 1)
+    }
+}
+
 // Adds row r with its letters at i and i + 1 exchanged, where they commute and the log is new; the new number of rows.
 fn add_exchange(
     masks: &[u16],
@@ -71,20 +78,11 @@ fn add_exchange(
     i: usize,
     count: usize,
 ) -> usize {
-    let from = row_at(r);
-    let x = at8(rows, plus(from, i));
-    let y = at8(rows, plus(from, plus(i, 1)));
-    if !commute(masks, x, y) {
-        return count;
-    }
-    if MOST <= count {
+    if !commute(masks, letter(rows, r, i), letter(rows, r, plus(i, 1))) {
         return count;
     }
     put_exchanged(rows, r, count, n, i);
-    if listed(rows, count, row(rows, count, n)) {
-        return count;
-    }
-    plus(count, 1)
+    counted(rows, n, count)
 }
 
 // Adds every exchange of row r.
@@ -110,7 +108,7 @@ fn close_listing(masks: &[u16], rows: &mut [u8], n: usize) -> usize {
 
 // Lists the logs reachable from the log, and tells how many; 0 where they do not fit.
 pub fn list(masks: &[u16], log: &[u8], rows: &mut [u8]) -> usize {
-    put_log(rows, log);
+    copy8(log, rows);
     let count = close_listing(masks, rows, log.len());
     if count < MOST { count } else { 0 }
 }
@@ -125,20 +123,13 @@ pub fn earlier(a: &[u8], b: &[u8]) -> bool {
     false
 }
 
-// The earlier one of rows r and t.
-fn earlier_row(rows: &[u8], n: usize, r: usize, t: usize) -> usize {
-    if earlier(row(rows, r, n), row(rows, t, n)) {
-        r
-    } else {
-        t
-    }
-}
-
 // The row of the earliest listed log.
 pub fn earliest(rows: &[u8], count: usize, n: usize) -> usize {
     let mut best = 0;
     for r in 0..count {
-        best = earlier_row(rows, n, r, best);
+        if earlier(row(rows, r, n), row(rows, best, n)) {
+            best = r;
+        }
     }
     best
 }

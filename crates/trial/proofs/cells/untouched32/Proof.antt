@@ -13,11 +13,11 @@ abbrev μ-loop : tie.MeasureT-loop
 loop-holds : tie.Need-loop-holds Inv-loop μ-loop
 loop-holds c = search needs
 
+at32-requires : tie.Need-at32-requires Inv-loop μ-loop
+at32-requires c κs = search needs
+
 inside-requires : tie.Need-inside-requires Inv-loop μ-loop
 inside-requires c κs = search needs
-
-kept32-requires : tie.Need-kept32-requires Inv-loop μ-loop
-kept32-requires c κs = search needs
 
 returns : tie.Need-returns Inv-loop μ-loop
 returns c = search needs
@@ -41,8 +41,8 @@ untouched32-spec =
     Inv-loop
     μ-loop
     loop-holds
+    at32-requires
     inside-requires
-    kept32-requires
     returns
     add-i
     loop-less

@@ -13,11 +13,11 @@ abbrev μ-loop : tie.MeasureT-loop
 loop-holds : tie.Need-loop-holds Inv-loop μ-loop
 loop-holds c = search needs
 
+at8-requires : tie.Need-at8-requires Inv-loop μ-loop
+at8-requires c κs = search needs
+
 inside-requires : tie.Need-inside-requires Inv-loop μ-loop
 inside-requires c κs = search needs
-
-kept8-requires : tie.Need-kept8-requires Inv-loop μ-loop
-kept8-requires c κs = search needs
 
 returns : tie.Need-returns Inv-loop μ-loop
 returns c = search needs
@@ -41,8 +41,8 @@ untouched8-spec =
     Inv-loop
     μ-loop
     loop-holds
+    at8-requires
     inside-requires
-    kept8-requires
     returns
     add-i
     loop-less

@@ -7,10 +7,10 @@ use Rattle.trial.proofs.random.put_log.Statement.{statement}
 use Rattle.trial.proofs.random.put_log.Tie as tie
 
 abbrev Inv-loop : tie.InvT-loop
-Inv-loop seed₀ k n log₀ i₀ seed log i = (length seed ≡ length seed₀) × (length log ≡ length log₀)
+Inv-loop seed k n log₀ i₀ log i = (length log ≡ length log₀)
 
 abbrev μ-loop : tie.MeasureT-loop
-μ-loop seed₀ k n log₀ i₀ seed log i = n - i
+μ-loop seed k n log₀ i₀ log i = n - i
 
 loop-holds : tie.Need-loop-holds Inv-loop μ-loop
 loop-holds c = search needs
@@ -36,9 +36,6 @@ loop-again c = search needs
 same-length : tie.Need-same-length Inv-loop μ-loop
 same-length c = search needs
 
-same-length-2 : tie.Need-same-length-2 Inv-loop μ-loop
-same-length-2 c = search needs
-
 returns : tie.Need-returns Inv-loop μ-loop
 returns c = search needs
 
@@ -56,5 +53,4 @@ put-log-spec =
     loop-less
     loop-again
     same-length
-    same-length-2
     returns)

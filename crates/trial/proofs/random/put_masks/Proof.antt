@@ -7,19 +7,22 @@ use Rattle.trial.proofs.random.put_masks.Statement.{statement}
 use Rattle.trial.proofs.random.put_masks.Tie as tie
 
 abbrev Inv-loop : tie.InvT-loop
-Inv-loop seed₀ k part masks₀ p₀ seed masks p = (length seed ≡ length seed₀) × (length masks ≡ length masks₀)
+Inv-loop seed k part masks₀ i₀ masks i = (length masks ≡ length masks₀)
 
 abbrev μ-loop : tie.MeasureT-loop
-μ-loop seed₀ k part masks₀ p₀ seed masks p = 256 - p
+μ-loop seed k part masks₀ i₀ masks i = k - i
 
 loop-holds : tie.Need-loop-holds Inv-loop μ-loop
 loop-holds c = search needs
 
-relate-requires : tie.Need-relate-requires Inv-loop μ-loop
-relate-requires c κs = search needs
+mask-of-requires : tie.Need-mask-of-requires Inv-loop μ-loop
+mask-of-requires c κs = search needs
 
-add-p : tie.Need-add-p Inv-loop μ-loop
-add-p c = search needs
+put16-requires : tie.Need-put16-requires Inv-loop μ-loop
+put16-requires c κs = search needs
+
+add-i : tie.Need-add-i Inv-loop μ-loop
+add-i c = search needs
 
 loop-less : tie.Need-loop-less Inv-loop μ-loop
 loop-less c = search needs
@@ -29,9 +32,6 @@ loop-again c = search needs
 
 same-length : tie.Need-same-length Inv-loop μ-loop
 same-length c = search needs
-
-same-length-2 : tie.Need-same-length-2 Inv-loop μ-loop
-same-length-2 c = search needs
 
 returns : tie.Need-returns Inv-loop μ-loop
 returns c = search needs
@@ -43,10 +43,10 @@ put-masks-spec =
     Inv-loop
     μ-loop
     loop-holds
-    relate-requires
-    add-p
+    mask-of-requires
+    put16-requires
+    add-i
     loop-less
     loop-again
     same-length
-    same-length-2
     returns)

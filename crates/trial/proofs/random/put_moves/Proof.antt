@@ -7,16 +7,19 @@ use Rattle.trial.proofs.random.put_moves.Statement.{statement}
 use Rattle.trial.proofs.random.put_moves.Tie as tie
 
 abbrev Inv-loop : tie.InvT-loop
-Inv-loop seed₀ s k moves₀ i₀ i-end seed moves i = (length seed ≡ length seed₀) × (length moves ≡ length moves₀)
+Inv-loop seed s k moves₀ i₀ i-end moves i = (length moves ≡ length moves₀)
 
 abbrev μ-loop : tie.MeasureT-loop
-μ-loop seed₀ s k moves₀ i₀ i-end seed moves i = i-end - i
+μ-loop seed s k moves₀ i₀ i-end moves i = i-end - i
 
 times-requires : tie.Need-times-requires Inv-loop μ-loop
 times-requires c κs = search needs
 
 loop-holds : tie.Need-loop-holds Inv-loop μ-loop
 loop-holds c = search needs
+
+seed-of-requires : tie.Need-seed-of-requires Inv-loop μ-loop
+seed-of-requires c κs = search needs
 
 few-states-requires : tie.Need-few-states-requires Inv-loop μ-loop
 few-states-requires c κs = search needs
@@ -36,9 +39,6 @@ loop-again c = search needs
 same-length : tie.Need-same-length Inv-loop μ-loop
 same-length c = search needs
 
-same-length-2 : tie.Need-same-length-2 Inv-loop μ-loop
-same-length-2 c = search needs
-
 returns : tie.Need-returns Inv-loop μ-loop
 returns c = search needs
 
@@ -50,11 +50,11 @@ put-moves-spec =
     μ-loop
     times-requires
     loop-holds
+    seed-of-requires
     few-states-requires
     put32-requires
     add-i
     loop-less
     loop-again
     same-length
-    same-length-2
     returns)

@@ -5,13 +5,25 @@ use Rattle.trial_files.proofs.second_reader.asymmetric.Statement.{state
 use Rattle.trial_files.proofs.second_reader.asymmetric.Tie as tie
 
 abbrev Inv-loop : tie.InvT-loop
-Inv-loop file at k p₀ p = 0 ≤ 0
+Inv-loop file k p₀ p-end p = 0 ≤ 0
 
 abbrev μ-loop : tie.MeasureT-loop
-μ-loop file at k p₀ p = 256 - p
+μ-loop file k p₀ p-end p = p-end - p
+
+field-requires : tie.Need-field-requires Inv-loop μ-loop
+field-requires c κs = search needs
+
+times-requires : tie.Need-times-requires Inv-loop μ-loop
+times-requires c κs = search needs
 
 loop-holds : tie.Need-loop-holds Inv-loop μ-loop
 loop-holds c = search needs
+
+quotient-requires : tie.Need-quotient-requires Inv-loop μ-loop
+quotient-requires c κs = search needs
+
+rest-requires : tie.Need-rest-requires Inv-loop μ-loop
+rest-requires c κs = search needs
 
 one-way-requires : tie.Need-one-way-requires Inv-loop μ-loop
 one-way-requires c κs = search needs
@@ -37,7 +49,11 @@ asymmetric-spec =
     (tie.spec
     Inv-loop
     μ-loop
+    field-requires
+    times-requires
     loop-holds
+    quotient-requires
+    rest-requires
     one-way-requires
     returns
     add-p

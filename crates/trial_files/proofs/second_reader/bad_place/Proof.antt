@@ -5,10 +5,19 @@ use Rattle.trial_files.proofs.second_reader.bad_place.Statement.{statem
 use Rattle.trial_files.proofs.second_reader.bad_place.Tie as tie
 
 abbrev Inv-loop : tie.InvT-loop
-Inv-loop file at k n i₀ i = 0 ≤ 0
+Inv-loop file k n at i₀ i = 0 ≤ 0
 
 abbrev μ-loop : tie.MeasureT-loop
-μ-loop file at k n i₀ i = n - i
+μ-loop file k n at i₀ i = n - i
+
+field-requires : tie.Need-field-requires Inv-loop μ-loop
+field-requires c κs = search needs
+
+field-requires-2 : tie.Need-field-requires-2 Inv-loop μ-loop
+field-requires-2 c κs = search needs
+
+section-requires : tie.Need-section-requires Inv-loop μ-loop
+section-requires c κs = search needs
 
 loop-holds : tie.Need-loop-holds Inv-loop μ-loop
 loop-holds c = search needs
@@ -40,6 +49,9 @@ bad-place-spec =
     (tie.spec
     Inv-loop
     μ-loop
+    field-requires
+    field-requires-2
+    section-requires
     loop-holds
     plus-requires
     at8-requires

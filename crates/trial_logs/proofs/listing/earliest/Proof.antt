@@ -13,8 +13,14 @@ abbrev μ-loop : tie.MeasureT-loop
 loop-holds : tie.Need-loop-holds Inv-loop μ-loop
 loop-holds c = search needs
 
-earlier-row-requires : tie.Need-earlier-row-requires Inv-loop μ-loop
-earlier-row-requires c κs = search needs
+row-requires : tie.Need-row-requires Inv-loop μ-loop
+row-requires c κs = search needs
+
+row-requires-2 : tie.Need-row-requires-2 Inv-loop μ-loop
+row-requires-2 c κs = search needs
+
+earlier-requires : tie.Need-earlier-requires Inv-loop μ-loop
+earlier-requires c κs = search needs
 
 add-r : tie.Need-add-r Inv-loop μ-loop
 add-r c = search needs
@@ -31,4 +37,14 @@ returns c = search needs
 pub earliest-spec : {M : Type 1} → statement M
 earliest-spec =
     tie.close
-    (tie.spec Inv-loop μ-loop loop-holds earlier-row-requires add-r loop-less loop-again returns)
+    (tie.spec
+    Inv-loop
+    μ-loop
+    loop-holds
+    row-requires
+    row-requires-2
+    earlier-requires
+    add-r
+    loop-less
+    loop-again
+    returns)

@@ -7,16 +7,13 @@ use Rattle.trial_logs.proofs.listing.put_exchanged.Statement.{statement
 use Rattle.trial_logs.proofs.listing.put_exchanged.Tie as tie
 
 abbrev Inv-loop : tie.InvT-loop
-Inv-loop rows₀ from to n i source target j₀ rows j = (length rows ≡ length rows₀)
+Inv-loop rows₀ from to n i at j₀ rows j = (length rows ≡ length rows₀)
 
 abbrev μ-loop : tie.MeasureT-loop
-μ-loop rows₀ from to n i source target j₀ rows j = n - j
+μ-loop rows₀ from to n i at j₀ rows j = n - j
 
 row-at-requires : tie.Need-row-at-requires Inv-loop μ-loop
 row-at-requires c κs = search needs
-
-row-at-requires-2 : tie.Need-row-at-requires-2 Inv-loop μ-loop
-row-at-requires-2 c κs = search needs
 
 loop-holds : tie.Need-loop-holds Inv-loop μ-loop
 loop-holds c = search needs
@@ -24,14 +21,11 @@ loop-holds c = search needs
 exchanged-place-requires : tie.Need-exchanged-place-requires Inv-loop μ-loop
 exchanged-place-requires c κs = search needs
 
+letter-requires : tie.Need-letter-requires Inv-loop μ-loop
+letter-requires c κs = search needs
+
 plus-requires : tie.Need-plus-requires Inv-loop μ-loop
 plus-requires c κs = search needs
-
-at8-requires : tie.Need-at8-requires Inv-loop μ-loop
-at8-requires c κs = search needs
-
-plus-requires-2 : tie.Need-plus-requires-2 Inv-loop μ-loop
-plus-requires-2 c κs = search needs
 
 byte-requires : tie.Need-byte-requires Inv-loop μ-loop
 byte-requires c κs = search needs
@@ -61,12 +55,10 @@ put-exchanged-spec =
     Inv-loop
     μ-loop
     row-at-requires
-    row-at-requires-2
     loop-holds
     exchanged-place-requires
+    letter-requires
     plus-requires
-    at8-requires
-    plus-requires-2
     byte-requires
     put8-requires
     add-j

@@ -13,8 +13,11 @@ abbrev μ-loop : tie.MeasureT-loop
 loop-holds : tie.Need-loop-holds Inv-loop μ-loop
 loop-holds c = search needs
 
-beginning-requires : tie.Need-beginning-requires Inv-loop μ-loop
-beginning-requires c κs = search needs
+finishes-requires : tie.Need-finishes-requires Inv-loop μ-loop
+finishes-requires c κs = search needs
+
+one32-requires : tie.Need-one32-requires Inv-loop μ-loop
+one32-requires c κs = search needs
 
 add-q : tie.Need-add-q Inv-loop μ-loop
 add-q c = search needs
@@ -31,4 +34,13 @@ returns c = search needs
 pub beginnings-spec : {M : Type 1} → statement M
 beginnings-spec =
     tie.close
-    (tie.spec Inv-loop μ-loop loop-holds beginning-requires add-q loop-less loop-again returns)
+    (tie.spec
+    Inv-loop
+    μ-loop
+    loop-holds
+    finishes-requires
+    one32-requires
+    add-q
+    loop-less
+    loop-again
+    returns)

@@ -5,13 +5,19 @@ use Rattle.trial_logs.proofs.paths.earliest_accepted.Statement.{stateme
 use Rattle.trial_logs.proofs.paths.earliest_accepted.Tie as tie
 
 abbrev Inv-loop : tie.InvT-loop
-Inv-loop shape moves rows count n best₀ r₀ best r = 0 ≤ 0
+Inv-loop shape moves rows count n start best₀ r₀ best r = 0 ≤ 0
 
 abbrev μ-loop : tie.MeasureT-loop
-μ-loop shape moves rows count n best₀ r₀ best r = count - r
+μ-loop shape moves rows count n start best₀ r₀ best r = count - r
 
 loop-holds : tie.Need-loop-holds Inv-loop μ-loop
 loop-holds c = search needs
+
+row-requires : tie.Need-row-requires Inv-loop μ-loop
+row-requires c κs = search needs
+
+finishes-requires : tie.Need-finishes-requires Inv-loop μ-loop
+finishes-requires c κs = search needs
 
 better-requires : tie.Need-better-requires Inv-loop μ-loop
 better-requires c κs = search needs
@@ -31,4 +37,14 @@ returns c = search needs
 pub earliest-accepted-spec : {M : Type 1} → statement M
 earliest-accepted-spec =
     tie.close
-    (tie.spec Inv-loop μ-loop loop-holds better-requires add-r loop-less loop-again returns)
+    (tie.spec
+    Inv-loop
+    μ-loop
+    loop-holds
+    row-requires
+    finishes-requires
+    better-requires
+    add-r
+    loop-less
+    loop-again
+    returns)

@@ -13,8 +13,8 @@ abbrev μ-loop : tie.MeasureT-loop
 loop-holds : tie.Need-loop-holds Inv-loop μ-loop
 loop-holds c = search needs
 
-at8-requires : tie.Need-at8-requires Inv-loop μ-loop
-at8-requires c κs = search needs
+bit-requires : tie.Need-bit-requires Inv-loop μ-loop
+bit-requires c κs = search needs
 
 earlier-marked-requires : tie.Need-earlier-marked-requires Inv-loop μ-loop
 earlier-marked-requires c κs = search needs
@@ -41,7 +41,7 @@ closed-spec =
     Inv-loop
     μ-loop
     loop-holds
-    at8-requires
+    bit-requires
     earlier-marked-requires
     returns
     add-j

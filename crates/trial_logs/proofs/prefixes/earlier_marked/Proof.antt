@@ -16,8 +16,8 @@ loop-holds c = search needs
 held-requires : tie.Need-held-requires Inv-loop μ-loop
 held-requires c κs = search needs
 
-at8-requires : tie.Need-at8-requires Inv-loop μ-loop
-at8-requires c κs = search needs
+bit-requires : tie.Need-bit-requires Inv-loop μ-loop
+bit-requires c κs = search needs
 
 returns : tie.Need-returns Inv-loop μ-loop
 returns c = search needs
@@ -42,7 +42,7 @@ earlier-marked-spec =
     μ-loop
     loop-holds
     held-requires
-    at8-requires
+    bit-requires
     returns
     add-i
     loop-less

@@ -16,9 +16,6 @@ loop-holds c = search needs
 at8-requires : tie.Need-at8-requires Inv-loop μ-loop
 at8-requires c κs = search needs
 
-one-if-equal-requires : tie.Need-one-if-equal-requires Inv-loop μ-loop
-one-if-equal-requires c κs = search needs
-
 plus-requires : tie.Need-plus-requires Inv-loop μ-loop
 plus-requires c κs = search needs
 
@@ -42,7 +39,6 @@ occurrences-spec =
     μ-loop
     loop-holds
     at8-requires
-    one-if-equal-requires
     plus-requires
     add-i
     loop-less

@@ -5,25 +5,25 @@ use Rattle.trial_logs.proofs.prefixes.prefix_count.Statement.{statement
 use Rattle.trial_logs.proofs.prefixes.prefix_count.Tie as tie
 
 abbrev Inv-loop : tie.InvT-loop
-Inv-loop masks log sum₀ v₀ v-end sum v = 0 ≤ 0
+Inv-loop masks log sum₀ marks₀ sum marks = 0 ≤ 0
 
 abbrev μ-loop : tie.MeasureT-loop
-μ-loop masks log sum₀ v₀ v-end sum v = v-end - v
-
-choices-requires : tie.Need-choices-requires Inv-loop μ-loop
-choices-requires c κs = search needs
+μ-loop masks log sum₀ marks₀ sum marks = 256 - marks
 
 loop-holds : tie.Need-loop-holds Inv-loop μ-loop
 loop-holds c = search needs
 
-one-if-prefix-requires : tie.Need-one-if-prefix-requires Inv-loop μ-loop
-one-if-prefix-requires c κs = search needs
+closed-requires : tie.Need-closed-requires Inv-loop μ-loop
+closed-requires c κs = search needs
+
+shr-if1 : tie.Need-shr-if1 Inv-loop μ-loop
+shr-if1 c = search needs
 
 plus-requires : tie.Need-plus-requires Inv-loop μ-loop
 plus-requires c κs = search needs
 
-add-v : tie.Need-add-v Inv-loop μ-loop
-add-v c = search needs
+add-marks : tie.Need-add-marks Inv-loop μ-loop
+add-marks c = search needs
 
 loop-less : tie.Need-loop-less Inv-loop μ-loop
 loop-less c = search needs
@@ -40,11 +40,11 @@ prefix-count-spec =
     (tie.spec
     Inv-loop
     μ-loop
-    choices-requires
     loop-holds
-    one-if-prefix-requires
+    closed-requires
+    shr-if1
     plus-requires
-    add-v
+    add-marks
     loop-less
     loop-again
     returns)

@@ -7,10 +7,10 @@ use Rattle.trial_logs.proofs.prefixes.take_events.Statement.{statement}
 use Rattle.trial_logs.proofs.prefixes.take_events.Tie as tie
 
 abbrev Inv-loop : tie.InvT-loop
-Inv-loop log marks kind out₀ n₀ i₀ i-end out n i = (length out ≡ length out₀)
+Inv-loop log marks marked out₀ n₀ i₀ i-end out n i = (length out ≡ length out₀)
 
 abbrev μ-loop : tie.MeasureT-loop
-μ-loop log marks kind out₀ n₀ i₀ i-end out n i = i-end - i
+μ-loop log marks marked out₀ n₀ i₀ i-end out n i = i-end - i
 
 loop-holds : tie.Need-loop-holds Inv-loop μ-loop
 loop-holds c = search needs

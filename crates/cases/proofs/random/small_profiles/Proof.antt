@@ -1,0 +1,62 @@
+-- `cases::random::small_profiles` is safe and ends.
+use borrow.Author.Needs.{needs}
+use Prim.Native.Nat.{_≤_, _-_}
+use Rattle.cases.proofs.random.small_profiles.Statement.{statement}
+use Rattle.cases.proofs.random.small_profiles.Tie as tie
+
+abbrev Inv-loop : tie.InvT-loop
+Inv-loop seed many u₀ i₀ u i = 0 ≤ 0
+
+abbrev μ-loop : tie.MeasureT-loop
+μ-loop seed many u₀ i₀ u i = many - i
+
+loop-holds : tie.Need-loop-holds Inv-loop μ-loop
+loop-holds c = search needs
+
+seed-of-requires : tie.Need-seed-of-requires Inv-loop μ-loop
+seed-of-requires c κs = search needs
+
+below-requires : tie.Need-below-requires Inv-loop μ-loop
+below-requires c κs = search needs
+
+plus-requires : tie.Need-plus-requires Inv-loop μ-loop
+plus-requires c κs = search needs
+
+below-requires-2 : tie.Need-below-requires-2 Inv-loop μ-loop
+below-requires-2 c κs = search needs
+
+plus-requires-2 : tie.Need-plus-requires-2 Inv-loop μ-loop
+plus-requires-2 c κs = search needs
+
+random-profile-requires : tie.Need-random-profile-requires Inv-loop μ-loop
+random-profile-requires c κs = search needs
+
+add-i : tie.Need-add-i Inv-loop μ-loop
+add-i c = search needs
+
+loop-less : tie.Need-loop-less Inv-loop μ-loop
+loop-less c = search needs
+
+loop-again : tie.Need-loop-again Inv-loop μ-loop
+loop-again c = search needs
+
+returns : tie.Need-returns Inv-loop μ-loop
+returns c = search needs
+
+pub small-profiles-spec : {M : Type 1} → statement M
+small-profiles-spec =
+    tie.close
+    (tie.spec
+    Inv-loop
+    μ-loop
+    loop-holds
+    seed-of-requires
+    below-requires
+    plus-requires
+    below-requires-2
+    plus-requires-2
+    random-profile-requires
+    add-i
+    loop-less
+    loop-again
+    returns)

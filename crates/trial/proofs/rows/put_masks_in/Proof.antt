@@ -1,0 +1,60 @@
+-- `trial::rows::put_masks_in` is safe and ends.
+use borrow.Author.Needs.{needs}
+use Prim.Native.Nat.{_-_}
+use mathlib.Core.Path.{_≡_}
+use lib.ListN.{length}
+use Rattle.trial.proofs.rows.put_masks_in.Statement.{statement}
+use Rattle.trial.proofs.rows.put_masks_in.Tie as tie
+
+abbrev Inv-loop : tie.InvT-loop
+Inv-loop row masks₀ i₀ i-end masks i = (length masks ≡ length masks₀)
+
+abbrev μ-loop : tie.MeasureT-loop
+μ-loop row masks₀ i₀ i-end masks i = i-end - i
+
+digit-requires : tie.Need-digit-requires Inv-loop μ-loop
+digit-requires c κs = search needs
+
+loop-holds : tie.Need-loop-holds Inv-loop μ-loop
+loop-holds c = search needs
+
+plus-requires : tie.Need-plus-requires Inv-loop μ-loop
+plus-requires c κs = search needs
+
+digit16-requires : tie.Need-digit16-requires Inv-loop μ-loop
+digit16-requires c κs = search needs
+
+put16-requires : tie.Need-put16-requires Inv-loop μ-loop
+put16-requires c κs = search needs
+
+add-i : tie.Need-add-i Inv-loop μ-loop
+add-i c = search needs
+
+loop-less : tie.Need-loop-less Inv-loop μ-loop
+loop-less c = search needs
+
+loop-again : tie.Need-loop-again Inv-loop μ-loop
+loop-again c = search needs
+
+same-length : tie.Need-same-length Inv-loop μ-loop
+same-length c = search needs
+
+returns : tie.Need-returns Inv-loop μ-loop
+returns c = search needs
+
+pub put-masks-in-spec : {M : Type 1} → statement M
+put-masks-in-spec =
+    tie.close
+    (tie.spec
+    Inv-loop
+    μ-loop
+    digit-requires
+    loop-holds
+    plus-requires
+    digit16-requires
+    put16-requires
+    add-i
+    loop-less
+    loop-again
+    same-length
+    returns)
