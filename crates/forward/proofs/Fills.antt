@@ -18,7 +18,7 @@ use Rattle.theory.proofs.Levels.{by-total-length}
 use Rattle.profile.proofs.Lists.{filter-no, filter-yes, test}
 use Rattle.theory.proofs.Looks.{looks-by-total, pairs-append, pairs-cons}
 use Rattle.theory.proofs.Prefixes.{addable?}
-use Rattle.merge.specs.Merge.{seek-from, started}
+use Rattle.cursors.specs.Cursors.{seek-from, started}
 use Rattle.theory.proofs.Fronts.{front-whole}
 use Rattle.forward.specs.Forward.{Forward, Ready}
 use Rattle.forward.specs.Merging.{Begun, Grows, Merging, Placed, Steps, begun, pairs, records-between, totals}

@@ -11,7 +11,8 @@ use Rattle.profile.specs.Tables.{layout, record-length}
 use Rattle.profile.specs.Traces.{independent}
 use Rattle.profile.proofs.Lists.{mem-getD}
 use Rattle.letters.specs.Letters.{letters-by}
-use Rattle.merge.specs.Merge.{advanced, givers, least-of, united}
+use Rattle.cursors.specs.Cursors.{advanced}
+use Rattle.merge.specs.Merge.{givers, least-of, united}
 use Rattle.records.specs.Records.{put-record}
 use Rattle.forward.specs.Forward.{Ready}
 use Rattle.forward.specs.Merging.{Merging, Placed, Steps, begun, records-between, totals}

@@ -20,8 +20,10 @@ use Rattle.theory.proofs.Prefixes.{addable?}
 use Rattle.theory.proofs.Profiles.{lawful}
 use Rattle.theory.proofs.SetLoops.{passing-bit}
 use Rattle.counts.proofs.Packed.{Small}
-use Rattle.merge.specs.Merge.{advanced, givers, least-of, started, united}
-use Rattle.merge.proofs.Levels.{level-advanced, level-least, level-least-none, level-letters, level-started, level-united}
+use Rattle.cursors.specs.Cursors.{advanced, started}
+use Rattle.cursors.proofs.Levels.{level-advanced, level-started}
+use Rattle.merge.specs.Merge.{givers, least-of, united}
+use Rattle.merge.proofs.Levels.{level-least, level-least-none, level-letters, level-united}
 use Rattle.forward.specs.Forward.{Ready}
 use Rattle.forward.specs.Merging.{Placed}
 use Rattle.forward.proofs.Totals.{apart, counted}
@@ -99,8 +101,7 @@ module _ {p : Profile} {w : List ℕ} {m room : ℕ} {starts places : List ℕ} 
       pub next-placed : Placed p w n (suc j) (advanced (p .k) t cursors (givers t (p .k) cursors))
       next-placed x h =
           subst (Cursor C add x (drop (suc j) E))
-          (sym (level-advanced (forward-set p w) (letters-set p w) C t written (p .k) (r .profile .relation .most) sizes cursors stands e
-          (counted r (suc n) e in-next .0) (counted r (suc n) e in-next .1) (givers t (p .k) cursors) next-letters add bits long x h))
+          (sym (level-advanced (forward-set p w) (letters-set p w) C t written (p .k) add bits cursors e (givers t (p .k) cursors) next-letters long x h))
           (cursor-next grown (take j E) e (drop (suc j) E) (split-at E j [] lt) x (at cursors x) h (cursor-at x h))
 
     -- the cursors give no counts exactly where all prefixes of the next total have come

@@ -13,7 +13,8 @@ use Rattle.theory.proofs.Looks.{pairs-in}
 use Rattle.theory.proofs.Merge.{Cursor, extends?}
 use Rattle.counts.specs.Counts.{words}
 use Rattle.events.specs.Events.{all-keepers}
-use Rattle.merge.specs.Merge.{advanced, givers, least-of, united}
+use Rattle.cursors.specs.Cursors.{advanced}
+use Rattle.merge.specs.Merge.{givers, least-of, united}
 use Rattle.steps.specs.Rows.{by-letter}
 use Rattle.forward.specs.declared.Merged.{Merged}
 use Rattle.forward.specs.declared.Merged.the-variants as merged

@@ -8,7 +8,7 @@ ghost use Rattle.profile.specs.Tables.{layout, record-length};
 ghost use Rattle.profile.specs.Traces.{independent};
 ghost use Rattle.counts.specs.Counts.{words};
 ghost use Rattle.events.specs.Events.{all-keepers};
-ghost use Rattle.merge.specs.Merge.{started};
+ghost use Rattle.cursors.specs.Cursors.{started};
 ghost use Rattle.records.specs.Records.{put-record};
 ghost use Rattle.steps.specs.Rows.{by-letter};
 ghost use Rattle.forward.specs.Forward.{Forward, Ready};
@@ -97,7 +97,7 @@ fn next_counts(
         Least::Nothing => Next::Nothing,
         Least::At(c, set) => {
             let forward = merge::unite(level, moves, rows, k, s, cursors, set);
-            merge::advance(level, k, cursors, set);
+            cursors::advance(level, k, cursors, set);
             Next::At(c, forward)
         }
     }
@@ -159,7 +159,7 @@ fn first_cursors(table: &[u32], part: Part, k: usize) -> [usize; 16]
     let start = RECORD * part.from;
     let end = RECORD * part.first;
     let mut cursors = [0usize; 16];
-    merge::start_cursors(&table[start..end], k, &mut cursors);
+    cursors::start_cursors(&table[start..end], k, &mut cursors);
     cursors
 }
 

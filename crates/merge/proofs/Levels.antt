@@ -1,19 +1,18 @@
--- A total's part of the table, as the list of its counts: what the search, the least, the choice and the union of the code are over that list. C has the
--- counts of the total, in any order, and g c is the set of the letters x with `add x c`.
+-- A total's part of the table, as the list of its counts: what the least, the choice and the union of the code are over that list. C has the counts of
+-- the total, in any order.
 use mathlib.Core.Path.{_≡_, refl, sym, _∙_, ap, ap₂, subst}
 use mathlib.Core.Bool.{Bool, true, false, _&&_, not, cond}
 use mathlib.Core.Logic.{_⊎_, inl, inr, ⊎-elim}
-use mathlib.Core.List.{List, [], _∷_, _++_, append-nil}
+use mathlib.Core.List.{List, []}
 use mathlib.Core.Option.{Option, none, some, Option·some-injective}
-use Prim.Native.Nat.{ℕ, zero, suc, _+_, _-_, _^_, _≤_, _<_}
+use Prim.Native.Nat.{ℕ, zero, suc, _^_, _≤_, _<_}
 use native.Mathlib.Numerals.{add-one}
 use native.Mathlib.Omega.{arith}
 use borrow.Author.Tests.{le-ltb, lt-ltb}
 use lib.Bits.{bitOr, or-zero-l}
 use lib.Dec.{T, not-T}
-use lib.ListN.{length, getD, drop, drop-of-length-le, length-set}
-use lib.Seq.{drop-cons}
-use Rattle.profile.specs.Lists.{Mem, below, equal?, filter, first-place, flat-map, range}
+use lib.ListN.{length, getD, length-set}
+use Rattle.profile.specs.Lists.{Mem, below, equal?, filter, flat-map}
 use Rattle.profile.specs.Orders.{NoLater, no-later?}
 use Rattle.profile.specs.Traces.{bit}
 use Rattle.profile.specs.Automata.{forward-step, union}
@@ -22,64 +21,34 @@ use Rattle.profile.specs.Tables.{layout, packed}
 use Rattle.profile.proofs.Lists.{below-at, equal-test, filter-agree, filter-at, filter-none, is-false, is-true, lt-or-le, mem-getD, test}
 use Rattle.theory.proofs.Earliest.{ge-of-test, no-later-antisym, no-later-of-test}
 use Rattle.theory.proofs.Levels.{bump}
-use Rattle.theory.proofs.Merge.{hits, hits-at, seek}
+use Rattle.theory.proofs.Merge.{hits, hits-at}
 use Rattle.counts.specs.Counts.{add-count, before?}
 use Rattle.counts.proofs.Packed.{Small, add-packed, before-packed, same-packed}
-use Rattle.records.specs.Records.{forward-at, last-at, records-in}
-use Rattle.records.proofs.Drafts.{counts-of-draft, forward-of-draft, last-of-draft, records-of-drafts}
-use Rattle.merge.specs.Merge.{advanced, better, candidate, givers, grown, joined, least-of, moved-on, seek-from, started, united}
-use Rattle.merge.proofs.Cursors.{better-none}
-use Rattle.theory.proofs.Fronts.{front-at}
+use Rattle.records.specs.Records.{forward-at, records-in}
+use Rattle.records.proofs.Drafts.{counts-of-draft, forward-of-draft}
+use Rattle.cursors.proofs.Levels.{level-records, level-whole}
+use Rattle.merge.specs.Merge.{better, candidate, givers, grown, joined, least-of, united}
+use Rattle.merge.proofs.Givers.{better-none}
 use Rattle.theory.proofs.SetLoops.{union-next}
 use Rattle.profile.proofs.Sets.{union-agree}
 use Rattle.records.specs.Drafts.{draft}
 
--- two searches that agree at the first elements and behind them
-first-agree : {A B : Type 0} (p : A → Bool) (q : B → Bool) (a : A) (b : B) (l : List A) (m : List B) (c : Bool)
-    → p a ≡ c → q b ≡ c → first-place p l ≡ first-place q m → first-place p (a ∷ l) ≡ first-place q (b ∷ m)
-first-agree p q a b l m true e d h = rw (e, d, first-place)
-first-agree p q a b l m false e d h = rw (e, d, first-place) (ap suc h)
-
 module _ (f g : List ℕ → ℕ) (C : List (List ℕ)) (t : List ℕ) (drafts : t ≡ flat-map (draft f g) C) where
-  whole : t ≡ flat-map (draft f g) C ++ []
-  whole = drafts ∙ sym (append-nil (flat-map (draft f g) C))
-
-  pub level-records : records-in t ≡ length C
-  level-records = records-of-drafts f g C t [] whole (omega arith)
-
-  -- ---- the search, where the last number of a record says which letters can be added
-  module _ (k : ℕ) (add : ℕ → List ℕ → Bool) (bits : (c : List ℕ) (x : ℕ) → Mem c C → x < k → bit (g c) x ≡ add x c) where
-    pub level-seek : (j x : ℕ) → x < k → j ≤ length C → seek-from t j x ≡ seek (add x) C j
-    level-seek j x h le =
-        ap (λ n. j + first-place (λ i. bit (last-at t i) x) (range j (n - j))) level-records ∙ ap (λ n. j + n) (go (length C - j) j (omega arith))
-      where
-        go : (n j : ℕ) → j + n ≡ length C → first-place (λ i. bit (last-at t i) x) (range j n) ≡ first-place (add x) (drop j C)
-        go zero j e = sym (ap (first-place (add x)) (drop-of-length-le C {i = j} (omega arith)))
-        go (suc n) j e =
-            let lt : j < length C = omega arith in
-            let d : bit (last-at t j) x ≡ add x (getD C j []) =
-            ap (λ s. bit s x) (last-of-draft f g C t [] whole j lt) ∙ bits (getD C j []) x (mem-getD C j [] lt) h in
-            first-agree (λ i. bit (last-at t i) x) (add x) j (getD C j []) (range (suc j) n) (drop (suc j) C) (add x (getD C j [])) d refl (go n (suc j) (omega arith))
-            ∙ ap (first-place (add x)) (sym (drop-cons C j [] lt))
-
-    pub level-started : (cs : List ℕ) → k ≤ length cs → (x : ℕ) → x < k → at (started k t cs) x ≡ seek (add x) C 0
-    level-started cs le x h = front-at (seek-from t 0) cs k le x h ∙ level-seek 0 x h (omega arith)
-
   -- ---- what a cursor that is not at the end gives
   module _ (cs : List ℕ) (x : ℕ) where
     candidate-end : length C ≤ at cs x → candidate t (at cs x) x ≡ none
-    candidate-end le = ap (λ b. cond b (some (grown t (at cs x) x)) none) (le-ltb (at cs x) (records-in t) (omega (arith, level-records)))
+    candidate-end le = ap (λ b. cond b (some (grown t (at cs x) x)) none) (le-ltb (at cs x) (records-in t) (omega (arith, level-records f g C t drafts)))
 
     -- the counts at the cursor have a letter x, and one more keeps each count in its bits
     module _ (lt : at cs x < length C) (h : x < length (getD C (at cs x) [])) (few : length (getD C (at cs x) []) ≤ 16)
         (small : Small layout (bump (getD C (at cs x) []) x)) where
       given : grown t (at cs x) x ≡ packed layout (bump (getD C (at cs x) []) x)
       given =
-          ap (λ w. add-count layout w x) (counts-of-draft f g C t [] whole (at cs x) lt) ∙ add-packed layout (getD C (at cs x) []) x refl h few small
+          ap (λ w. add-count layout w x) (counts-of-draft f g C t [] (level-whole f g C t drafts) (at cs x) lt) ∙ add-packed layout (getD C (at cs x) []) x refl h few small
 
       candidate-given : candidate t (at cs x) x ≡ some (packed layout (bump (getD C (at cs x) []) x))
       candidate-given =
-          ap (λ b. cond b (some (grown t (at cs x) x)) none) (lt-ltb (at cs x) (records-in t) (omega (arith, level-records))) ∙ ap (λ w. some w) given
+          ap (λ b. cond b (some (grown t (at cs x) x)) none) (lt-ltb (at cs x) (records-in t) (omega (arith, level-records f g C t drafts))) ∙ ap (λ w. some w) given
 
       same-given : (e : List ℕ) → length e ≡ length (getD C (at cs x) []) → Small layout e
           → equal? (packed layout (bump (getD C (at cs x) []) x)) (packed layout e) ≡ hits C x e (at cs x)
@@ -111,18 +80,7 @@ module _ (f g : List ℕ → ℕ) (C : List (List ℕ)) (t : List ℕ) (drafts :
         (filter (λ x. hits C x e (at cs x)) (below k))
         (λ x m.
         let n = filter-at (λ x. hits C x e (at cs x)) (below k) m in
-        ap (λ S. forward-step k s moves S x) (forward-of-draft f g C t [] whole (at cs x) (hits-at C x e (at cs x) (n .1) .0)))
-
-    -- and their cursors move on
-    pub level-advanced : (G : ℕ) → ((x : ℕ) → x < k → bit G x ≡ hits C x e (at cs x)) → (add : ℕ → List ℕ → Bool) → ((c : List ℕ) (x : ℕ) → Mem c C → x < k → bit (g c) x ≡ add x c) → k ≤ length cs → (x : ℕ) → x < k
-        → at (advanced k t cs G) x ≡ cond (hits C x e (at cs x)) (seek (add x) C (suc (at cs x))) (at cs x)
-    level-advanced G agree add bits le x h =
-        front-at (λ y. moved-on t (at cs y) y G) cs k le x h
-        ∙ ap (λ b. cond b (seek-from t (suc (at cs x)) x) (at cs x)) (agree x h) ∙ go (hits C x e (at cs x)) refl
-      where
-        go : (b : Bool) → hits C x e (at cs x) ≡ b → cond b (seek-from t (suc (at cs x)) x) (at cs x) ≡ cond b (seek (add x) C (suc (at cs x))) (at cs x)
-        go true q = level-seek k add bits (suc (at cs x)) x h (hits-at C x e (at cs x) (subst T (sym q) tt) .0)
-        go false q = refl
+        ap (λ S. forward-step k s moves S x) (forward-of-draft f g C t [] (level-whole f g C t drafts) (at cs x) (hits-at C x e (at cs x) (n .1) .0)))
 
     -- no cursor gives counts that are earlier than e
     module _ (later : (x : ℕ) → x < k → at cs x < length C → NoLater e (bump (getD C (at cs x) []) x)) where

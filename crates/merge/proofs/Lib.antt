@@ -1,4 +1,3 @@
 -- Laws about the merge; other crates cite them.
-pub mod Cursors
+pub mod Givers
 pub mod Levels
-pub mod Moving

@@ -1,25 +1,20 @@
--- The step from one total to the next, by a merge: t is the part of the table with the records of one total, in the order of their counts, the last number
--- of each the set of letters that can be added; cs has a cursor for each letter, the index of a record of t.
+-- The step from one total to the next, by a merge: t is the part of the table with the records of one total, in the order of their counts; cs has a cursor
+-- for each letter, the index of a record of t.
 use mathlib.Core.Bool.{cond}
-use mathlib.Core.List.{List, _++_, map}
+use mathlib.Core.List.{List}
 use mathlib.Core.Option.{Option, none, some}
-use Prim.Native.Nat.{ℕ, zero, suc, _+_, _-_, _^_, _<_}
+use Prim.Native.Nat.{ℕ, zero, suc, _^_}
 use lib.Bits.{bitOr}
-use lib.Dec.{T, ltb}
-use lib.ListN.{drop}
-use Rattle.profile.specs.Lists.{below, equal?, filter, first-place, range}
+use lib.Dec.{ltb}
+use Rattle.profile.specs.Lists.{below, equal?, filter}
 use Rattle.profile.specs.Traces.{bit}
 use Rattle.profile.specs.Automata.{forward-step, union}
 use Rattle.profile.specs.Prefixes.{at}
 use Rattle.profile.specs.Tables.{layout}
 use Rattle.counts.specs.Counts.{add-count, before?, words}
-use Rattle.records.specs.Records.{counts-at, forward-at, last-at, records-in}
+use Rattle.records.specs.Records.{counts-at, forward-at, records-in}
 use Rattle.merge.specs.declared.Least.{Least}
 use Rattle.merge.specs.declared.Least.the-variants.{Nothing, At}
-
--- the first record from j on to which letter x can be added; the number of records where there is none
-abbrev pub seek-from : List ℕ → ℕ → ℕ → ℕ
-seek-from t j x = j + first-place (λ i. bit (last-at t i) x) (range j (records-in t - j))
 
 -- the counts of record j with one x more
 abbrev pub grown : List ℕ → ℕ → ℕ → List ℕ
@@ -59,21 +54,6 @@ abbrev pub least-letters : Least → ℕ
 least-letters Nothing = 0
 least-letters (At c S) = S
 
--- the cursor of each letter of G is at a record
-abbrev pub Given : ℕ → List ℕ → List ℕ → ℕ → Type 0
-Given k t cs G = (x : ℕ) → x < k → T (bit G x) → at cs x < records-in t
-
 -- the union, over the letters of G, of the states to which the letter leads from the forward set of the record at its cursor
 abbrev pub united : ℕ → ℕ → List ℕ → List ℕ → List ℕ → ℕ → ℕ
 united k s moves t cs G = union (λ x. forward-step k s moves (forward-at t (at cs x)) x) (filter (bit G) (below k))
-
--- the cursors, where those of the letters of G have moved on to the next record to which their letter can be added
-abbrev pub moved-on : List ℕ → ℕ → ℕ → ℕ → ℕ
-moved-on t j x G = cond (bit G x) (seek-from t (suc j) x) j
-
-abbrev pub advanced : ℕ → List ℕ → List ℕ → ℕ → List ℕ
-advanced k t cs G = map (λ x. moved-on t (at cs x) x G) (below k) ++ drop k cs
-
--- the cursors at the first record to which their letter can be added
-abbrev pub started : ℕ → List ℕ → List ℕ → List ℕ
-started k t cs = map (seek-from t 0) (below k) ++ drop k cs

@@ -1,51 +1,13 @@
-// From one total to the next: the records of a total by a merge of those of the total before, with one cursor for each letter.
+// From one total to the next: the least counts that the cursors of a total give, with the letters that give them, and the states that these lead to.
 ghost use mathlib.Core.Path.{_≡_};
 ghost use mathlib.Core.Option.{some};
 ghost use Prim.Native.Nat.{_≤_, _<_};
 ghost use lib.ListN.{length};
-ghost use Rattle.profile.specs.Traces.{bit};
 ghost use Rattle.counts.specs.Counts.{words};
-ghost use Rattle.records.specs.Records.{records-in};
 ghost use Rattle.steps.specs.Rows.{by-letter};
-ghost use Rattle.merge.specs.Merge.{Given, advanced, better, candidate, givers, joined, least-letters, least-of, least-words, seek-from, started, united};
+ghost use Rattle.cursors.specs.Cursors.{Given};
+ghost use Rattle.merge.specs.Merge.{better, candidate, givers, joined, least-letters, least-of, least-words, united};
 use counts::Counts;
-
-// Letter x is in the set.
-fn has_letter(set: u32, x: usize) -> bool
-    requires { ⌜ x < 32 ⌝ }
-    ensures { λ r. ⌜ r ≡ bit set x ⌝ }
-{
-    (set >> x) & 1 == 1
-}
-
-// The first record from `from` on to which letter x can be added; the number of records where there is none.
-fn seek(level: &[u32], from: usize, x: usize) -> usize
-    requires { ⌜ (from ≤ records-in (now level)) × (x < 32) ⌝ }
-    ensures { λ r. ⌜ r ≡ seek-from (now (level .entry)) from x ⌝ }
-{
-    let n = records::records_in(level);
-    let mut j = from;
-    while j < n {
-        if has_letter(records::last_at(level, j), x) {
-            return j;
-        }
-        j += 1;
-    }
-    j
-}
-
-// Puts the cursor of each letter at the first record to which the letter can be added.
-pub fn start_cursors(level: &[u32], k: usize, cursors: &mut [usize])
-    requires { ⌜ (k ≤ 16) × (k ≤ length (now cursors)) ⌝ }
-    ensures { λ _. ⌜ now (cursors .exit) ≡ started k (now (level .entry)) (now (cursors .entry)) ⌝ }
-{
-    let mut x = 0;
-    while x < k {
-        let first = seek(level, 0, x);
-        cursors[x] = first;
-        x += 1;
-    }
-}
 
 // The least counts that a cursor gives, and the letters whose cursors give them; none where every cursor is at the end.
 pub enum Least {
@@ -129,21 +91,4 @@ pub fn unite(
         rest = rest & (rest - 1);
     }
     out
-}
-
-// Moves the cursors of a set of letters on to the next record to which their letter can be added, from the lowest letter on.
-pub fn advance(level: &[u32], k: usize, cursors: &mut [usize], set: u32)
-    requires { ⌜ (k ≤ 16) × (k ≤ length (now cursors)) ⌝ }
-    requires { ⌜ Given k (now level) (now cursors) set ⌝ }
-    ensures { λ _. ⌜ now (cursors .exit) ≡ advanced k (now (level .entry)) (now (cursors .entry)) set ⌝ }
-{
-    let mut left = set;
-    while left != 0 {
-        let x = u32::trailing_zeros(left) as usize;
-        if x < k {
-            let next = seek(level, cursors[x] + 1, x);
-            cursors[x] = next;
-        }
-        left = left & (left - 1);
-    }
 }

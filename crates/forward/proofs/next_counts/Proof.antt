@@ -3,8 +3,9 @@ use mathlib.Core.Path.{sym, _∙_, ap, subst}
 use lib.Dec.{T}
 use borrow.Author.Needs.{needs}
 use Rattle.profile.specs.Traces.{bit}
-use Rattle.merge.specs.Merge.{advanced, least-letters, least-words, united}
-use Rattle.merge.proofs.Cursors.{givers-inside}
+use Rattle.cursors.specs.Cursors.{advanced}
+use Rattle.merge.specs.Merge.{least-letters, least-words, united}
+use Rattle.merge.proofs.Givers.{givers-inside}
 use Rattle.forward.proofs.next_counts.Statement.{statement}
 use Rattle.forward.proofs.next_counts.Tie as tie
 

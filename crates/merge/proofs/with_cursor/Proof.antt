@@ -8,7 +8,7 @@ use Rattle.profile.specs.Tables.{layout}
 use Rattle.counts.specs.Counts.{add-count}
 use Rattle.records.specs.Records.{records-in}
 use Rattle.merge.specs.Merge.{better, grown, joined, least-letters, least-words}
-use Rattle.merge.proofs.Cursors.{better-none}
+use Rattle.merge.proofs.Givers.{better-none}
 use borrow.Author.Needs.{needs}
 use Rattle.merge.proofs.with_cursor.Statement.{statement}
 use Rattle.merge.proofs.with_cursor.Tie as tie

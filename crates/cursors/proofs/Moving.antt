@@ -18,7 +18,7 @@ use Rattle.profile.proofs.Sets.{not-in-none}
 use Rattle.theory.proofs.Counting.{length-range}
 use Rattle.theory.proofs.Fronts.{front-at, front-whole}
 use Rattle.theory.proofs.SetLoops.{rest-first, rest-in, rest-other, rest-without}
-use Rattle.merge.specs.Merge.{advanced, moved-on, seek-from}
+use Rattle.cursors.specs.Cursors.{advanced, moved-on, seek-from}
 
 module _ (t : List ℕ) (k : ℕ) (cs : List ℕ) (G : ℕ) where
   -- where the cursor of letter y goes

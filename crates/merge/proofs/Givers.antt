@@ -1,40 +1,22 @@
--- Cursors: the search for the next record, for loops, and the letters whose cursors give the least counts.
-use mathlib.Core.Path.{_≡_, refl, sym, _∙_, ap, subst}
+-- The letters whose cursors give the least counts.
+use mathlib.Core.Path.{_≡_, refl, sym, subst}
 use mathlib.Core.Bool.{Bool, true, false, cond}
 use mathlib.Core.Logic.{_⊎_, inl, inr, ⊎-elim}
 use mathlib.Core.Option.{Option, none, some}
 use mathlib.Core.List.{List}
-use Prim.Native.Nat.{ℕ, zero, suc, _+_, _-_, _^_, _≤_, _<_}
-use native.Mathlib.Omega.{arith}
-use native.Mathlib.Numerals.{add-one}
+use Prim.Native.Nat.{ℕ, zero, suc, _^_, _<_}
 use lib.Bits.{bitOr}
 use lib.Dec.{T, ltb, ltb→lt}
-use Rattle.profile.specs.Lists.{equal?, first-place, range}
+use Rattle.profile.specs.Lists.{equal?}
 use Rattle.profile.specs.Traces.{bit}
 use Rattle.profile.specs.Prefixes.{at}
 use Rattle.profile.specs.Tables.{layout}
 use Rattle.profile.proofs.Lists.{either}
 use Rattle.profile.proofs.Sets.{bit-or, bit-single, not-in-none}
 use Rattle.counts.specs.Counts.{before?}
-use Rattle.records.specs.Records.{last-at, records-in}
-use Rattle.merge.specs.Merge.{better, givers, grown, joined, least-of, seek-from}
+use Rattle.records.specs.Records.{records-in}
+use Rattle.merge.specs.Merge.{better, givers, grown, joined, least-of}
 
--- ---- the search: record j is the one, or the search goes on at the next, or j is the end
-module _ (t : List ℕ) (j x : ℕ) where
-  left : j < records-in t → records-in t - j ≡ suc (records-in t - suc j)
-  left h = omega arith
-
-  pub seek-here : j < records-in t → bit (last-at t j) x ≡ true → seek-from t j x ≡ j
-  seek-here h e = ap (λ n. j + first-place (λ i. bit (last-at t i) x) (range j n)) (left h) ∙ rw (e, first-place) (omega arith)
-
-  pub seek-on : j < records-in t → bit (last-at t j) x ≡ false → seek-from t j x ≡ seek-from t (j + 1) x
-  seek-on h e =
-      ap (λ n. j + first-place (λ i. bit (last-at t i) x) (range j n)) (left h) ∙ rw (e, first-place, add-one j) (omega arith)
-
-  pub seek-none : records-in t ≤ j → seek-from t j x ≡ j
-  seek-none h = let e : records-in t - j ≡ 0 = omega arith in ap (λ n. j + first-place (λ i. bit (last-at t i) x) (range j n)) e ∙ omega arith
-
--- ---- the letters whose cursors give the least counts
 pub better-none : (o : Option (List ℕ)) → better o none ≡ o
 better-none none = refl
 better-none (some b) = refl

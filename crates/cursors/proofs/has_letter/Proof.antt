@@ -1,7 +1,8 @@
+-- `cursors::has_letter` meets its contract.
 use Rattle.profile.proofs.Sets.{shift-mask}
 use borrow.Author.Needs.{needs}
-use Rattle.merge.proofs.has_letter.Statement.{statement}
-use Rattle.merge.proofs.has_letter.Tie as tie
+use Rattle.cursors.proofs.has_letter.Statement.{statement}
+use Rattle.cursors.proofs.has_letter.Tie as tie
 
 cast-result : tie.Need-cast-result
 cast-result c = search needs

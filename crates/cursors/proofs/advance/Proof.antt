@@ -1,4 +1,4 @@
--- `merge::advance` meets its contract. The loop's invariant: the cursors of the letters that are left have not moved, those of the others have.
+-- `cursors::advance` meets its contract. The loop's invariant: the cursors of the letters that are left have not moved, those of the others have.
 -- The measure is the set of the letters that are left, as a number.
 use Prim.Native.Nat.{suc, _-_, _<_}
 use mathlib.Core.Path.{_≡_, sym, _∙_, ap, subst}
@@ -9,11 +9,11 @@ use lib.Bits.{bitAnd, and-le-r}
 use lib.Count.{trailing-le, trailingZeros}
 use Rattle.profile.specs.Prefixes.{at}
 use Rattle.records.specs.Records.{records-in}
-use Rattle.merge.specs.Merge.{seek-from}
-use Rattle.merge.proofs.Moving.{Moving, moving-end, moving-from, moving-in, moving-next, moving-skip, moving-start}
+use Rattle.cursors.specs.Cursors.{seek-from}
+use Rattle.cursors.proofs.Moving.{Moving, moving-end, moving-from, moving-in, moving-next, moving-skip, moving-start}
 use borrow.Author.Needs.{needs}
-use Rattle.merge.proofs.advance.Statement.{statement}
-use Rattle.merge.proofs.advance.Tie as tie
+use Rattle.cursors.proofs.advance.Statement.{statement}
+use Rattle.cursors.proofs.advance.Tie as tie
 
 abbrev Inv-loop : tie.InvT-loop
 Inv-loop level k cursors₀ set left₀ cursors left = Moving level k cursors₀ set left cursors

@@ -1,14 +1,14 @@
--- `merge::start_cursors` meets its contract. The loop's invariant: the cursors of the letters below `x` stand at their first record, the others are as before. The measure is what is
+-- `cursors::start_cursors` meets its contract. The loop's invariant: the cursors of the letters below `x` stand at their first record, the others are as before. The measure is what is
 -- left of `k`.
 use Prim.Native.Nat.{ℕ, _-_, _≤_, _<_}
 use mathlib.Core.Path.{_≡_, refl, _∙_, ap, ap₂}
 use native.Mathlib.Omega.{arith}
 use lib.ListN.{length, length-set, set}
-use Rattle.merge.specs.Merge.{seek-from, started}
+use Rattle.cursors.specs.Cursors.{seek-from, started}
 use Rattle.theory.proofs.Fronts.{front-put}
 use borrow.Author.Needs.{needs}
-use Rattle.merge.proofs.start_cursors.Statement.{statement}
-use Rattle.merge.proofs.start_cursors.Tie as tie
+use Rattle.cursors.proofs.start_cursors.Statement.{statement}
+use Rattle.cursors.proofs.start_cursors.Tie as tie
 
 abbrev Inv-loop : tie.InvT-loop
 Inv-loop level k cursors₀ x₀ cursors x = (x ≤ k) × (length cursors ≡ length cursors₀) × (cursors ≡ started x level cursors₀)

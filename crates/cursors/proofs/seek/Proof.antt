@@ -1,14 +1,14 @@
--- `merge::seek` meets its contract. The loop's invariant: the search from `from` on is the search from `j` on. The measure is what is left of the records.
+-- `cursors::seek` meets its contract. The loop's invariant: the search from `from` on is the search from `j` on. The measure is what is left of the records.
 use Prim.Native.Nat.{_-_, _≤_}
 use mathlib.Core.Path.{_≡_, refl, sym, _∙_, ap}
 use native.Mathlib.Omega.{arith}
 use Rattle.profile.specs.Traces.{bit}
 use Rattle.records.specs.Records.{records-in}
-use Rattle.merge.specs.Merge.{seek-from}
-use Rattle.merge.proofs.Cursors.{seek-here, seek-none, seek-on}
+use Rattle.cursors.specs.Cursors.{seek-from}
+use Rattle.cursors.proofs.Search.{seek-here, seek-none, seek-on}
 use borrow.Author.Needs.{needs}
-use Rattle.merge.proofs.seek.Statement.{statement}
-use Rattle.merge.proofs.seek.Tie as tie
+use Rattle.cursors.proofs.seek.Statement.{statement}
+use Rattle.cursors.proofs.seek.Tie as tie
 
 abbrev Inv-loop : tie.InvT-loop
 Inv-loop level from x n j₀ j = (j ≤ records-in level) × (seek-from level from x ≡ seek-from level j x)
