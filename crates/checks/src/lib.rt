@@ -1,21 +1,16 @@
-// The checks of a relation, a profile and a log: refusals 2, 4, 5, 6, 7 and 8.
+// The checks of a relation and a profile: refusals 2, 4, 5 and 6.
 ghost use mathlib.Core.Bool.{_&&_, _||_, not};
 ghost use mathlib.Core.Path.{_≡_};
 ghost use lib.ListN.{length};
 ghost use Rattle.profile.specs.Lists.{any, below};
 ghost use Rattle.profile.specs.Traces.{independent as independent-by};
 ghost use Rattle.profile.specs.Automata.{profile-of};
-ghost use Rattle.profile.specs.Refusals.{asymmetric, bit-from, letters-out-of-range, log-refusals, lowest, mask-bit, profile-refusals, relation-refusals};
-ghost use Rattle.profile.specs.Refusals.{bad-place as bad-place-of, profile-out-of-range as profile-out-of-range-by};
-ghost use Rattle.checks.specs.Checks.{checked, mask-refusals};
+ghost use Rattle.profile.specs.Refusals.{asymmetric, bit-from, checked, letters-out-of-range, lowest, mask-bit, profile-refusals, relation-refusals};
+ghost use Rattle.profile.specs.Refusals.{profile-out-of-range as profile-out-of-range-by};
+ghost use Rattle.checks.specs.Checks.{mask-refusals};
+use profile::Check;
 use profile::Refusal;
 use profile::Shape;
-
-// The answer of a check: nothing is refused, or the lowest refusal that applies.
-pub enum Check {
-    Good,
-    Bad(Refusal),
-}
 
 // 2: k out of range, or the masks not exactly k long.
 fn relation_out_of_range(k: usize, masks: &[u16]) -> bool
@@ -143,21 +138,6 @@ fn states_refused(finals: u32, moves: &[u32], s: usize) -> bool
     move_refused(moves, s)
 }
 
-// 8: the first place of a log byte of k or more; the log's length where there is none.
-fn bad_place(k: usize, log: &[u8]) -> usize
-    ensures { λ r. ⌜ r ≡ bad-place-of k (now (log .entry)) ⌝ }
-{
-    let mut i = 0;
-    while i < log.len() {
-        let letter = log[i] as usize;
-        if k <= letter {
-            return i;
-        }
-        i += 1;
-    }
-    i
-}
-
 // The lowest of refusals 4 and 5 that applies to the masks.
 fn check_masks(k: usize, masks: &[u16]) -> Check
     ensures { λ r. ⌜ checked r ≡ lowest (mask-refusals k (now (masks .entry))) ⌝ }
@@ -198,20 +178,6 @@ pub fn check_profile(shape: Shape, masks: &[u16], moves: &[u32]) -> Check
     }
     if states_refused(finals, moves, s) {
         return Check::Bad(Refusal::StateBit);
-    }
-    Check::Good
-}
-
-// The lowest of refusals 7 and 8 that applies to a log.
-pub fn check_log(k: usize, log: &[u8]) -> Check
-    ensures { λ r. ⌜ checked r ≡ lowest (log-refusals k (now (log .entry))) ⌝ }
-{
-    if 255 < log.len() {
-        return Check::Bad(Refusal::LongLog);
-    }
-    let at = bad_place(k, log);
-    if at < log.len() {
-        return Check::Bad(Refusal::BadLetter(at));
     }
     Check::Good
 }

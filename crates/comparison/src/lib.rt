@@ -8,7 +8,7 @@ ghost use Rattle.profile.specs.Lists.{all, equal?, first-place, range};
 ghost use Rattle.profile.specs.Orders.{project, same?};
 ghost use Rattle.profile.specs.Traces.{independent};
 ghost use Rattle.comparison.specs.Comparison.{comparison, pair-agrees?};
-use checks::Check;
+use profile::Check;
 use profile::Refusal;
 
 // The answer of a comparison; a refusal has the log that it is about, 1 or 2, and 0 for none.
@@ -105,11 +105,11 @@ pub fn same(k: usize, masks: &[u16], first: &[u8], second: &[u8]) -> Compared
     if let Check::Bad(r) = relation {
         return Compared::Refused(r, 0);
     }
-    let one = checks::check_log(k, first);
+    let one = logcheck::check_log(k, first);
     if let Check::Bad(r) = one {
         return Compared::Refused(r, 1);
     }
-    let two = checks::check_log(k, second);
+    let two = logcheck::check_log(k, second);
     if let Check::Bad(r) = two {
         return Compared::Refused(r, 2);
     }

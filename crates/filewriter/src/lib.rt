@@ -7,7 +7,7 @@ ghost use Rattle.profile.specs.Lists.{flat-map};
 ghost use Rattle.profile.specs.Automata.{profile-of};
 ghost use Rattle.logfile.specs.Files.{filled};
 ghost use Rattle.filewriter.specs.Written.{Fit, file-bytes, low-bytes, trailer-of, write-refusal, writing};
-use checks::Check;
+use profile::Check;
 use profile::Refusal;
 use profile::Shape;
 
@@ -130,7 +130,7 @@ pub fn write_file(shape: Shape, masks: &[u16], moves: &[u32], log: &[u8], out: &
     if let Check::Bad(r) = of_profile {
         return Writing::Refused(r);
     }
-    let of_log = checks::check_log(k, log);
+    let of_log = logcheck::check_log(k, log);
     if let Check::Bad(r) = of_log {
         return Writing::Refused(r);
     }

@@ -1,2 +1,2 @@
--- The definitions that the contracts of this crate cite beside those of `profile` and `checks`.
+-- The definitions that the contracts of this crate cite beside those of `profile`.
 pub mod Files

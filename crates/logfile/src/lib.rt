@@ -4,10 +4,9 @@ ghost use mathlib.Core.Bool.{false};
 ghost use mathlib.Core.List.{_++_};
 ghost use Prim.Native.Nat.{_+_, _*_, _≤_};
 ghost use lib.ListN.{length, getD, drop};
-ghost use Rattle.profile.specs.Refusals.{lowest};
-ghost use Rattle.checks.specs.Checks.{checked};
+ghost use Rattle.profile.specs.Refusals.{checked, lowest};
 ghost use Rattle.logfile.specs.Files.{content-refusals, distance-out-of-range, field, file-log, file-masks, file-moves, file-out-of-range, file-profile, file-refusals, file-shape, filled, half, log-length, log-location, log-part-of, numbers-from, numbers-out-of-range, outside, read-refusal, reading, section, trailer, word};
-use checks::Check;
+use profile::Check;
 use profile::Refusal;
 use profile::Shape;
 
@@ -216,7 +215,7 @@ fn check_content(f: &[u8]) -> Check
     }
     let from = section_at(f, 8);
     let end = from + field_at(f, 3);
-    checks::check_log(k, &f[from..end])
+    logcheck::check_log(k, &f[from..end])
 }
 
 // The lowest of refusals 1 to 8 that applies to a file.

@@ -9,7 +9,7 @@ ghost use Rattle.profile.specs.Refusals.{log-refusals, lowest, relation-refusal
 ghost use Rattle.profile.specs.Traces.{independent};
 ghost use Rattle.events.specs.Events.{all-keepers, comes-next?};
 ghost use Rattle.order.specs.Order.{Placed, first-letters, ordered-buffer, ordering};
-use checks::Check;
+use profile::Check;
 use profile::Refusal;
 
 // The answer of a first order.
@@ -106,7 +106,7 @@ pub fn first_order(k: usize, masks: &[u16], log: &[u8], out: &mut [u8]) -> Order
     if let Check::Bad(r) = relation {
         return Ordered::Refused(r);
     }
-    let letters = checks::check_log(k, log);
+    let letters = logcheck::check_log(k, log);
     if let Check::Bad(r) = letters {
         return Ordered::Refused(r);
     }

@@ -10,6 +10,8 @@ use Rattle.profile.specs.Traces.{independent}
 use Rattle.profile.specs.Automata.{Profile}
 use Rattle.profile.specs.Prefixes.{prefix-count}
 use Rattle.profile.specs.Tables.{capacity, layout}
+use Rattle.profile.specs.declared.Check.{Check}
+use Rattle.profile.specs.declared.Check.the-variants.{Good, Bad}
 use Rattle.profile.specs.declared.Refusal.{Refusal}
 use Rattle.profile.specs.declared.Refusal.the-variants.{ShortFile, OutOfRange, Distance, MaskBit, Asymmetric, StateBit, LongLog, BadLetter, ShortBuffer, FullTable}
 
@@ -88,6 +90,11 @@ module _ {A : Type 0} where
   abbrev pub lowest : List (Bool × A) → Option A
   lowest [] = none
   lowest (c ∷ l) = elim (c .0) [ true ↦ some (c .1) | false ↦ lowest l ]
+
+-- the refusal of a check; none where it is good
+abbrev pub checked : Check → Option Refusal
+checked Good = none
+checked (Bad r) = some r
 
 -- the conditions of a relation, of a profile and of a log, by rising number
 abbrev pub relation-refusals : ℕ → List ℕ → List (Bool × Refusal)

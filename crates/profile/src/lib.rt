@@ -1,4 +1,4 @@
-// The words of the judge: profiles, refusals. The definitions of `specs/` say what they mean.
+// The words of the judge: profiles, refusals, answers of a check. The definitions of `specs/` say what they mean.
 
 // The numbers of a profile; its masks and moves are slices beside it.
 pub struct Shape {
@@ -20,4 +20,10 @@ pub enum Refusal {
     BadLetter(usize),
     ShortBuffer,
     FullTable,
+}
+
+// The answer of a check: nothing is refused, or the lowest refusal that applies.
+pub enum Check {
+    Good,
+    Bad(Refusal),
 }

@@ -5,8 +5,8 @@ ghost use Rattle.profile.specs.Automata.{profile-of};
 ghost use Rattle.profile.specs.Tables.{capacity as capacity-of, layout};
 ghost use Rattle.table.specs.Table.{Promise, Sound};
 ghost use Rattle.forward.specs.Forward.{Forward};
-use checks::Check;
 use forward::Filled as Pass;
+use profile::Check;
 use profile::Refusal;
 use profile::Shape;
 
@@ -77,7 +77,7 @@ pub fn build(shape: Shape, masks: &[u16], moves: &[u32], log: &[u8], table: &mut
         return Built::Refused(r);
     }
     let k = shape.k;
-    let letters = checks::check_log(k, log);
+    let letters = logcheck::check_log(k, log);
     if let Check::Bad(r) = letters {
         return Built::Refused(r);
     }

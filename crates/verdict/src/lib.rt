@@ -10,7 +10,7 @@ ghost use Rattle.profile.specs.Refusals.{log-refusals, lowest, profile-refusals
 ghost use Rattle.profile.specs.declared.Refusal.the-variants.{ShortBuffer};
 ghost use Rattle.earliest.specs.Earliest.{Table, found?, order-of, record-count, with-order};
 ghost use Rattle.verdict.specs.Verdict.{Promise};
-use checks::Check;
+use profile::Check;
 use profile::Refusal;
 use profile::Shape;
 use table::Built;
@@ -32,7 +32,7 @@ fn refusal_of_short(shape: Shape, masks: &[u16], moves: &[u32], log: &[u8]) -> R
         return r;
     }
     let k = shape.k;
-    let letters = checks::check_log(k, log);
+    let letters = logcheck::check_log(k, log);
     if let Check::Bad(r) = letters {
         return r;
     }

@@ -4,11 +4,11 @@ use mathlib.Core.Path.{_≡_, sym, _∙_, ap}
 use mathlib.Core.Bool.{Bool, false}
 use mathlib.Core.List.{List, [], _∷_, _++_}
 use Rattle.profile.specs.Automata.{Profile, profile-of}
-use Rattle.profile.specs.Refusals.{lowest, profile-out-of-range, state-bit}
+use Rattle.profile.specs.Refusals.{checked, lowest, profile-out-of-range, state-bit}
 use Rattle.profile.specs.declared.Refusal.{Refusal}
 use Rattle.profile.specs.declared.Refusal.the-variants.{StateBit}
 use Rattle.theory.proofs.Refusals.{lowest-append, lowest-first}
-use Rattle.checks.specs.Checks.{checked, mask-refusals}
+use Rattle.checks.specs.Checks.{mask-refusals}
 use Rattle.checks.proofs.check_profile.Statement.{statement}
 use Rattle.checks.proofs.check_profile.Tie as tie
 

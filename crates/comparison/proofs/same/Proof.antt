@@ -1,7 +1,7 @@
 -- `comparison::same` meets its contract: the refusals of the relation, of the first log, of the second, in this order.
 use borrow.Author.Needs.{needs}
 use mathlib.Core.Path.{sym, _∙_, ap}
-use Rattle.checks.specs.Checks.{checked}
+use Rattle.profile.specs.Refusals.{checked}
 use Rattle.comparison.proofs.Answers.{compared-first, compared-relation, compared-same, compared-second}
 use Rattle.comparison.proofs.same.Statement.{statement}
 use Rattle.comparison.proofs.same.Tie as tie

@@ -9,11 +9,10 @@ use native.Mathlib.Nat.{mul-le-mul}
 use native.Mathlib.Omega.{arith}
 use lib.ListN.{length}
 use Rattle.profile.specs.Automata.{Profile, profile-of}
-use Rattle.profile.specs.Refusals.{log-refusals, lowest, profile-refusals, short-buffer}
+use Rattle.profile.specs.Refusals.{checked, log-refusals, lowest, profile-refusals, short-buffer}
 use Rattle.profile.specs.declared.Refusal.{Refusal}
 use Rattle.profile.specs.declared.Refusal.the-variants.{ShortBuffer}
 use Rattle.theory.proofs.Refusals.{log-at, lowest-append, lowest-first, profile-at}
-use Rattle.checks.specs.Checks.{checked}
 use Rattle.filewriter.specs.Written.{file-bytes}
 use Rattle.filewriter.proofs.Answers.{file-fits, file-length, file-short, fit-of, write-refused, write-told}
 use Rattle.logfile.proofs.Bytes.{sets-start}

@@ -5,8 +5,7 @@ use Prim.Native.Nat.{_+_, _-_, _*_, _≤_}
 use native.Mathlib.Omega.{arith}
 use lib.ListN.{length, take, drop, replicate}
 use Rattle.profile.specs.Automata.{profile-of}
-use Rattle.profile.specs.Refusals.{log-refusals, lowest, profile-refusals}
-use Rattle.checks.specs.Checks.{checked}
+use Rattle.profile.specs.Refusals.{checked, log-refusals, lowest, profile-refusals}
 use Rattle.logfile.specs.Files.{field, file-log, file-masks, file-moves, file-profile, file-shape, section}
 use Rattle.logfile.proofs.Bytes.{numbers-length}
 use Rattle.logfile.proofs.Sections.{content-log, content-profile, first-part, inside, log-found, log-inside, numbers-put, shape-known}

@@ -1,7 +1,7 @@
 -- `logfile::locate_log` meets its contract.
 use borrow.Author.Needs.{needs}
 use mathlib.Core.Path.{sym, _∙_, ap, ap₂}
-use Rattle.checks.specs.Checks.{checked}
+use Rattle.profile.specs.Refusals.{checked}
 use Rattle.logfile.specs.Files.{located, log-length, section}
 use Rattle.logfile.specs.declared.Located.the-variants.{At}
 use Rattle.logfile.proofs.locate_log.Statement.{statement}

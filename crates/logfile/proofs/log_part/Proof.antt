@@ -6,8 +6,7 @@ use mathlib.Core.Option.{none}
 use Prim.Native.Nat.{_+_, _≤_}
 use native.Mathlib.Omega.{arith}
 use lib.ListN.{length}
-use Rattle.profile.specs.Refusals.{lowest}
-use Rattle.checks.specs.Checks.{checked}
+use Rattle.profile.specs.Refusals.{checked, lowest}
 use Rattle.logfile.specs.Files.{file-log, file-refusals, unless}
 use Rattle.logfile.proofs.Sections.{log-found, log-inside, open-file}
 use Rattle.logfile.proofs.log_part.Statement.{statement}

@@ -6,10 +6,9 @@ use mathlib.Core.List.{[], _∷_}
 use Prim.Native.Nat.{_*_, _≤_}
 use native.Mathlib.Omega.{arith}
 use lib.ListN.{length}
-use Rattle.profile.specs.Refusals.{lowest}
+use Rattle.profile.specs.Refusals.{checked, lowest}
 use Rattle.profile.specs.declared.Refusal.the-variants.{ShortBuffer}
 use Rattle.theory.proofs.Refusals.{lowest-first}
-use Rattle.checks.specs.Checks.{checked}
 use Rattle.logfile.specs.Files.{field, file-refusals, short-buffers}
 use Rattle.logfile.proofs.Answers.{buffers-long, masks-short, moves-short, read-refused, read-told}
 use Rattle.logfile.proofs.Sections.{inside, numbers-put, open-file, shape-known}

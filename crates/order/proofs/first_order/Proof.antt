@@ -3,7 +3,7 @@ use borrow.Author.Needs.{needs}
 use mathlib.Core.Path.{sym, _∙_, ap}
 use native.Mathlib.Omega.{arith}
 use lib.ListN.{length}
-use Rattle.checks.specs.Checks.{checked}
+use Rattle.profile.specs.Refusals.{checked}
 use Rattle.order.proofs.Answers.{answers, ordered-log, ordered-none, ordered-relation, ordered-short}
 use Rattle.order.proofs.first_order.Statement.{statement}
 use Rattle.order.proofs.first_order.Tie as tie

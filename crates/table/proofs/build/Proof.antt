@@ -3,7 +3,7 @@ use borrow.Author.Needs.{needs}
 use mathlib.Core.Path.{sym, _∙_, ap}
 use lib.ListN.{length}
 use Rattle.profile.specs.Automata.{profile-of}
-use Rattle.checks.specs.Checks.{checked}
+use Rattle.profile.specs.Refusals.{checked}
 use Rattle.table.proofs.Filling.{log-refused, profile-refused, sound}
 use Rattle.table.proofs.build.Statement.{statement}
 use Rattle.table.proofs.build.Tie as tie

@@ -2,7 +2,7 @@
 use borrow.Author.Needs.{needs}
 use mathlib.Core.Path.{sym, _∙_, ap}
 use Rattle.profile.specs.Automata.{profile-of}
-use Rattle.checks.specs.Checks.{checked}
+use Rattle.profile.specs.Refusals.{checked}
 use Rattle.verdict.proofs.Judging.{buffer-last, log-next, profile-first}
 use Rattle.verdict.proofs.refusal_of_short.Statement.{statement}
 use Rattle.verdict.proofs.refusal_of_short.Tie as tie

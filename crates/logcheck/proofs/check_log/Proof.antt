@@ -1,4 +1,4 @@
--- `checks::check_log` meets its contract: the conditions of 7 and 8, in their order.
+-- `logcheck::check_log` meets its contract: the conditions of 7 and 8, in their order.
 use borrow.Author.Needs.{needs}
 use borrow.Author.Tests.{le-ltb, lt-ltb}
 use mathlib.Core.Path.{_≡_, sym, _∙_, ap}
@@ -7,9 +7,9 @@ use lib.Dec.{leb, ltb}
 use lib.ListN.{length}
 use Rattle.profile.specs.Refusals.{bad-letter}
 use Rattle.profile.specs.declared.Refusal.the-variants.{BadLetter}
-use Rattle.checks.proofs.Loops.{any-first}
-use Rattle.checks.proofs.check_log.Statement.{statement}
-use Rattle.checks.proofs.check_log.Tie as tie
+use Rattle.logcheck.proofs.Search.{any-first}
+use Rattle.logcheck.proofs.check_log.Statement.{statement}
+use Rattle.logcheck.proofs.check_log.Tie as tie
 
 -- some letter is bad exactly when the place is not the end
 found : (c : tie.After-bad-place) → let a = c .before .before .before .args in bad-letter (a .k) (a .log .now) ≡ ltb (c .bad-place .result) (length (a .log .now))

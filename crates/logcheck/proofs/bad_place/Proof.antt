@@ -1,4 +1,4 @@
--- `checks::bad_place` meets its contract. The loop's invariant: every letter passed is below k.
+-- `logcheck::bad_place` meets its contract. The loop's invariant: every letter passed is below k.
 use borrow.Author.Needs.{needs}
 use borrow.Author.Count.{below-more, below-none}
 use borrow.Author.Tests.{le-leb, lt-leb}
@@ -8,9 +8,9 @@ use Prim.Native.Nat.{ℕ, _≤_, _<_, _-_}
 use native.Mathlib.Omega.{arith}
 use lib.Dec.{leb}
 use lib.ListN.{length, getD}
-use Rattle.checks.proofs.Loops.{first-at}
-use Rattle.checks.proofs.bad_place.Statement.{statement}
-use Rattle.checks.proofs.bad_place.Tie as tie
+use Rattle.logcheck.proofs.Search.{first-at}
+use Rattle.logcheck.proofs.bad_place.Statement.{statement}
+use Rattle.logcheck.proofs.bad_place.Tie as tie
 
 abbrev Inv-loop : tie.InvT-loop
 Inv-loop k log i₀ i = (i ≤ length log) × ((j : ℕ) → j < i → leb k (getD log j 0) ≡ false)
