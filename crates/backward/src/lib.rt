@@ -9,7 +9,7 @@ ghost use Rattle.profile.specs.Tables.{layout, record-length};
 ghost use Rattle.theory.proofs.Merge.{seek};
 ghost use Rattle.counts.specs.Counts.{words};
 ghost use Rattle.records.specs.Records.{counts-at, records-in};
-ghost use Rattle.steps.specs.Rows.{by-letter};
+ghost use Rattle.rows.specs.Rows.{by-letter};
 ghost use Rattle.backward.specs.Backward.{Drafted, FromTotal, Leads, back-from, filled-all, filled-total, moved, start-of};
 use counts::Counts;
 use counts::one_more;
@@ -20,8 +20,8 @@ use records::counts_at;
 use records::last_at;
 use records::put_last;
 use records::records_in;
-use steps::backward_by;
-use steps::by_letter;
+use rows::backward_by;
+use rows::by_letter;
 
 // The numbers of a record.
 const RECORD: usize = 6;

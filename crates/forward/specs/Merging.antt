@@ -15,7 +15,7 @@ use Rattle.counts.specs.Counts.{words}
 use Rattle.events.specs.Events.{all-keepers}
 use Rattle.cursors.specs.Cursors.{advanced}
 use Rattle.merge.specs.Merge.{givers, least-of, united}
-use Rattle.steps.specs.Rows.{by-letter}
+use Rattle.rows.specs.Rows.{by-letter}
 use Rattle.forward.specs.declared.Merged.{Merged}
 use Rattle.forward.specs.declared.Merged.the-variants as merged
 use Rattle.forward.specs.declared.Next.{Next}

@@ -10,7 +10,7 @@ ghost use Rattle.counts.specs.Counts.{words};
 ghost use Rattle.events.specs.Events.{all-keepers};
 ghost use Rattle.cursors.specs.Cursors.{started};
 ghost use Rattle.records.specs.Records.{put-record};
-ghost use Rattle.steps.specs.Rows.{by-letter};
+ghost use Rattle.rows.specs.Rows.{by-letter};
 ghost use Rattle.forward.specs.Forward.{Forward, Ready};
 ghost use Rattle.forward.specs.Merging.{Comes, Grows, Halfway, Prepared, Standing, Steps, begun, pairs, part-behind, records-between, totals};
 use counts::Counts;
@@ -274,7 +274,7 @@ pub fn fill_forward(
     let keepers = events::all_keepers(masks, shape.k);
     let number = put_first(table, shape, masks, &keepers, moves, log, starts, places);
     let mut rows = [0u32; 512];
-    steps::by_letter(moves, shape.k, shape.s, &mut rows);
+    rows::by_letter(moves, shape.k, shape.s, &mut rows);
     let part = Part {
         shape: shape,
         room: room,

@@ -4,7 +4,7 @@ ghost use mathlib.Core.Option.{some};
 ghost use Prim.Native.Nat.{_≤_, _<_};
 ghost use lib.ListN.{length};
 ghost use Rattle.counts.specs.Counts.{words};
-ghost use Rattle.steps.specs.Rows.{by-letter};
+ghost use Rattle.rows.specs.Rows.{by-letter};
 ghost use Rattle.cursors.specs.Cursors.{Given};
 ghost use Rattle.merge.specs.Merge.{better, candidate, givers, joined, least-letters, least-of, least-words, united};
 use counts::Counts;
@@ -86,7 +86,7 @@ pub fn unite(
         let x = u32::trailing_zeros(rest) as usize;
         if x < k {
             let j = cursors[x];
-            out = out | steps::forward_by(rows, s, records::forward_at(level, j), x);
+            out = out | rows::forward_by(rows, s, records::forward_at(level, j), x);
         }
         rest = rest & (rest - 1);
     }

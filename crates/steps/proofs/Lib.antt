@@ -1,3 +1,2 @@
--- Laws about unions over states and about the moves by letter; the functions' proofs cite them.
-pub mod Rows
+-- Laws about unions over states; the functions' proofs cite them.
 pub mod Unions

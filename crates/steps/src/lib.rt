@@ -1,12 +1,8 @@
 // The moves of one state and of a set of states.
 ghost use mathlib.Core.Path.{_≡_};
 ghost use Prim.Native.Nat.{_≤_, _<_};
-ghost use lib.ListN.{getD, replicate};
+ghost use lib.ListN.{getD};
 ghost use Rattle.profile.specs.Automata.{forward-step, meets, row as row-at};
-ghost use Rattle.steps.specs.Rows.{backward-by, by-letter, forward-by, led as led-at};
-
-// The numbers of a letter's row.
-const ROW: usize = 32;
 
 // The states to which letter a leads: number a of a state's row, where the row has it.
 fn leads(row: &[u32], a: usize) -> u32
@@ -16,7 +12,7 @@ fn leads(row: &[u32], a: usize) -> u32
 }
 
 // The states to which letter a may lead from state q.
-fn leads_from(moves: &[u32], k: usize, q: usize, a: usize) -> u32
+pub fn leads_from(moves: &[u32], k: usize, q: usize, a: usize) -> u32
     requires { ⌜ (k ≤ 16) × (q < 32) ⌝ }
     ensures { λ r. ⌜ r ≡ row-at k (now (moves .entry)) q a ⌝ }
 {
@@ -50,77 +46,4 @@ pub fn meet(a: u32, b: u32) -> bool
     ensures { λ r. ⌜ r ≡ meets a b ⌝ }
 {
     a & b != 0
-}
-
-// Number i of the moves by letter: the states to which letter i / 32 may lead from state i % 32, none where this is no state.
-fn led(moves: &[u32], k: usize, s: usize, i: usize) -> u32
-    requires { ⌜ k ≤ 16 ⌝ }
-    ensures { λ r. ⌜ r ≡ led-at k s (now (moves .entry)) i ⌝ }
-{
-    let q = i % ROW;
-    if q < s {
-        leads_from(moves, k, q, i / ROW)
-    } else {
-        0
-    }
-}
-
-// The moves by letter, so that a step reads numbers that stand in a row.
-pub fn by_letter(moves: &[u32], k: usize, s: usize, rows: &mut [u32; 512])
-    requires { ⌜ (k ≤ 16) × (now rows ≡ replicate 512 0) ⌝ }
-    ensures { λ _. ⌜ now (rows .exit) ≡ by-letter k s (now (moves .entry)) ⌝ }
-{
-    let end = ROW * k;
-    let mut i = 0;
-    while i < end {
-        let to = led(moves, k, s, i);
-        rows[i] = to;
-        i += 1;
-    }
-}
-
-// s itself. The test shows the compiler, which reads no contract, that it is at most 32: the loops over the states are then unrolled.
-fn bounded(s: usize) -> usize
-    requires { ⌜ s ≤ 32 ⌝ }
-    ensures { λ r. ⌜ r ≡ s ⌝ }
-{
-    if s < ROW { s } else { ROW }
-}
-
-// The states to which letter a leads from the states of a set. The number is read before the test, so that no turn depends on what it finds.
-pub fn forward_by(rows: &[u32; 512], s: usize, set: u32, a: usize) -> u32
-    requires { ⌜ (s ≤ 32) × (a < 16) ⌝ }
-    ensures { λ r. ⌜ r ≡ forward-by s (now (rows .entry)) set a ⌝ }
-{
-    let at = ROW * a;
-    let end = bounded(s);
-    let mut out = 0u32;
-    let mut q = 0;
-    while q < end {
-        let to = rows[at + q];
-        if meet(set, 1u32 << q) {
-            out = out | to;
-        }
-        q += 1;
-    }
-    out
-}
-
-// The states from which letter a leads into a set.
-pub fn backward_by(rows: &[u32; 512], s: usize, set: u32, a: usize) -> u32
-    requires { ⌜ (s ≤ 32) × (a < 16) ⌝ }
-    ensures { λ r. ⌜ r ≡ backward-by s (now (rows .entry)) set a ⌝ }
-{
-    let at = ROW * a;
-    let end = bounded(s);
-    let mut out = 0u32;
-    let mut q = 0;
-    while q < end {
-        let to = rows[at + q];
-        if meet(to, set) {
-            out = out | (1u32 << q);
-        }
-        q += 1;
-    }
-    out
 }

@@ -23,8 +23,8 @@ use Rattle.profile.proofs.Sets.{not-in-none, or-assoc}
 use Rattle.counts.specs.Counts.{add-count, words}
 use Rattle.counts.specs.declared.Counts.{Counts}
 use Rattle.records.specs.Records.{counts-at, last-at, records-in}
-use Rattle.steps.specs.Rows.{backward-by}
-use Rattle.steps.proofs.Rows.{backward-same}
+use Rattle.rows.specs.Rows.{backward-by}
+use Rattle.rows.proofs.Rows.{backward-same}
 use Rattle.steps.proofs.Unions.{union-in, union-none, union-out}
 use Rattle.backward.specs.Backward.{back-from, moved, next-at}
 use Rattle.backward.proofs.back_of.Statement.{statement}

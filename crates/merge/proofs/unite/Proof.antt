@@ -14,8 +14,8 @@ use Rattle.profile.specs.Traces.{bit}
 use Rattle.profile.proofs.Sets.{not-in-none, or-assoc}
 use Rattle.theory.proofs.SetLoops.{lowest, rest-first, rest-in}
 use Rattle.records.specs.Records.{forward-at, records-in}
-use Rattle.steps.specs.Rows.{forward-by}
-use Rattle.steps.proofs.Rows.{forward-same}
+use Rattle.rows.specs.Rows.{forward-by}
+use Rattle.rows.proofs.Rows.{forward-same}
 use Rattle.steps.proofs.Unions.{union-in, union-none, union-out}
 use Rattle.merge.specs.Merge.{united}
 use borrow.Author.Needs.{needs}

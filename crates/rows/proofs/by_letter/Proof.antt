@@ -1,4 +1,4 @@
--- `steps::by_letter` meets its contract. The loop's invariant: the first `i` numbers are put, the others are 0. The measure is what is left of the rows.
+-- `rows::by_letter` meets its contract. The loop's invariant: the first `i` numbers are put, the others are 0. The measure is what is left of the rows.
 use mathlib.Core.Path.{_≡_, _∙_, ap, ap₂}
 use mathlib.Core.List.{_++_, map}
 use Prim.Native.Nat.{_*_, _-_, _≤_}
@@ -6,10 +6,10 @@ use native.Mathlib.Omega.{arith}
 use borrow.Author.Needs.{needs}
 use lib.ListN.{drop, replicate, set}
 use Rattle.profile.specs.Lists.{below}
-use Rattle.steps.specs.Rows.{by-letter, led}
+use Rattle.rows.specs.Rows.{by-letter, led}
 use Rattle.theory.proofs.Fronts.{front-put}
-use Rattle.steps.proofs.by_letter.Statement.{statement}
-use Rattle.steps.proofs.by_letter.Tie as tie
+use Rattle.rows.proofs.by_letter.Statement.{statement}
+use Rattle.rows.proofs.by_letter.Tie as tie
 
 abbrev Inv-loop : tie.InvT-loop
 Inv-loop moves k s rows₀ end i₀ rows i = (i ≤ end) × (rows ≡ map (led k s moves) (below i) ++ drop i (replicate 512 0))

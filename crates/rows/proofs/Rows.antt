@@ -12,7 +12,7 @@ use Rattle.profile.specs.Lists.{below, filter}
 use Rattle.profile.specs.Traces.{bit}
 use Rattle.profile.proofs.Lists.{below-at, filter-agree, filter-at}
 use Rattle.profile.proofs.Sets.{T-eq, bit-self, bit-single, meets-at, meets-of, union-agree}
-use Rattle.steps.specs.Rows.{backward-by, by-letter, forward-by, led, led-by}
+use Rattle.rows.specs.Rows.{backward-by, by-letter, forward-by, led, led-by}
 use Rattle.theory.proofs.Fronts.{front-at}
 
 -- a state is in a set where the set of this state meets it

@@ -1,12 +1,12 @@
--- `steps::led` meets its contract.
+-- `rows::led` meets its contract.
 use mathlib.Core.Path.{sym, _∙_, ap}
 use mathlib.Core.Bool.{cond}
 use borrow.Author.Needs.{needs}
 use borrow.Author.Tests.{le-ltb, lt-ltb}
 use Prim.Native.Nat.{_/_, _%_}
 use Rattle.profile.specs.Automata.{row}
-use Rattle.steps.proofs.led.Statement.{statement}
-use Rattle.steps.proofs.led.Tie as tie
+use Rattle.rows.proofs.led.Statement.{statement}
+use Rattle.rows.proofs.led.Tie as tie
 
 leads-from-requires : tie.Need-leads-from-requires
 leads-from-requires c κs = search needs
