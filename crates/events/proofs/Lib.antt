@@ -1,4 +1,3 @@
--- Laws about the places of events; other crates cite them.
-pub mod Places
+-- Laws about the letters that can be added; other crates cite them.
 pub mod Adding
 pub mod Keepers

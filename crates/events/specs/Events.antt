@@ -1,31 +1,11 @@
--- Where the events of each letter stand in a log, where events are letters; and by these places the test whether a letter can be added to a prefix.
-use mathlib.Core.Bool.{Bool, true, false, not, _&&_, _||_}
-use mathlib.Core.List.{List, [], _∷_, map}
-use Prim.Native.Nat.{ℕ, suc, _^_}
+-- The test whether a letter can be added to a prefix, by the places of each letter's next event.
+use mathlib.Core.Bool.{Bool, not, _&&_, _||_}
+use mathlib.Core.List.{List, map}
+use Prim.Native.Nat.{ℕ, _^_}
 use lib.Dec.{eqb, ltb}
-use lib.ListN.{length, getD}
 use Rattle.profile.specs.Automata.{union}
-use Rattle.profile.specs.Lists.{all, below, filter, flat-map}
+use Rattle.profile.specs.Lists.{all, below, filter}
 use Rattle.profile.specs.Prefixes.{at}
-
--- the places of letter x in w, counted from i, and after them the place behind the last event
-abbrev pub places-from : ℕ → ℕ → List ℕ → List ℕ
-places-from i x [] = i ∷ []
-places-from i x (a ∷ w) = elim (eqb a x) [ true ↦ i ∷ places-from (suc i) x w | false ↦ places-from (suc i) x w ]
-
-abbrev pub places-of : List ℕ → ℕ → List ℕ
-places-of w x = places-from 0 x w
-
--- the places of the letters below k, one letter after the other; where those of letter x begin
-abbrev pub place-table : ℕ → List ℕ → List ℕ
-place-table k w = flat-map (places-of w) (below k)
-
-abbrev pub place-start : List ℕ → ℕ → ℕ
-place-start w x = length (place-table x w)
-
--- the place of the next event of each letter below k, after the first c x events of each letter x
-abbrev pub next-places : ℕ → List ℕ → (ℕ → ℕ) → List ℕ
-next-places k w c = map (λ x. getD (places-of w x) (c x) 0) (below k)
 
 -- letter y does not keep letter x from coming next: it is x, or x may pass it, or its next event is later
 abbrev pub lets-by? : (ℕ → ℕ → Bool) → (ℕ → ℕ) → ℕ → ℕ → Bool

@@ -1,2 +1,2 @@
--- The places of each letter's events in a log, and the test of a letter to add.
+-- The test of a letter to add.
 pub mod Events

@@ -1,65 +1,9 @@
-// The places of each letter's events in a log; by them, with no scan of the log, whether a letter can be added to a prefix.
+// By the places of each letter's next event, with no scan of the log, whether a letter can be added to a prefix.
 ghost use mathlib.Core.Path.{_≡_};
-ghost use mathlib.Core.List.{_++_, map};
-ghost use Prim.Native.Nat.{_+_, _≤_, _<_};
-ghost use lib.ListN.{length, getD, drop};
-ghost use lib.Seq.{sets};
-ghost use Rattle.profile.specs.Lists.{below};
+ghost use Prim.Native.Nat.{_≤_, _<_};
 ghost use Rattle.profile.specs.Traces.{independent as independent-by};
-ghost use Rattle.events.specs.Events.{all-keepers, comes-next?, keepers, keeps?, place-start, place-table, places-of};
-
-// Puts the places of letter x, and the log's length behind them, from `at` on; tells where the next letter's begin.
-fn put_places(log: &[u8], x: usize, places: &mut [u8], at: usize) -> usize
-    requires { ⌜ (length (now log) ≤ 255) × (at + length (places-of (now log) x) ≤ length (now places)) ⌝ }
-    ensures { λ r. ⌜ (r ≡ at + length (places-of (now (log .entry)) x)) × (now (places .exit) ≡ sets (now (places .entry)) at (places-of (now (log .entry)) x)) ⌝ }
-{
-    let mut to = at;
-    let mut i = 0;
-    while i < log.len() {
-        let a = log[i] as usize;
-        if a == x {
-            places[to] = i as u8;
-            to += 1;
-        }
-        i += 1;
-    }
-    places[to] = i as u8;
-    to + 1
-}
-
-// Puts the places of the letters below k, and where those of each letter begin.
-pub fn place_events(log: &[u8], k: usize, starts: &mut [u16], places: &mut [u8])
-    requires { ⌜ (k ≤ 16) × (length (now log) ≤ 255) × (length (now starts) ≡ 16) × (length (now places) ≡ 272) ⌝ }
-    ensures { λ r. ⌜ (now (starts .exit) ≡ map (place-start (now (log .entry))) (below k) ++ drop k (now (starts .entry)))
-        × (now (places .exit) ≡ place-table k (now (log .entry)) ++ drop (length (place-table k (now (log .entry)))) (now (places .entry))) ⌝ }
-{
-    let mut at = 0;
-    let mut x = 0;
-    while x < k {
-        starts[x] = at as u16;
-        at = put_places(log, x, places, at);
-        x += 1;
-    }
-}
-
-// What stands at place i; 0 past the end.
-fn place_at(places: &[u8], i: usize) -> u8
-    ensures { λ r. ⌜ r ≡ getD (now (places .entry)) i 0 ⌝ }
-{
-    if i < places.len() { places[i] } else { 0 }
-}
-
-// The place of the event of letter x that has n before it.
-pub fn next_place(starts: &[u16], places: &[u8], x: usize, n: u16) -> u8
-    ensures { λ r. ⌜ r ≡ getD (now (places .entry)) (getD (now (starts .entry)) x 0 + n) 0 ⌝ }
-{
-    let start = if x < starts.len() {
-        starts[x] as usize
-    } else {
-        0
-    };
-    place_at(places, start + n as usize)
-}
+ghost use Rattle.events.specs.Events.{all-keepers, comes-next?, keepers, keeps?};
+use places::place_at;
 
 // Letter y keeps x from coming next while its next event is earlier: it is another letter, and x may not pass it.
 fn keeps(masks: &[u16], x: usize, y: usize) -> bool

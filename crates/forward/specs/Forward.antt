@@ -11,7 +11,7 @@ use Rattle.profile.specs.Tables.{layout, record-length}
 use Rattle.profile.specs.Traces.{independent}
 use Rattle.theory.proofs.Looks.{looks}
 use Rattle.theory.proofs.Refusals.{GoodLog, GoodProfile}
-use Rattle.events.specs.Events.{place-start, place-table}
+use Rattle.places.specs.Places.{place-start, place-table}
 use Rattle.forward.specs.declared.Filled.{Filled}
 use Rattle.forward.specs.declared.Filled.the-variants as filled
 use Rattle.records.specs.Drafts.{drafted, in-order}

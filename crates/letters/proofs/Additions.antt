@@ -21,9 +21,11 @@ use Rattle.theory.proofs.Packing.{field-packed}
 use Rattle.theory.proofs.Prefixes.{count-le}
 use Rattle.profile.proofs.Sets.{T-eq}
 use Rattle.counts.proofs.Packed.{Small}
-use Rattle.events.specs.Events.{comes-next?, lets-by?, next-places, place-start, place-table, places-of}
-use Rattle.events.proofs.Adding.{at-next, comes-next-addable}
-use Rattle.events.proofs.Places.{place-found}
+use Rattle.places.specs.Places.{next-places, place-start, place-table, places-of}
+use Rattle.places.proofs.NextPlaces.{at-next}
+use Rattle.places.proofs.Places.{place-found}
+use Rattle.events.specs.Events.{comes-next?, lets-by?}
+use Rattle.events.proofs.Adding.{comes-next-addable}
 use Rattle.letters.specs.Letters.{letters-by, next-by}
 
 -- ---- for loops in code

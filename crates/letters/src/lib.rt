@@ -25,7 +25,7 @@ fn next_places(c: Counts, k: usize, starts: &[u16], places: &[u8], next: &mut [u
     let mut y = 0;
     while y < k {
         let n = counts::count_of(&t, y) as u16;
-        next[y] = events::next_place(starts, places, y, n);
+        next[y] = places::next_place(starts, places, y, n);
         y += 1;
     }
 }

@@ -21,9 +21,11 @@ use Rattle.theory.proofs.Prefixes.{addable-at, addable-of, addable?, all-of-pic
 use Rattle.theory.proofs.Profiles.{distinct}
 use Rattle.theory.proofs.Refusals.{GoodLog, Relation}
 use Rattle.profile.proofs.Traces.{Pick, Takes, first, takes-length}
-use Rattle.events.specs.Events.{comes-next?, next-places, place-start, place-table, places-of}
-use Rattle.events.proofs.Adding.{comes-next-addable, next-places-more}
-use Rattle.events.proofs.Places.{place-found}
+use Rattle.places.specs.Places.{next-places, place-start, place-table, places-of}
+use Rattle.places.proofs.NextPlaces.{next-places-more}
+use Rattle.places.proofs.Places.{place-found}
+use Rattle.events.specs.Events.{comes-next?}
+use Rattle.events.proofs.Adding.{comes-next-addable}
 use Rattle.order.specs.Order.{first-letters, letters-or-none}
 use Rattle.theory.proofs.FirstPlaces.{first-least, first-passes}
 use Rattle.theory.proofs.Fronts.{front-set}

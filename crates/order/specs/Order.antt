@@ -9,7 +9,7 @@ use Rattle.profile.specs.Lists.{below}
 use Rattle.profile.specs.Orders.{first-order}
 use Rattle.profile.specs.Refusals.{first-order-refusal, log-refusals, lowest, refusal-number, refusal-place, relation-refusals}
 use Rattle.profile.specs.Traces.{independent}
-use Rattle.events.specs.Events.{place-start, place-table}
+use Rattle.places.specs.Places.{place-start, place-table}
 use Rattle.order.specs.declared.Ordered.{Ordered}
 use Rattle.order.specs.declared.Ordered.the-variants.{Refused, Written}
 

@@ -39,7 +39,7 @@ fn first_places(starts: &[u16], places: &[u8], next: &mut [u8])
 {
     let mut x = 0;
     while x < next.len() {
-        next[x] = events::next_place(starts, places, x, 0);
+        next[x] = places::next_place(starts, places, x, 0);
         x += 1;
     }
 }
@@ -68,7 +68,7 @@ fn put_letters(
         out[t] = a as u8;
         let m = used[a] + 1;
         used[a] = m;
-        next[a] = events::next_place(starts, places, a, m);
+        next[a] = places::next_place(starts, places, a, m);
         t += 1;
     }
 }
@@ -81,7 +81,7 @@ fn put_first(k: usize, masks: &[u16], log: &[u8], out: &mut [u8])
     let keepers = events::all_keepers(masks, k);
     let mut starts = [0u16; 16];
     let mut places = [0u8; 272];
-    events::place_events(log, k, &mut starts, &mut places);
+    places::place_events(log, k, &mut starts, &mut places);
     let mut next = [0u8; 16];
     let mut used = [0u16; 16];
     put_letters(

@@ -39,7 +39,7 @@ fn put_records(
     let k = shape.k;
     let mut starts = [0u16; 16];
     let mut places = [0u8; 272];
-    events::place_events(log, k, &mut starts, &mut places);
+    places::place_events(log, k, &mut starts, &mut places);
     forward::fill_forward(table, room, shape, masks, moves, log, &starts, &places)
 }
 

@@ -5,7 +5,7 @@ use native.Mathlib.Omega.{arith}
 use lib.ListN.{length}
 use Rattle.profile.specs.Lists.{below}
 use Rattle.theory.proofs.Counting.{length-range}
-use Rattle.events.specs.Events.{place-start, place-table}
+use Rattle.places.specs.Places.{place-start, place-table}
 use Rattle.table.proofs.Filling.{behind-own}
 use Rattle.table.proofs.put_records.Statement.{statement}
 use Rattle.table.proofs.put_records.Tie as tie

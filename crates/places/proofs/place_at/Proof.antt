@@ -1,9 +1,9 @@
--- `events::place_at` meets its contract: past its end a list has 0.
+-- `places::place_at` meets its contract: past its end a list has 0.
 use borrow.Author.Needs.{needs}
 use mathlib.Core.Path.{sym}
 use lib.ListN.{List·getD-eq-default}
-use Rattle.events.proofs.place_at.Statement.{statement}
-use Rattle.events.proofs.place_at.Tie as tie
+use Rattle.places.proofs.place_at.Statement.{statement}
+use Rattle.places.proofs.place_at.Tie as tie
 
 shared-slice-read-result : tie.Need-shared-slice-read-result
 shared-slice-read-result c = search needs

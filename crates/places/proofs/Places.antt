@@ -15,7 +15,7 @@ use Rattle.profile.specs.Traces.{letters-below}
 use Rattle.profile.proofs.Lists.{below-suc, filter-no, filter-none, filter-yes, flat-map-append, fst-of, is-false, is-true, lt-or-le, snd-of, test}
 use Rattle.theory.proofs.Prefixes.{one-other, one-same}
 use Rattle.theory.proofs.Counting.{at-map, length-range}
-use Rattle.events.specs.Events.{place-start, place-table, places-from, places-of}
+use Rattle.places.specs.Places.{place-start, place-table, places-from, places-of}
 
 -- ---- the places of one letter
 

@@ -1,12 +1,12 @@
--- `events::next_place` meets its contract: a start past the end is 0.
+-- `places::next_place` meets its contract: a start past the end is 0.
 use borrow.Author.Needs.{needs}
 use mathlib.Core.Path.{_≡_, sym, _∙_, ap}
 use mathlib.Core.Logic.{⊎-elim}
 use native.Mathlib.Omega.{arith}
 use Prim.Native.Nat.{_+_}
 use lib.ListN.{getD, List·getD-eq-default}
-use Rattle.events.proofs.next_place.Statement.{statement}
-use Rattle.events.proofs.next_place.Tie as tie
+use Rattle.places.proofs.next_place.Statement.{statement}
+use Rattle.places.proofs.next_place.Tie as tie
 
 mul-start : tie.Need-mul-start
 mul-start c = search needs

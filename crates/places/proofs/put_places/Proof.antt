@@ -1,4 +1,4 @@
--- `events::put_places` meets its contract. The loop's invariant: what is left to put leads to the same places, and ends at the same place.
+-- `places::put_places` meets its contract. The loop's invariant: what is left to put leads to the same places, and ends at the same place.
 use borrow.Author.Needs.{needs}
 use mathlib.Core.Path.{_≡_, refl, _∙_, ap}
 use mathlib.Core.Logic.{⊎-elim}
@@ -7,10 +7,10 @@ use native.Mathlib.Omega.{arith}
 use native.Mathlib.Numerals.{add-one}
 use lib.ListN.{length, drop, length-set}
 use lib.Seq.{sets}
-use Rattle.events.specs.Events.{places-from, places-of}
-use Rattle.events.proofs.Places.{places-left-end, places-left-no, places-left-yes, places-length}
-use Rattle.events.proofs.put_places.Statement.{statement}
-use Rattle.events.proofs.put_places.Tie as tie
+use Rattle.places.specs.Places.{places-from, places-of}
+use Rattle.places.proofs.Places.{places-left-end, places-left-no, places-left-yes, places-length}
+use Rattle.places.proofs.put_places.Statement.{statement}
+use Rattle.places.proofs.put_places.Tie as tie
 
 abbrev Inv-loop : tie.InvT-loop
 Inv-loop log x places₀ at to₀ i₀ places to i =

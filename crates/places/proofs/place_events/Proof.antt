@@ -1,4 +1,4 @@
--- `events::place_events` meets its contract. The loop's invariant: the letters below x are done.
+-- `places::place_events` meets its contract. The loop's invariant: the letters below x are done.
 use borrow.Author.Needs.{needs}
 use mathlib.Core.Path.{_≡_, refl, _∙_}
 use mathlib.Core.List.{_++_, map}
@@ -6,11 +6,11 @@ use Prim.Native.Nat.{_+_, _-_, _≤_}
 use native.Mathlib.Omega.{arith}
 use lib.ListN.{length, drop, length-set}
 use Rattle.profile.specs.Lists.{below}
-use Rattle.events.specs.Events.{place-start, place-table}
+use Rattle.places.specs.Places.{place-start, place-table}
 use Rattle.theory.proofs.Fronts.{front-put}
-use Rattle.events.proofs.Places.{place-table-le, place-table-more, places-more}
-use Rattle.events.proofs.place_events.Statement.{statement}
-use Rattle.events.proofs.place_events.Tie as tie
+use Rattle.places.proofs.Places.{place-table-le, place-table-more, places-more}
+use Rattle.places.proofs.place_events.Statement.{statement}
+use Rattle.places.proofs.place_events.Tie as tie
 
 abbrev Inv-loop : tie.InvT-loop
 Inv-loop log k starts₀ places₀ at₀ x₀ starts places at x =

@@ -1,0 +1,2 @@
+-- The places of each letter's events in a log.
+pub mod Places
