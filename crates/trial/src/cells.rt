@@ -61,10 +61,6 @@ pub fn times(a: usize, b: usize) -> usize {
     sum
 }
 
-pub fn least(a: usize, b: usize) -> usize {
-    if a < b { a } else { b }
-}
-
 // v div d and v mod d; 0 where d is.
 pub fn quotient(v: usize, d: usize) -> usize {
     if 0 < d { v / d } else { 0 }

@@ -1,7 +1,6 @@
 // The log reader, by its functions on a log and a place: each event in turn, then the end and no more.
 use logreader::Event;
 use trial::cells::at8;
-use trial::cells::least;
 use trial::cells::plus;
 use trial::cells::wide8;
 use trial::tally;
@@ -19,14 +18,18 @@ fn expected_letter(log: &[u8], i: usize) -> usize {
     if i < log.len() { at8(log, i) } else { 256 }
 }
 
-// Step i, which begins at place i, or at the end.
-fn step_right(log: &[u8], i: usize) -> bool {
-    let place = least(i, log.len());
-    (letter_of(logreader::event_at(log, place)) == expected_letter(log, i))
-        & (logreader::place_after(log, place) == least(plus(i, 1), log.len()))
+// At the end and past it the place stays.
+fn expected_place(log: &[u8], i: usize) -> usize {
+    if i < log.len() { plus(i, 1) } else { i }
 }
 
-// The log to its end, and twice past it.
+// The step at place i.
+fn step_right(log: &[u8], i: usize) -> bool {
+    (letter_of(logreader::event_at(log, i)) == expected_letter(log, i))
+        & (logreader::place_after(log, i) == expected_place(log, i))
+}
+
+// The log to its end, and twice at or past it.
 fn steps_right(log: &[u8]) -> bool {
     for i in 0..plus(log.len(), 2) {
         if !step_right(log, i) {

@@ -7,7 +7,9 @@ use crate::second_reader::move_count;
 use crate::second_reader::move_set;
 use crate::second_reader::refusal_place;
 use crate::second_reader::section;
+use logfile::Located;
 use logfile::Reading;
+use profile::Refusal;
 use profile::Shape;
 use trial::cells::GUARD16;
 use trial::cells::GUARD32;
@@ -44,13 +46,15 @@ fn numbers_right(file: &[u8], shape: Shape, n: usize) -> bool {
         & (wide32(shape.finals) == finals(file))
 }
 
+// The refusal has the number, and its place.
+fn refusal_right(file: &[u8], r: Refusal, number: usize) -> bool {
+    (wide32(refusals::number(r)) == number) & (refusals::place(r) == refusal_place(file, number))
+}
+
 // The answer is the refusal with its place, or the file's numbers where it is 0.
 fn answer_right(file: &[u8], reading: Reading, number: usize) -> bool {
     match reading {
-        Reading::Refused(r) => {
-            (refusals::number(r) as usize == number)
-                & (refusals::place(r) == refusal_place(file, number))
-        }
+        Reading::Refused(r) => refusal_right(file, r, number),
         Reading::Told(shape, n) => (number == 0) & numbers_right(file, shape, n),
     }
 }
@@ -120,13 +124,26 @@ fn part_right(file: &[u8], number: usize) -> bool {
     }
 }
 
-// Compares both calls on a file with the second reader.
+// Where the log section stands, or why the file is refused.
+fn location_right(file: &[u8], number: usize) -> bool {
+    let located = logfile::locate_log(file);
+    match located {
+        Located::Refused(r) => refusal_right(file, r, number),
+        Located::At(at, n) => { (number == 0) & (at == section(file, 8)) & (n == field(file, 3)) }
+    }
+}
+
+fn log_right(file: &[u8], number: usize) -> bool {
+    part_right(file, number) & location_right(file, number)
+}
+
+// Compares the calls on a file with the second reader.
 pub fn compare_file(file: &[u8], mask_room: usize, move_room: usize, t: Tally) -> Tally {
     let number = expected_refusal(file, mask_room, move_room);
     let whole = file_refusal(file);
     let read = tally::count(t, tally::READ);
     if number == 0 {
-        let right = reading_right(file, mask_room, move_room, 0) & part_right(file, 0);
+        let right = reading_right(file, mask_room, move_room, 0) & log_right(file, 0);
         return tally::count(tally::expect(read, tally::FILE, right), tally::TOLD);
     }
     let right = reading_right(file, mask_room, move_room, number);
@@ -134,7 +151,7 @@ pub fn compare_file(file: &[u8], mask_room: usize, move_room: usize, t: Tally) -
     tally::refused(
         refused,
         tally::FILE,
-        part_right(file, whole),
+        log_right(file, whole),
         tally::BY_PART,
         whole,
     )
