@@ -43,9 +43,6 @@ places-within i x (a ∷ w) {p} m = go (test (eqb a x)) (places-within (suc i) x
     go (inl t) f = ⊎-elim (λ e. omega arith) (λ k. let n = f k in omega arith) (List·Memᴰ·cases-cons (rw (places-yes i x a w t) at m))
     go (inr t) f = let n = f (rw (places-no i x a w t) at m) in omega arith
 
-pub places-le : (w : List ℕ) (x : ℕ) {p : ℕ} → Mem p (places-of w x) → p ≤ length w
-places-le w x m = omega (arith, places-within 0 x w m .1)
-
 -- the places that are left at event i of the log, for a loop over the events
 pub places-left-yes : (w : List ℕ) (i x : ℕ) → i < length w → getD w i 0 ≡ x → places-from i x (drop i w) ≡ i ∷ places-from (i + 1) x (drop (i + 1) w)
 places-left-yes w i x h e = rw (add-one, drop-cons w i 0) (places-yes i x (getD w i 0) (drop (suc i) w) (subst (λ z. T (eqb (getD w i 0) z)) e (eqb-refl (getD w i 0))))
@@ -155,10 +152,6 @@ table-low : (k : ℕ) (w : List ℕ) → length (place-table k w) ≡ length (lo
 table-low zero w = omega (arith, ap length (filter-none (λ a. ltb a 0) w (λ a m t. omega (arith, ltb→lt a 0 t))))
 table-low (suc k) w =
     omega (arith, table-low k w, ap length (place-table-suc k w), length-append (place-table k w) (places-of w k), places-length 0 k w, low-suc k w)
-
--- one place for each event, and an end for each letter; no more where w has other letters
-pub place-table-length : (k : ℕ) (w : List ℕ) → T (letters-below (λ a. a) k w) → length (place-table k w) ≡ length w + k
-place-table-length k w h = omega (arith, table-low k w, ap length (low-all k w h))
 
 pub place-table-le : (k : ℕ) (w : List ℕ) → length (place-table k w) ≤ length w + k
 place-table-le k w = omega (arith, table-low k w, low-le k w)

@@ -6,16 +6,15 @@ use mathlib.Core.List.{List, [], _∷_, _++_, List·Memᴰ·head, List·Memᴰ·
 use Prim.Native.Nat.{ℕ, zero, suc, _+_, _/_, _%_, _^_, _<_}
 use native.Mathlib.Nat.{mod-lt, div-div-eq-div-mul, pow-succ', div-one, zero-div, div-eq-of-lt, div-self, lt-of-lt-of-le, zero-lt-suc, pow-suc, mul-mod-left, mul-div-cancel}
 use native.Mathlib.Omega.{arith}
-use native.Mathlib.Numerals.{add-one}
 use lib.Arith.{bin-ind}
 use lib.Bits.{bitOr, bitAnd, or-shr, and-shr, or-mod, and-mod, and-mask, or-zero-r}
 use lib.Pow.{pow-mono, pow-pos}
 use lib.Dec.{T, T-not, not-T, eqb, eqb→eq}
 use Rattle.profile.specs.Automata.{meets, union}
-use Rattle.profile.specs.Lists.{Mem, below, filter}
+use Rattle.profile.specs.Lists.{Mem}
 use Rattle.profile.specs.Prefixes.{at}
 use Rattle.profile.specs.Traces.{bit}
-use Rattle.profile.proofs.Lists.{below-suc, both, either, filter-last-no, filter-last-yes, fst-of, lt-or-le, or-left, or-right, snd-of}
+use Rattle.profile.proofs.Lists.{both, either, fst-of, lt-or-le, or-left, or-right, snd-of}
 
 -- ---- single digits
 
@@ -164,15 +163,6 @@ module _ {A : Type 0} where
   pub union-last : (f : A → ℕ) (l : List A) (a : A) → union f (l ++ (a ∷ [])) ≡ bitOr (union f l) (f a)
   union-last f [] a = or-zero-r (f a)
   union-last f (b ∷ l) a = ap (bitOr (f b)) (union-last f l a) ∙ sym (or-assoc (f b) (union f l) (f a))
-
--- a loop over the states below n: the next state is in S, and its set is united; or it is not
-pub union-yes : (f : ℕ → ℕ) (S n : ℕ) → T (bit S n) → union f (filter (bit S) (below (n + 1))) ≡ bitOr (union f (filter (bit S) (below n))) (f n)
-union-yes f S n t = ap (λ k. union f (filter (bit S) (below k))) (add-one n) ∙ ap (λ l. union f (filter (bit S) l)) (below-suc n)
-    ∙ ap (union f) (filter-last-yes (bit S) (below n) n t) ∙ union-last f (filter (bit S) (below n)) n
-
-pub union-no : (f : ℕ → ℕ) (S n : ℕ) → T (not (bit S n)) → union f (filter (bit S) (below (n + 1))) ≡ union f (filter (bit S) (below n))
-union-no f S n t = ap (λ k. union f (filter (bit S) (below k))) (add-one n) ∙ ap (λ l. union f (filter (bit S) l)) (below-suc n)
-    ∙ ap (union f) (filter-last-no (bit S) (below n) n t)
 
 -- sets that agree on l have the same union
 pub union-agree : (f g : ℕ → ℕ) (l : List ℕ) → ((x : ℕ) → Mem x l → f x ≡ g x) → union f l ≡ union g l

@@ -107,9 +107,6 @@ module _ (may : ℕ → ℕ → Bool) where
   pub reach-of-order : {w v : List ℕ} → Order may w v → Reachable may w v
   reach-of-order {w} {v} t = subst (Reachable may w) (append-nil v) (reach-of-takes t)
 
-  pub reach-order : {w v : List ℕ} → Reachable may w v ↔ Order may w v
-  reach-order = (order-of-reach, reach-of-order)
-
   pub order-trans : {w v x : List ℕ} → Order may w v → Order may v x → Order may w x
   order-trans p q = order-of-reach (reach-trans (reach-of-order p) (reach-of-order q))
 

@@ -4,10 +4,11 @@ pub mod Prefixes
 pub mod Scan
 pub mod Counting
 pub mod Levels
--- the first place that passes; lists that a loop fills from their start; sets in loops
+-- the first place that passes; lists that a loop fills from their start; sets and unions in loops
 pub mod FirstPlaces
 pub mod Fronts
 pub mod SetLoops
+pub mod Unions
 -- automata and the earliest order
 pub mod Automata
 pub mod Profiles

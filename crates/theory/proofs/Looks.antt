@@ -2,9 +2,8 @@
 use mathlib.Core.Path.{_≡_, refl, sym, _∙_, ap, subst}
 use mathlib.Core.Bool.{Bool}
 use mathlib.Core.Logic.{_≢_}
-use mathlib.Core.List.{List, [], _∷_, _++_, map, append-nil, List·Memᴰ·head, List·Memᴰ·tail, Memᴰ·cast, Memᴰ·map, Memᴰ·of-map}
-use Prim.Native.Nat.{ℕ, zero, suc, _+_, _*_, _^_, _≤_, _<_}
-use native.Mathlib.Nat.{mul-le-mul-right}
+use mathlib.Core.List.{List, [], _∷_, _++_, map, List·Memᴰ·head, List·Memᴰ·tail, Memᴰ·cast, Memᴰ·map, Memᴰ·of-map}
+use Prim.Native.Nat.{ℕ, zero, suc, _+_, _*_, _≤_}
 use native.Mathlib.Omega.{arith}
 use lib.Dec.{T, eqb, eqb-refl}
 use lib.ListN.{length, length-append, length-map, replicate}
@@ -15,8 +14,8 @@ use Rattle.profile.specs.Tables.{Looks}
 use Rattle.profile.specs.Traces.{Reachable, letters-below}
 use Rattle.theory.proofs.Comparison.{back-over, over, prefixes-same}
 use Rattle.theory.proofs.Counting.{length-range, prefixes-at, prefixes-nodup}
-use Rattle.theory.proofs.Levels.{bump, by-total, by-total-at, by-total-nodup, by-total-of, level, level-last}
-use Rattle.profile.proofs.Lists.{below-of, below-suc, filter-agree, filter-at, filter-nodup, filter-of, flat-map-agree, flat-map-append, flat-map-at, flat-map-nodup, flat-map-of, map-nodup, nodup-length, range-nodup}
+use Rattle.theory.proofs.Levels.{bump, by-total, by-total-at, by-total-nodup, by-total-of, level-last}
+use Rattle.profile.proofs.Lists.{below-of, filter-agree, filter-at, filter-nodup, filter-of, flat-map-agree, flat-map-append, flat-map-at, flat-map-nodup, flat-map-of, map-nodup, nodup-length, range-nodup}
 use Rattle.theory.proofs.Prefixes.{addable-at, addable-of, addable?}
 use Rattle.profile.proofs.Sets.{T-eq}
 
@@ -94,14 +93,6 @@ module _ (may : ℕ → ℕ → Bool) (letter : ℕ → ℕ) (k : ℕ) (w : List
   pairs-append l r =
       ap length (flat-map-append (additions may letter k w) l r) ∙ length-append (flat-map (additions may letter k w) l) (flat-map (additions may letter k w) r)
 
-  -- for a loop over totals: one total more
-  pub pairs-suc : (n : ℕ) → pairs-in may letter k w (flat-map (level may letter k w) (below (suc n)))
-      ≡ pairs-in may letter k w (flat-map (level may letter k w) (below n)) + pairs-in may letter k w (level may letter k w n)
-  pairs-suc n =
-      ap (λ l. pairs-in may letter k w (flat-map (level may letter k w) l)) (below-suc n)
-      ∙ ap (pairs-in may letter k w) (flat-map-append (level may letter k w) (below n) (n ∷ []) ∙ ap (λ l. flat-map (level may letter k w) (below n) ++ l) (append-nil (level may letter k w n)))
-      ∙ pairs-append (flat-map (level may letter k w) (below n)) (level may letter k w n)
-
   additions-le : (c : List ℕ) → length (additions may letter k w c) ≤ k
   additions-le c = omega (
     arith,
@@ -115,10 +106,6 @@ module _ (may : ℕ → ℕ → Bool) (letter : ℕ → ℕ) (k : ℕ) (w : List
   looks-le : looks may letter k w ≤ prefix-count may letter k w * k
   looks-le = flat-map-length-le (additions may letter k w) k additions-le (prefixes may letter k w)
 
-  -- no overflow of 64 bits where the table has place for the prefixes
-  pub looks-fits : prefix-count may letter k w ≤ 715827882 → k ≤ 16 → looks may letter k w < 2 ^ 64
-  looks-fits h g = omega (arith, looks-le, mul-le-mul-right k h)
-
   -- ---- the pairs by rising total
 
   module _ (letters : T (letters-below letter k w)) where
@@ -127,14 +114,6 @@ module _ (may : ℕ → ℕ → Bool) (letter : ℕ → ℕ) (k : ℕ) (w : List
         (λ c. filter-nodup (addable? may letter w (at c)) (below k) (range-nodup k 0))
         (prefixes may letter k w) (by-total may letter k w) (prefixes-nodup may letter k w) (by-total-nodup may letter k w)
         (λ c m. by-total-of may letter k w c letters m) (by-total-at may letter k w)
-
-    -- the pairs of all totals add up to the looks
-    pub looks-levels : looks may letter k w ≡ total (map (λ n. pairs-in may letter k w (level may letter k w n)) (below (suc (length w))))
-    looks-levels = looks-by-total ∙ go (below (suc (length w)))
-      where
-        go : (l : List ℕ) → pairs-in may letter k w (flat-map (level may letter k w) l) ≡ total (map (λ n. pairs-in may letter k w (level may letter k w n)) l)
-        go [] = refl
-        go (n ∷ l) = omega (arith, pairs-append (level may letter k w n) (flat-map (level may letter k w) l), go l)
 
     -- ---- the bounds
 

@@ -14,7 +14,7 @@ use Rattle.profile.specs.Orders.{Earlier, NoLater, agrees, ends, smaller}
 use Rattle.profile.specs.Traces.{letters-below}
 use Rattle.profile.specs.Automata.{Automaton, union}
 use Rattle.profile.specs.Prefixes.{IsPrefix, at, backward, closed?, count, forward, less, marked, prefixes, total, unmarked, vectors}
-use Rattle.profile.proofs.Lists.{below-at, both, equal-test, filter-agree, filter-at, filter-none, filter-of, fst-of, is-false, is-true, lt-or-le, mem-getD, mem-place, snd-of, test}
+use Rattle.profile.proofs.Lists.{below-at, both, equal-test, filter-agree, filter-at, filter-of, fst-of, is-false, is-true, lt-or-le, mem-getD, mem-place, snd-of, test}
 use Rattle.theory.proofs.Earliest.{no-later-antisym, no-later-refl}
 use Rattle.theory.proofs.LetterOrder.{earlier-irrefl, earlier-trans}
 use Rattle.profile.proofs.Traces.{Pick, first}
@@ -305,25 +305,7 @@ module _ {k : ℕ} {C E : List (List ℕ)} {add : ℕ → List ℕ → Bool} (g 
           let n = g .down e (subst (Mem e) (sym split) (Memᴰ·append-right E₁ (List·Memᴰ·head refl))) in
           (n .1, n .3, hits-parent (n .1) (p (n .1)) (q (n .1) (n .3)) (n .0) (n .2) (n .4) (sym (n .5)) .0)
 
-      -- the least of what the cursors lead to is e
-      pub least-hits : (x : ℕ) → x < k → p x < length C
-          → ((y : ℕ) → y < k → p y < length C → NoLater (bump (getD C (p x) []) x) (bump (getD C (p y) []) y)) → bump (getD C (p x) []) x ≡ e
-      least-hits x h l f =
-          let n = some-hits in
-          let m = hits-at C (n .0) e (p (n .0)) (n .2) in
-          no-later-antisym (subst (NoLater (bump (getD C (p x) []) x)) (m .1) (f (n .0) (n .1) (m .0))) (least-of-all x (p x) (q x h) l)
-
-  -- where every cursor is at the end, nothing is still to come
-  pub cursors-end : (E₁ R : List (List ℕ)) → E ≡ E₁ ++ R → (p : ℕ → ℕ) → ((x : ℕ) → x < k → Cursor C add x R (p x)) → ((x : ℕ) → x < k → length C ≤ p x) → R ≡ []
-  cursors-end E₁ [] split p q f = refl
-  cursors-end E₁ (e ∷ R) split p q f =
-      let n = some-hits E₁ e R split p q in
-      absurd (omega (arith, hits-at C (n .0) e (p (n .0)) (n .2) .0, f (n .0) (n .1)))
-
   -- ---- the way back
-
-  pub behind-start : (x : ℕ) → Behind E add x C 0
-  behind-start x j l = absurd (omega arith)
 
   pub behind-skip : (x : ℕ) (c : List ℕ) (R : List (List ℕ)) (q : ℕ) → Behind E add x (c ∷ R) q → Behind E add x R q
   behind-skip x c R q b j l d m = b j l d (List·Memᴰ·tail m)
@@ -398,11 +380,6 @@ module _ (may : ℕ → ℕ → Bool) (letter : ℕ → ℕ) (k : ℕ) (w : List
   -- below the log's length some event is unmarked
   pub level-unmarked : (n : ℕ) (c : List ℕ) → T (letters-below letter k w) → Mem c (level may letter k w n) → n < length w → unmarked letter w (at c) ≢ []
   level-unmarked n c h m l e = omega (arith, level-left n c h m, ap length e)
-
-  -- above it there are no prefixes
-  pub level-over : (n : ℕ) → T (letters-below letter k w) → length w < n → level may letter k w n ≡ []
-  level-over n h l = filter-none (λ c. eqb (total c) n) (prefixes may letter k w)
-      (λ c m t. omega (arith, level-left n c h (filter-of (λ c. eqb (total c) n) m t)))
 
 module _ (may : ℕ → ℕ → Bool) (letter : ℕ → ℕ) (distinct : (a b : ℕ) → T (may a b) → letter a ≢ letter b) (k : ℕ) (w : List ℕ)
     (letters : T (letters-below letter k w)) where

@@ -1,8 +1,8 @@
 -- Counts in one number and in the numbers of a record; the lexicographic order of lists of counts, as a number.
 use mathlib.Core.Path.{_≡_, refl, sym, _∙_, ap, ap₂, subst, fun-ext}
 use mathlib.Core.Bool.{Bool, not}
-use mathlib.Core.Logic.{⊎-elim, _↔_, _≢_}
-use mathlib.Core.List.{List, [], _∷_, _++_, map}
+use mathlib.Core.Logic.{⊎-elim, _≢_}
+use mathlib.Core.List.{List, [], _∷_, map}
 use Prim.Native.Nat.{ℕ, zero, suc, _+_, _-_, _*_, _/_, _%_, _^_, _≤_, _<_}
 use native.Mathlib.Omega.{arith}
 use native.Mathlib.Nat.{zero-add, add-mul-div-left, add-mul-mod-self-left, div-add-mod', div-div-eq-div-mul, div-eq-of-lt, div-lt-iff-lt-mul, div-one, mod-eq-of-lt, mod-lt, pow-succ', pow-zero, zero-div, zero-mod, zero-mul, mul-le-mul-right}
@@ -10,7 +10,7 @@ use lib.Arith.{digits-lt, lt-of-le-ne}
 use lib.Pow.{pow-add, pow-pos}
 use lib.Dec.{T, T-not, eqb, eqb→eq, eqb-refl, ltb, ltb→lt}
 use lib.ListN.{length, getD, take, drop, set, length-drop, length-set, length-take, take-append-drop}
-use lib.Seq.{ext-getD, getD-drop, getD-take, getD-set-same, getD-set-other, drop-set-add, drop-set-lt, take-set-le, take-set-lt, take-append-seam, take-at, drop-append-seam}
+use lib.Seq.{ext-getD, getD-drop, getD-take, getD-set-same, getD-set-other, drop-set-add, drop-set-lt, take-set-le, take-set-lt}
 use Rattle.profile.specs.Lists.{all, below}
 use Rattle.profile.specs.Prefixes.{at}
 use Rattle.profile.specs.Orders.{Earlier, NoLater, agrees, ends, smaller}
@@ -60,9 +60,6 @@ pub pack-bump : (b : ℕ) (c : List ℕ) (x : ℕ) → x < length c → pack b (
 pack-bump b [] x h = absurd (omega arith)
 pack-bump b (n ∷ c) zero h = omega (arith, bits-zero b)
 pack-bump b (n ∷ c) (suc x) h = omega (arith, ap (λ m. 2 ^ b * m) (pack-bump b c x (omega arith)), bits-suc b x)
-
-pub pack-inj : (b : ℕ) (c d : List ℕ) → length c ≡ length d → T (all (λ n. ltb n (2 ^ b)) c) → T (all (λ n. ltb n (2 ^ b)) d) → pack b c ≡ pack b d → c ≡ d
-pack-inj b c d e h k q = ext-getD 0 c d e (λ i lt. sym (pack-digit b c i h) ∙ ap (λ n. n / 2 ^ (b * i) % 2 ^ b) q ∙ pack-digit b d i k)
 
 -- ---- the numbers of a record
 
@@ -239,30 +236,3 @@ module _ (B : ℕ) where
 
   pub rank-lt-at : (c d : List ℕ) → length c ≡ length d → T (all (λ n. ltb n B) c) → T (all (λ n. ltb n B) d) → rank B c < rank B d → Earlier c d
   rank-lt-at c d l h k lt = (rank-le-at c d l h k (omega arith), λ e. omega (arith, ap (rank B) e))
-
--- lists of as many counts, more counts behind them: the first decide, and where they are the same the others do
-pub earlier-append : (c₁ d₁ c₂ d₂ : List ℕ) → length c₁ ≡ length d₁ → Earlier c₁ d₁ → Earlier (c₁ ++ c₂) (d₁ ++ d₂)
-earlier-append c₁ d₁ c₂ d₂ l e = (go l (e .0) (e .1), λ q. e .1 (sym (take-at c₁ c₂ (length d₁) l) ∙ ap (take (length d₁)) q ∙ take-append-seam d₁ d₂))
-  where
-    go : {c d : List ℕ} → length c ≡ length d → NoLater c d → c ≢ d → NoLater (c ++ c₂) (d ++ d₂)
-    go l (ends {v = v}) ne = absurd (ne (ext-getD 0 [] v l (λ i h. absurd (omega arith))))
-    go l (smaller lt) ne = smaller lt
-    go l (agrees {u = u} {v = v} e r) ne = agrees e (go (omega arith) r (λ q. ne (ap₂ _∷_ e q)))
-
-pub earlier-append-same : (c₁ d₁ c₂ d₂ : List ℕ) → c₁ ≡ d₁ → Earlier c₂ d₂ ↔ Earlier (c₁ ++ c₂) (d₁ ++ d₂)
-earlier-append-same c₁ d₁ c₂ d₂ e = subst (λ d. Earlier c₂ d₂ ↔ Earlier (c₁ ++ c₂) (d ++ d₂)) e (
-  (λ h. (no-later-of c₁ (h .0), λ q. h .1 (sym (drop-append-seam c₁ c₂) ∙ ap (drop (length c₁)) q ∙ drop-append-seam c₁ d₂))),
-  (λ h. (no-later-at c₁ (h .0), λ q. h .1 (ap (λ l. c₁ ++ l) q))),
-)
-  where
-    no-later-of : (c : List ℕ) → NoLater c₂ d₂ → NoLater (c ++ c₂) (c ++ d₂)
-    no-later-of [] h = h
-    no-later-of (n ∷ c) h = agrees refl (no-later-of c h)
-
-    no-later-tail : {n m : ℕ} {c d : List ℕ} → NoLater (n ∷ c) (m ∷ d) → n ≡ m → NoLater c d
-    no-later-tail (smaller lt) q = absurd (omega arith)
-    no-later-tail (agrees e r) q = r
-
-    no-later-at : (c : List ℕ) → NoLater (c ++ c₂) (c ++ d₂) → NoLater c₂ d₂
-    no-later-at [] h = h
-    no-later-at (n ∷ c) h = no-later-at c (no-later-tail h refl)

@@ -5,7 +5,7 @@ use mathlib.Core.List.{List, [], _∷_, map}
 use Prim.Native.Nat.{ℕ, _+_, _-_, _*_, _≤_, _<_}
 use native.Mathlib.Omega.{arith}
 use lib.Arith.{digits-lt}
-use lib.ListN.{length, getD, drop, length-append, length-drop, length-map, List·getD-append, List·getD-map}
+use lib.ListN.{length, getD, drop, length-append, length-map, List·getD-append, List·getD-map}
 use lib.Seq.{getD-append-add, getD-drop}
 use Rattle.profile.specs.Lists.{Mem, flat-map}
 use Rattle.profile.specs.Automata.{Automaton}
@@ -40,12 +40,6 @@ module _ {L : Layout} {may : ℕ → ℕ → Bool} {letter : ℕ → ℕ} {M : A
   records-length : length (flat-map (record-of L may letter M w) (h .order)) ≡ record-length L * prefix-count may letter k w
   records-length =
       flat-map-length (record-of L may letter M w) (record-length L) (record-of-length L may letter M w) (h .order) ∙ ap (λ n. record-length L * n) holds-count
-
-  pub holds-length : record-length L * prefix-count may letter k w ≤ length before → length after ≡ length before
-  holds-length le =
-      let records = flat-map (record-of L may letter M w) (h .order) in
-      let e : length after ≡ length records + (length before - record-length L * length (h .order)) = ap length (h .written) ∙ simp (length-append, length-drop) in
-      omega (arith, records-length, ap (λ n. record-length L * n) holds-count)
 
   -- number j of record r is number j of the record of prefix r
   pub holds-number : (r j : ℕ) → r < prefix-count may letter k w → j < record-length L

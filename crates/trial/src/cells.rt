@@ -142,7 +142,7 @@ fn inside(i: usize, from: usize, n: usize) -> bool {
 // Every element is the guard, but for the n from `from` on.
 pub fn untouched8(s: &[u8], from: usize, n: usize) -> bool {
     for i in 0..s.len() {
-        if at8(s, i) != 165 && !inside(i, from, n) {
+        if at8(s, i) != wide8(GUARD8) && !inside(i, from, n) {
             return false;
         }
     }

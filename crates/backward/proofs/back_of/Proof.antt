@@ -25,7 +25,7 @@ use Rattle.counts.specs.declared.Counts.{Counts}
 use Rattle.records.specs.Records.{counts-at, last-at, records-in}
 use Rattle.rows.specs.Rows.{backward-by}
 use Rattle.rows.proofs.Rows.{backward-same}
-use Rattle.steps.proofs.Unions.{union-in, union-none, union-out}
+use Rattle.theory.proofs.Unions.{union-in, union-none, union-out}
 use Rattle.backward.specs.Backward.{back-from, moved, next-at}
 use Rattle.backward.proofs.back_of.Statement.{statement}
 use Rattle.backward.proofs.back_of.Tie as tie

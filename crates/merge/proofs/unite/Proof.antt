@@ -16,7 +16,7 @@ use Rattle.theory.proofs.SetLoops.{lowest, rest-first, rest-in}
 use Rattle.records.specs.Records.{forward-at, records-in}
 use Rattle.rows.specs.Rows.{forward-by}
 use Rattle.rows.proofs.Rows.{forward-same}
-use Rattle.steps.proofs.Unions.{union-in, union-none, union-out}
+use Rattle.theory.proofs.Unions.{union-in, union-none, union-out}
 use Rattle.merge.specs.Merge.{united}
 use borrow.Author.Needs.{needs}
 use Rattle.merge.proofs.unite.Statement.{statement}

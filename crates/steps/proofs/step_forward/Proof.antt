@@ -12,7 +12,7 @@ use Rattle.profile.specs.Lists.{below}
 use Rattle.profile.specs.Traces.{bit}
 use Rattle.profile.proofs.Sets.{not-in-none, or-assoc}
 use Rattle.theory.proofs.SetLoops.{lowest}
-use Rattle.steps.proofs.Unions.{union-in, union-none, union-out}
+use Rattle.theory.proofs.Unions.{union-in, union-none, union-out}
 use Rattle.steps.proofs.step_forward.Statement.{statement}
 use Rattle.steps.proofs.step_forward.Tie as tie
 

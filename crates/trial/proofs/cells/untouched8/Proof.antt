@@ -16,6 +16,9 @@ loop-holds c = search needs
 at8-requires : tie.Need-at8-requires Inv-loop μ-loop
 at8-requires c κs = search needs
 
+wide8-requires : tie.Need-wide8-requires Inv-loop μ-loop
+wide8-requires c κs = search needs
+
 inside-requires : tie.Need-inside-requires Inv-loop μ-loop
 inside-requires c κs = search needs
 
@@ -42,6 +45,7 @@ untouched8-spec =
     μ-loop
     loop-holds
     at8-requires
+    wide8-requires
     inside-requires
     returns
     add-i

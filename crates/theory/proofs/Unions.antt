@@ -1,4 +1,4 @@
--- Unions over the states below s: none, or one state beside a set.
+-- Unions over the members below s of a set: none, or one member beside a set.
 use mathlib.Core.Path.{_≡_, sym, _∙_, ap, subst}
 use mathlib.Core.Bool.{Bool, false}
 use mathlib.Core.Logic.{⊎-elim}
@@ -13,11 +13,11 @@ use Rattle.profile.specs.Traces.{bit}
 use Rattle.profile.proofs.Lists.{below-at, below-of, either, filter-agree, filter-at, filter-none, filter-of, is-false, or-left, or-right}
 use Rattle.profile.proofs.Sets.{bit-or, bit-self, bit-single, sets-eq, union-at, union-of}
 
--- no state passes the test
+-- no number passes the test
 pub union-none : (f : ℕ → ℕ) (p : ℕ → Bool) (l : List ℕ) → ((q : ℕ) → T (p q) → ⊥) → union f (filter p l) ≡ 0
 union-none f p l h = ap (union f) (filter-none p l (λ q m. h q))
 
--- the union over state t and the set R
+-- the union over t and the set R
 module _ (f : ℕ → ℕ) (t R s : ℕ) where
   pub union-in : t < s → union f (filter (bit (bitOr (2 ^ t) R)) (below s)) ≡ bitOr (f t) (union f (filter (bit R) (below s)))
   union-in h = sets-eq (union f (filter S (below s))) (bitOr (f t) rest) into from
