@@ -11,7 +11,7 @@ use Rattle.profile.specs.Traces.{independent}
 use Rattle.profile.specs.Automata.{Profile, automaton}
 use Rattle.profile.specs.Tables.{capacity, layout}
 use Rattle.profile.specs.Orders.{accepted-order, first-order, same?}
-use Rattle.profile.specs.Refusals.{first-order-refusal, judge-refusal, refusal-number, refusal-place, same-refusal}
+use Rattle.profile.specs.Refusals.{admission-refusals, first-order-refusal, judge-refusal, lowest, refusal-number, refusal-place, same-refusal}
 use Rattle.profile.specs.declared.Refusal.{Refusal}
 use Rattle.profile.proofs.Lists.{all-at, any-at, equal-test}
 use Rattle.profile.proofs.Cases.{ab, alt, free}
@@ -52,7 +52,7 @@ calls =
     ∷ call (alt ab) (1 ∷ 0 ∷ 1 ∷ []) 2 36 (9 ∷ 0 ∷ [])
     ∷ call (alt ab) [] 0 6 []
     ∷ call (alt ab) [] 0 5 (10 ∷ 0 ∷ [])
-    ∷ call (free 1 (0 ∷ [])) (replicate 255 0) 255 1536 []
+    ∷ call (free 1 (0 ∷ [])) (replicate 255 0) 254 0 (9 ∷ 0 ∷ [])
     ∷ call (free 1 (0 ∷ [])) (replicate 256 0) 0 0 (7 ∷ 0 ∷ [])
     ∷ call (free 1 (0 ∷ [])) (replicate 256 1) 0 0 (7 ∷ 0 ∷ [])
     ∷ call (alt ab) (0 ∷ 2 ∷ 3 ∷ []) 0 0 (8 ∷ 1 ∷ [])
@@ -98,6 +98,10 @@ every-refusal n m =
 pub both-verdicts : (told (judge-refusal (alt ab) (1 ∷ 0 ∷ 1 ∷ []) 3 36) ≡ []) × (accepted-order (independent ab) (λ a. a) (automaton (alt ab)) (1 ∷ 0 ∷ 1 ∷ []) ≡ none)
     × (told (judge-refusal (alt ab) (1 ∷ 1 ∷ 0 ∷ 0 ∷ []) 4 54) ≡ []) × (accepted-order (independent ab) (λ a. a) (automaton (alt ab)) (1 ∷ 1 ∷ 0 ∷ 0 ∷ []) ≡ some (0 ∷ 1 ∷ 0 ∷ 1 ∷ []))
 both-verdicts = (refl, refl, refl, refl)
+
+-- "255 letters are admitted"
+pub longest-admitted : lowest (admission-refusals (free 1 (0 ∷ [])) (replicate 255 0) 255) ≡ none
+longest-admitted = refl
 
 -- no table has place for more than 715,827,882 records
 pub capacity-most : capacity layout 18446744073709551615 ≡ 715827882

@@ -10,13 +10,14 @@ use native.Mathlib.Omega.{arith}
 use lib.Pow.{pow-pos, shr-shr}
 use lib.Dec.{T, not-T, eqb, eqb→eq, ltb, lt→ltb, leb, leb→le, nleb→lt}
 use borrow.Author.Tests.{ltb-false, leb-false, eqb-true, not-false}
-use lib.ListN.{length, getD, List·getD-eq-default}
+use lib.ListN.{length, getD, replicate, List·getD-eq-default}
 use Rattle.profile.specs.Lists.{Mem, Rising, all, any, below}
 use Rattle.profile.specs.Traces.{bit, independent, letters-below}
 use Rattle.profile.specs.Automata.{Profile}
-use Rattle.profile.specs.Refusals.{admission-refusals, asymmetric, bit-from, first-order-refusals, judge-refusals, letters-out-of-range, log-refusals, lowest, mask-bit, profile-refusals, refusal-number, relation-refusals, short-buffer}
+use Rattle.profile.specs.Refusals.{admission-refusals, asymmetric, bit-from, first-order-refusals, judge-refusal, judge-refusals, letters-out-of-range, log-refusals, lowest, mask-bit, profile-refusals, refusal-number, relation-refusals, short-buffer}
 use Rattle.profile.specs.declared.Refusal.{Refusal}
-use Rattle.profile.specs.declared.Refusal.the-variants.{ShortBuffer}
+use Rattle.profile.specs.declared.Refusal.the-variants.{FullTable, ShortBuffer}
+use Rattle.profile.proofs.Cases.{free}
 use Rattle.profile.proofs.Lists.{all-at, all-of, any-of, below-of, both, fst-of, is-false, lt-or-le, or-left, or-right, snd-of, test}
 use Rattle.profile.proofs.Sets.{bit-below, not-in-none, some-bit}
 
@@ -223,3 +224,9 @@ admitted-at p w n e =
       log = log-at (p .k) w (lowest-none l .1 (λ c m. h c (Memᴰ·append-right (profile-refusals p) (Memᴰ·append-left s m))));
       room = ltb-false n (length w) (h _ (Memᴰ·append-right (profile-refusals p) (Memᴰ·append-right l (List·Memᴰ·head refl))));
     }
+
+-- ---- the longest log
+
+-- 255 letters of one kind have 256 prefixes: 1536 numbers have place for them, 1535 have not
+pub longest-fits : (judge-refusal (free 1 (0 ∷ [])) (replicate 255 0) 255 1536 ≡ none) × (judge-refusal (free 1 (0 ∷ [])) (replicate 255 0) 255 1535 ≡ some FullTable)
+longest-fits = (refl, refl)

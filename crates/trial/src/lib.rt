@@ -7,4 +7,5 @@ pub mod logs;
 pub mod random;
 pub mod records;
 pub mod rows;
+pub mod shapes;
 pub mod tally;

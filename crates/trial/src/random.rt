@@ -8,7 +8,7 @@ use crate::cells::put16;
 use crate::cells::put32;
 use crate::cells::rest;
 use crate::cells::times;
-use crate::records::shape_of;
+use crate::shapes::shape_of;
 use profile::Shape;
 
 fn mixed(x: usize) -> usize {

@@ -1,22 +1,7 @@
-// Profiles' shapes, and the numbers of a table by document 01's words.
+// The numbers of a table by document 01's words.
 use crate::cells::at32;
 use crate::cells::plus;
 use crate::cells::wide32;
-use profile::Shape;
-
-pub fn shape_of(k: usize, s: usize, start: usize, finals: u32) -> Shape {
-    Shape {
-        k: k,
-        s: s,
-        start: start,
-        finals: finals,
-    }
-}
-
-// Courses ab, abab and so on: Alt of document 01.
-pub fn alt() -> Shape {
-    shape_of(2, 2, 0, 1)
-}
 
 // Where record r begins.
 pub fn record_at(r: usize) -> usize {

@@ -9,7 +9,7 @@ use crate::cells::put8;
 use crate::cells::put16;
 use crate::cells::put32;
 use crate::cells::times;
-use crate::records::shape_of;
+use crate::shapes::shape_of;
 use profile::Shape;
 
 pub fn digit(row: &[u8], i: usize) -> usize {

@@ -16,8 +16,8 @@ use trial::random::put_log;
 use trial::random::put_masks;
 use trial::random::put_moves;
 use trial::random::seed_of;
-use trial::records::alt;
-use trial::records::shape_of;
+use trial::shapes::alt;
+use trial::shapes::shape_of;
 use trial::tally::Tally;
 
 // Compares the file with byte i changed to v.

@@ -5,7 +5,7 @@ use trial::calls::write_in;
 use trial::cells::GUARD8;
 use trial::cells::put_run;
 use trial::cells::untouched8;
-use trial::records::shape_of;
+use trial::shapes::shape_of;
 use trial::tally;
 use trial::tally::Tally;
 

@@ -23,7 +23,7 @@ use trial::cells::plus;
 use trial::cells::put8;
 use trial::cells::put16;
 use trial::cells::put32;
-use trial::records::shape_of;
+use trial::shapes::shape_of;
 use trial::tally;
 use trial::tally::Tally;
 
