@@ -19,30 +19,34 @@ use trial::random::seed_of;
 use trial::tally::Tally;
 use trial_logs::orders::compare_with;
 
-// Letter i of a log that is a little different: two letters exchanged, or one set to that of another place.
-fn near_letter(seed: usize, log: &[u8], i: usize) -> usize {
+// Letter i of a log that is a little different: two letters exchanged, or one changed to any letter, or none.
+fn near_letter(seed: usize, k: usize, log: &[u8], i: usize) -> usize {
+    let kind = below(seed, 3, 4);
     let a = below(seed, 1, log.len());
     let b = below(seed, 2, log.len());
-    if i == a {
+    if (kind == 2) & (i == a) {
+        return below(seed, 4, k);
+    }
+    if (kind < 2) & (i == a) {
         return at8(log, b);
     }
-    if (i == b) & (below(seed, 3, 4) < 3) {
+    if (kind < 2) & (i == b) {
         return at8(log, a);
     }
     at8(log, i)
 }
 
-fn put_near(seed: usize, log: &[u8], near: &mut [u8]) {
+fn put_near(seed: usize, k: usize, log: &[u8], near: &mut [u8]) {
     for i in 0..log.len() {
-        put8(near, i, byte(near_letter(seed, log, i)));
+        put8(near, i, byte(near_letter(seed, k, log, i)));
     }
 }
 
-// Compares a log with one that is a little different, and a letter shorter in one case of four.
+// Compares a log with one that is a little different; where no letter is, it is one shorter.
 fn compare_near(seed: usize, k: usize, masks: &[u16], log: &[u8], t: Tally) -> Tally {
     let mut near = [0u8; 8];
-    put_near(seed, log, &mut near);
-    let less = if below(seed, 4, 4) == 0 { 1 } else { 0 };
+    put_near(seed, k, log, &mut near);
+    let less = if below(seed, 3, 4) == 3 { 1 } else { 0 };
     compare_with(k, masks, log, part8(&near, 0, minus(log.len(), less)), t)
 }
 

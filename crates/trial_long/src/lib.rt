@@ -203,8 +203,9 @@ fn square(t: Tally) -> Tally {
     edge(counted, square_right(answer, &buffer, &numbers))
 }
 
-// The comparison of two logs of Alt's letters says the verdict, or is refused by the number at the place, about the log.
+// The comparison of two logs of two letters says the verdict, or is refused by the number at the place, about the log.
 fn compare_long(
+    masks: &[u16],
     first: &[u8],
     second: &[u8],
     number: usize,
@@ -213,7 +214,7 @@ fn compare_long(
     verdict: usize,
     t: Tally,
 ) -> Tally {
-    let answer = of_compared(comparison::same(2, &[2u16, 1], first, second));
+    let answer = of_compared(comparison::same(2, masks, first, second));
     let right = is_refusal(answer, number, place, log) & (answer.verdict == verdict);
     tally::refused_edge(t, right, tally::BY_SAME, number)
 }
@@ -226,7 +227,14 @@ fn order_long(log: &[u8], first: &[u8], number: usize, t: Tally) -> Tally {
     tally::refused_edge(t, right, tally::BY_FIRST, number)
 }
 
-// The two are the same; without the last letter they are not.
+// The two are the same where a and b are independent, and not where they are not, nor without the last letter.
+fn same_long(log: &[u8], first: &[u8], t: Tally) -> Tally {
+    let masks = [2u16, 1];
+    let same = compare_long(&masks, log, first, 0, 0, 0, 1, t);
+    let apart = compare_long(&[0u16, 0], log, first, 0, 0, 0, 0, same);
+    compare_long(&masks, log, part8(first, 0, 254), 0, 0, 0, 0, apart)
+}
+
 fn long_orders(t: Tally) -> Tally {
     let mut log = [0u8; 256];
     let mut first = [0u8; 255];
@@ -234,33 +242,19 @@ fn long_orders(t: Tally) -> Tally {
     put_run(&mut first, 127, 128, 1);
     let one = part8(&log, 0, 255);
     let ordered = order_long(&log, &first, 7, order_long(one, &first, 0, t));
-    let same = compare_long(one, &first, 0, 0, 0, 1, ordered);
-    compare_long(one, part8(&first, 0, 254), 0, 0, 0, 0, same)
+    same_long(one, &first, ordered)
 }
 
 // 256 letters in the first log, in the second, or in both. A bad letter of the first goes before 256 letters of the second.
 fn long_pairs(t: Tally) -> Tally {
+    let masks = [2u16, 1];
     let long = [0u8; 256];
-    let one = compare_long(
-        b"",
-        &long,
-        7,
-        0,
-        2,
-        NONE,
-        compare_long(&long, b"", 7, 0, 1, NONE, t),
-    );
-    let both = compare_long(&long, &long, 7, 0, 1, NONE, one);
-    let bad = compare_long(b"\x00\x01\x02\x03", &long, 8, 2, 1, NONE, both);
-    compare_long(
-        part8(&long, 0, 255),
-        b"\x00\x01\x02\x03",
-        8,
-        2,
-        2,
-        NONE,
-        bad,
-    )
+    let bad = b"\x00\x01\x02\x03";
+    let first = compare_long(&masks, &long, b"", 7, 0, 1, NONE, t);
+    let second = compare_long(&masks, b"", &long, 7, 0, 2, NONE, first);
+    let both = compare_long(&masks, &long, &long, 7, 0, 1, NONE, second);
+    let before = compare_long(&masks, bad, &long, 8, 2, 1, NONE, both);
+    compare_long(&masks, part8(&long, 0, 255), bad, 8, 2, 2, NONE, before)
 }
 
 pub fn long_logs(t: Tally) -> Tally {

@@ -7,10 +7,10 @@ use Rattle.cases.proofs.random.put_near.Statement.{statement}
 use Rattle.cases.proofs.random.put_near.Tie as tie
 
 abbrev Inv-loop : tie.InvT-loop
-Inv-loop seed log near₀ i₀ i-end near i = (length near ≡ length near₀)
+Inv-loop seed k log near₀ i₀ i-end near i = (length near ≡ length near₀)
 
 abbrev μ-loop : tie.MeasureT-loop
-μ-loop seed log near₀ i₀ i-end near i = i-end - i
+μ-loop seed k log near₀ i₀ i-end near i = i-end - i
 
 loop-holds : tie.Need-loop-holds Inv-loop μ-loop
 loop-holds c = search needs
