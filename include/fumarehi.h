@@ -1,9 +1,13 @@
 /* Fumarehi: a proved judge of loan logs. The C interface of the static library libcapi.a ('rt staticlib capi').
  *
- * Answers. Every function but fumarehi_next_event returns 0, or the number of the refusal that applies, the lowest if several do:
+ * Answers. Every function but fumarehi_next_event returns 0, or the number of the refusal that applies. If several do, it is the first of them in
+ * this list, which is not by number throughout: 11, 12 and 13 stand where they are checked.
  *
  *    1  file under 16 bytes
  *    2  k, s or start out of range; trailer bytes 10 and 11 not zero; masks_len is not k, or moves_len is not s * k
+ *   11  the text of typed courses breaks their rules or uses a letter from k on; the place in the text is told, from 0
+ *   12  brackets of the text go deeper than 16
+ *   13  more than 31 letters are typed
  *    3  a distance of the file is out of its range
  *    4  a mask has a bit from k on, or its own bit
  *    5  the masks are not symmetric
@@ -13,16 +17,17 @@
  *    9  an output buffer is shorter than what it must receive
  *   10  the records of all prefixes do not fit the work table
  *
- * Each call writes every element of 'told'. Element 0 is the refusal's place: 0 but for refusal 8, and 0 where nothing is refused. After a refusal
- * the other elements are 0 (fumarehi_same also tells the log). Each array lent as a buffer is unchanged after a refusal, but for the work table
- * after refusal 10, whose content is then free.
+ * Each call writes every element of 'told'. Element 0 is the refusal's place: 0 but for refusals 8 and 11, and 0 where nothing is refused. After
+ * a refusal the other elements are 0 (fumarehi_same also tells the log). Each array lent as a buffer is unchanged after a refusal, but for the work
+ * table after refusal 10, whose content is then free.
  *
  * Arguments. A slice is a pointer and its length in elements. No argument is out of bounds for these functions: they answer for all numbers and all
  * lengths. What the caller owes, since nothing here can test it:
  *   - every pointer is not null and is aligned for its type, also where the length is 0;
  *   - it points to as many elements as the length says, which stay allocated and, unless the type is const, are no other argument's, during the call;
  *   - no other thread writes them meanwhile.
- * The functions keep no pointer, use no global data, no heap and no file, and may be called by several threads at once. The most stack measured is 3.3 KB.
+ * The functions keep no pointer, use no global data, no heap and no file, and may be called by several threads at once. The most stack measured is
+ * 11.6 KB in fumarehi_expression, 3.3 KB in the others.
  *
  * A profile is k letters (1 to 16), s states (1 to 32), the start state (below s), the set of final states (bit q for state q), k masks (bit j of mask i
  * is set where letters i and j are independent) and s * k moves (at q * k + a, bit r is set where letter a may lead from state q to state r).
@@ -49,7 +54,10 @@ enum {
     FUMAREHI_LONG_LOG = 7,
     FUMAREHI_BAD_LETTER = 8,
     FUMAREHI_SHORT_BUFFER = 9,
-    FUMAREHI_FULL_TABLE = 10
+    FUMAREHI_FULL_TABLE = 10,
+    FUMAREHI_BAD_TEXT = 11,
+    FUMAREHI_DEEP_TEXT = 12,
+    FUMAREHI_LONG_TEXT = 13
 };
 
 /* Judges a log. told: place, verdict, P, looks.
@@ -121,6 +129,21 @@ uint32_t fumarehi_write_file(size_t k, size_t s, size_t start, uint32_t finals,
 /* The event at place *at of a log, for reading it event by event from place 0: returns the letter and adds 1 to *at, or returns FUMAREHI_END, exactly
  * when none is left, and leaves *at. */
 uint32_t fumarehi_next_event(const uint8_t *log, size_t log_len, size_t *at);
+
+/* Makes a profile of courses typed as an expression, in ASCII and of any length. told: place, s, start, final set.
+ * Letters are a to p, for 0 to 15; '|' separates choices, neighbours follow each other, '*' repeats what it follows zero or more times, '(' and ')'
+ * are the brackets. A bracket holds a whole expression. A choice, a bracket or the text may not be empty; a '*' follows a letter, a closing bracket or
+ * another '*'. No other byte is right, a space or a newline neither.
+ * State 0 starts, state i is the i-th letter typed, and s is one more than the letters typed. That letter leads from state q to state i exactly when it
+ * may come directly after the q-th letter typed, or first for q = 0. Final are the states that a described log may end in, 0 for the empty log: the
+ * profile accepts exactly the logs that the expression describes. The first s * k moves are written, further elements stay; s * k is at most 512.
+ * Of k only its range is checked, and no masks are given: the caller adds its own for fumarehi_judge.
+ * Refused by 2, 11, 12, 13 and 9, in this order; 9 if moves_len is below s * k. The place of 11 is that of the first byte that no right text with the
+ * same beginning has there, whatever its depth and number of letters, or text_len if the text ends too early. */
+uint32_t fumarehi_expression(size_t k,
+                             const uint8_t *text, size_t text_len,
+                             uint32_t *moves, size_t moves_len,
+                             uint64_t told[4]);
 
 #ifdef __cplusplus
 }

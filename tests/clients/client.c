@@ -1,7 +1,8 @@
 /* A C client of the static library: client-c SAMPLE.log ...
  *
  * Judges the samples as the program 'judge' does and compares with SAMPLE.txt, reads their logs event by event, makes the calls of document 01's
- * cases, and makes every refused call on buffers full of guard values. Any difference is printed and makes the exit status 1.
+ * cases, also with their courses typed, and makes every refused call on buffers full of guard values. Any difference is printed and makes the exit
+ * status 1.
  */
 #define _DEFAULT_SOURCE /* for MAP_NORESERVE */
 
@@ -125,7 +126,7 @@ struct profile {
     size_t k, s, start;
     uint32_t finals;
     uint16_t masks[4];
-    uint32_t moves[8];
+    uint32_t moves[20];
 };
 
 static const struct profile alt = {2, 2, 0, 1, {2, 1}, {2, 0, 0, 1}};
@@ -140,17 +141,17 @@ static const struct worked {
     const struct profile *profile;
     const char *log;
     uint64_t verdict, prefixes;
-    const char *order, *first_order;
+    const char *order, *first_order, *courses;
 } cases[] = {
-    {"M1", &alt, "", 1, 1, "", ""},
-    {"M2", &alt, "bbaa", 1, 9, "abab", "aabb"},
-    {"M3", &alt, "bab", 0, 6, "", "abb"},
-    {"M4", &alt_dependent, "ba", 0, 3, "", "ba"},
-    {"M5", &only_ba, "ab", 1, 4, "ba", "ab"},
-    {"M6", &ab_and_ba, "ba", 1, 4, "ab", "ab"},
-    {"M7", &all_of_four, "abcbad", 1, 9, "abcabd", "abcabd"},
-    {"M8", &all_of_three, "cab", 1, 6, "bca", "bca"},
-    {"M9", &alt, "ba", 1, 4, "ab", "ab"},
+    {"M1", &alt, "", 1, 1, "", "", "(ab)*"},
+    {"M2", &alt, "bbaa", 1, 9, "abab", "aabb", "(ab)*"},
+    {"M3", &alt, "bab", 0, 6, "", "abb", "(ab)*"},
+    {"M4", &alt_dependent, "ba", 0, 3, "", "ba", "(ab)*"},
+    {"M5", &only_ba, "ab", 1, 4, "ba", "ab", "ba"},
+    {"M6", &ab_and_ba, "ba", 1, 4, "ab", "ab", "ab|ba"},
+    {"M7", &all_of_four, "abcbad", 1, 9, "abcabd", "abcabd", "(a|b|c|d)*"},
+    {"M8", &all_of_three, "cab", 1, 6, "bca", "bca", "(a*b*c*)*"},
+    {"M9", &alt, "ba", 1, 4, "ab", "ab", "(ab)*"},
 };
 
 /* The letters of a word: a is 0. */
@@ -167,9 +168,8 @@ static int looks_in_range(uint64_t looks, uint64_t prefixes, size_t k)
     return prefixes - 1 <= looks && looks <= prefixes * k;
 }
 
-static void judged(const struct worked *c)
+static void judged(const struct worked *c, const struct profile *p)
 {
-    const struct profile *p = c->profile;
     uint8_t log[16], order[16], expected[16];
     uint32_t table[60];
     uint64_t told[4];
@@ -183,6 +183,20 @@ static void judged(const struct worked *c)
     expect(told[1] == c->verdict && told[2] == c->prefixes, "%s: verdict %u, P %u", c->mark, (unsigned)told[1], (unsigned)told[2]);
     expect(looks_in_range(told[3], c->prefixes, p->k), "%s: looks %u", c->mark, (unsigned)told[3]);
     expect(!memcmp(order, expected, sizeof order), "%s: the order buffer", c->mark);
+}
+
+/* The same with the case's courses typed. */
+static void typed(const struct worked *c)
+{
+    struct profile made = *c->profile;
+    uint64_t told[4];
+    size_t room = sizeof made.moves / sizeof *made.moves;
+    uint32_t answer = fumarehi_expression(made.k, (const uint8_t *)c->courses, strlen(c->courses), made.moves, room, told);
+    expect(answer == 0 && told[0] == 0 && told[2] == 0, "%s: expression answers %u", c->mark, (unsigned)answer);
+    made.s = told[1];
+    made.start = told[2];
+    made.finals = (uint32_t)told[3];
+    judged(c, &made);
 }
 
 static void first_ordered(const struct worked *c)
@@ -289,11 +303,81 @@ static const char *large_table(void)
     return "answered";
 }
 
+/* Texts and what is told of them: number, place, s, final set. */
+static const struct text {
+    size_t k;
+    const char *text;
+    uint64_t number, place, s, finals;
+} texts[] = {
+    {2, "a", 0, 0, 2, 2},
+    {2, "a*", 0, 0, 2, 3},
+    {2, "(ab)*", 0, 0, 3, 5},
+    {2, "a(b|a)*", 0, 0, 4, 14},
+    {16, "p|o", 0, 0, 3, 6},
+    {1, "((((((((((((((((a))))))))))))))))", 0, 0, 2, 2},
+    {1, "(((((((((((((((((a)))))))))))))))))", 12, 0, 0, 0},
+    {3, "abcabcabcabcabcabcabcabcabcabca", 0, 0, 32, 0x80000000},
+    {3, "abcabcabcabcabcabcabcabcabcabcab", 13, 0, 0, 0},
+    {3, "(((((((((((((((((abcabcabcabcabcabcabcabcabcabcab)))))))))))))))))", 12, 0, 0, 0},
+    {1, "(((((((((((((((((a))))))))))))))))))", 11, 35, 0, 0},
+    {1, "(((((((((((((((((", 11, 17, 0, 0},
+    {1, "(((((((((((((((((b", 11, 17, 0, 0},
+    {3, "abcabcabcabcabcabcabcabcabcabcabcd", 11, 33, 0, 0},
+    {2, "", 11, 0, 0, 0},
+    {2, "()", 11, 1, 0, 0},
+    {2, "a|", 11, 2, 0, 0},
+    {2, "|a", 11, 0, 0, 0},
+    {2, "a||b", 11, 2, 0, 0},
+    {2, "(|a)", 11, 1, 0, 0},
+    {2, "(a|)", 11, 3, 0, 0},
+    {2, "*a", 11, 0, 0, 0},
+    {2, "(*a)", 11, 1, 0, 0},
+    {2, "a)", 11, 1, 0, 0},
+    {2, "(a", 11, 2, 0, 0},
+    {1, "ab", 11, 1, 0, 0},
+    {16, "apq", 11, 2, 0, 0},
+    {16, "aA", 11, 1, 0, 0},
+    {16, "a b", 11, 1, 0, 0},
+    {0, "", 2, 0, 0, 0},
+    {17, "a", 2, 0, 0, 0},
+};
+
+/* The move buffer has room for 32 states of 16 letters, and keeps what it had past the moves, or whole if the text is refused. */
+static void texted(const struct text *t)
+{
+    uint32_t moves[513], before[513];
+    uint64_t told[4];
+    memset(moves, 0xA5, sizeof moves);
+    memcpy(before, moves, sizeof moves);
+    uint32_t answer = fumarehi_expression(t->k, (const uint8_t *)t->text, strlen(t->text), moves, 512, told);
+    expect(answer == t->number && told[0] == t->place, "'%s': %u at %u", t->text, (unsigned)answer, (unsigned)told[0]);
+    expect(told[1] == t->s && told[2] == 0 && told[3] == t->finals, "'%s': s %u, finals %x", t->text, (unsigned)told[1], (unsigned)told[3]);
+    size_t written = t->s * t->k;
+    expect(!memcmp(moves + written, before + written, (513 - written) * sizeof *moves), "'%s': moves past the end", t->text);
+}
+
+/* Stars make a text as long as one likes; the place of a fault is told behind them too. */
+static void long_text(void)
+{
+    static uint8_t text[100000];
+    uint32_t moves[4];
+    uint64_t told[4];
+    memset(text, '*', sizeof text);
+    text[0] = 'a';
+    uint32_t answer = fumarehi_expression(2, text, sizeof text, moves, 4, told);
+    expect(answer == 0 && told[1] == 2 && told[3] == 3, "a long text: %u", (unsigned)answer);
+    expect(moves[0] == 2 && moves[1] == 0 && moves[2] == 2 && moves[3] == 0, "a long text: moves");
+    text[sizeof text - 1] = '|';
+    answer = fumarehi_expression(2, text, sizeof text, moves, 4, told);
+    expect(answer == 11 && told[0] == sizeof text, "a long text with a fault: %u", (unsigned)answer);
+}
+
 static void worked_cases(void)
 {
     static const char *const m7[] = {"abcbad", "bacbad", "abcabd", "bacabd"}, *const m8[] = {"cab", "cba", "bca"};
     for (size_t i = 0; i < sizeof cases / sizeof *cases; i++) {
-        judged(&cases[i]);
+        judged(&cases[i], cases[i].profile);
+        typed(&cases[i]);
         first_ordered(&cases[i]);
         tabled(&cases[i]);
     }
@@ -301,6 +385,9 @@ static void worked_cases(void)
     reached(&all_of_four, "abcbad", m7, 4, "abcabd");
     reached(&all_of_three, "cab", m8, 3, "bca");
     lengths();
+    for (size_t i = 0; i < sizeof texts / sizeof *texts; i++)
+        texted(&texts[i]);
+    long_text();
 }
 
 /* ---- Refused calls, and what each call leaves ---- */
@@ -309,12 +396,13 @@ enum { AROUND = 8 };
 
 /* All arguments of all functions. Every buffer has AROUND guard elements before and after the part that is lent. */
 struct lent {
-    size_t k, s, start, masks_len, moves_len, log_len, second_len, order_len, table_len, file_len;
+    size_t k, s, start, masks_len, moves_len, log_len, second_len, order_len, table_len, file_len, text_len;
     uint64_t told[1 + 6 + 1];
     uint32_t finals;
     uint32_t moves[AROUND + 16 + AROUND], table[AROUND + 64 + AROUND];
     uint16_t masks[AROUND + 8 + AROUND];
     uint8_t log[AROUND + 256 + AROUND], second[AROUND + 256 + AROUND], order[AROUND + 256 + AROUND], file[AROUND + 64 + AROUND];
+    uint8_t text[AROUND + 96 + AROUND];
 };
 
 static uint32_t judge(struct lent *l)
@@ -355,7 +443,12 @@ static uint32_t write_file(struct lent *l)
                                l->log + AROUND, l->log_len, l->file + AROUND, l->file_len, l->told + 1);
 }
 
-enum { J = 1, T = 2, S = 4, F = 8, R = 16, L = 32, W = 64, PROFILE = J | T | W, RELATION = PROFILE | S | F, FILES = R | L };
+static uint32_t expression(struct lent *l)
+{
+    return fumarehi_expression(l->k, l->text + AROUND, l->text_len, l->moves + AROUND, l->moves_len, l->told + 1);
+}
+
+enum { J = 1, T = 2, S = 4, F = 8, R = 16, L = 32, W = 64, E = 128, PROFILE = J | T | W, RELATION = PROFILE | S | F, FILES = R | L };
 
 static const struct function {
     const char *name;
@@ -364,12 +457,13 @@ static const struct function {
     uint32_t (*call)(struct lent *);
 } functions[] = {
     {"judge", J, 4, judge},         {"table", T, 3, table},       {"same", S, 3, same},          {"first_order", F, 1, first_order},
-    {"read_file", R, 6, read_file}, {"log_part", L, 3, log_part}, {"write_file", W, 2, write_file},
+    {"read_file", R, 6, read_file}, {"log_part", L, 3, log_part}, {"write_file", W, 2, write_file}, {"expression", E, 4, expression},
 };
 
 enum { FUNCTIONS = sizeof functions / sizeof *functions };
 
-/* A call that is answered: Alt on bbaa, second log abab; the reader has a file and room to spare, the writer only room. */
+/* A call that is answered: Alt on bbaa, second log abab; the reader has a file and room to spare, the writer only room; Alt's courses are typed, with
+ * room to spare for their moves. */
 static void answered_call(struct lent *l, unsigned function)
 {
     static const uint8_t bbaa[] = {1, 1, 0, 0}, abab[] = {0, 1, 0, 1};
@@ -383,7 +477,10 @@ static void answered_call(struct lent *l, unsigned function)
     l->file_len = function == W ? 50 : 40;
     memcpy(l->log + AROUND, bbaa, 4);
     memcpy(l->second + AROUND, abab, 4);
-    if (function & FILES) {
+    memcpy(l->text + AROUND, "(ab)*", l->text_len = 5);
+    if (function == E) {
+        l->moves_len = 7;
+    } else if (function & FILES) {
         l->masks_len = 5;
         l->moves_len = 7;
         memcpy(l->file + AROUND, alt_file, sizeof alt_file);
@@ -402,6 +499,7 @@ static void tell(struct lent *l, size_t count, const uint64_t *told)
 static void answer(struct lent *l, const struct lent *after, unsigned function, uint64_t verdict)
 {
     static const uint8_t abab[] = {0, 1, 0, 1}, aabb[] = {0, 0, 1, 1};
+    static const uint32_t made[] = {2, 0, 0, 4, 2, 0};
     if (function & (J | T))
         memcpy(l->table + AROUND, after->table + AROUND, 54 * sizeof *l->table);
     if (function == J && verdict)
@@ -414,6 +512,8 @@ static void answer(struct lent *l, const struct lent *after, unsigned function, 
     }
     if (function == W)
         memcpy(l->file + AROUND, alt_file, sizeof alt_file);
+    if (function == E)
+        memcpy(l->moves + AROUND, made, sizeof made);
     switch (function) {
     case J: tell(l, 4, (uint64_t[]){0, verdict, 9, after->told[4]}); break;
     case T: tell(l, 3, (uint64_t[]){0, 9, after->told[3]}); break;
@@ -422,10 +522,13 @@ static void answer(struct lent *l, const struct lent *after, unsigned function, 
     case R: tell(l, 6, (uint64_t[]){0, 2, 2, 0, 1, 4}); break;
     case L: tell(l, 3, (uint64_t[]){0, 20, 4}); break;
     case W: tell(l, 2, (uint64_t[]){0, 40}); break;
+    case E: tell(l, 4, (uint64_t[]){0, 3, 0, 5}); break;
     }
 }
 
-static unsigned long answers[FUNCTIONS][11];
+enum { REFUSALS = 13 };
+
+static unsigned long answers[FUNCTIONS][REFUSALS + 1];
 
 static void answered(size_t f, uint64_t verdict)
 {
@@ -458,6 +561,13 @@ static void move_bits(struct lent *l, size_t i, uint32_t bits)
     l->moves[AROUND + i] |= bits;
     for (size_t byte = 0; byte < 4; byte++)
         *in_file(l, 4 + 4 * i + byte) |= (uint8_t)(bits >> 8 * byte);
+}
+
+/* Adds a byte to the text, so many times. */
+static void type(struct lent *l, char byte, size_t count)
+{
+    memset(l->text + AROUND + l->text_len, byte, count);
+    l->text_len += count;
 }
 
 static void letter(struct lent *l, size_t at, uint8_t a) { l->log[AROUND + at] = *in_file(l, 20 + at) = a; }
@@ -501,6 +611,14 @@ static void letter_last(struct lent *l) { letter(l, 3, 255); }
 static void letters_two(struct lent *l) { letter(l, 1, 16), letter(l, 2, 32); }
 static void second_256(struct lent *l) { l->second_len = 256, memset(l->second + AROUND, 0, 256); }
 static void second_letter(struct lent *l) { l->second[AROUND + 2] = 2; }
+static void text_letter(struct lent *l) { l->text[AROUND + 2] = 'c'; }
+static void text_choice(struct lent *l) { l->text[AROUND] = '|'; }
+static void text_star(struct lent *l) { l->text[AROUND + 1] = '*'; }
+static void text_closed(struct lent *l) { l->text[AROUND + 4] = ')'; }
+static void text_byte(struct lent *l) { l->text[AROUND + 3] = 255; }
+static void deep_17(struct lent *l) { type(l, '(', 17), type(l, 'a', 1), type(l, ')', 17); }
+static void letters_32(struct lent *l) { type(l, 'b', 30); }
+static void moves_0(struct lent *l) { l->moves_len = 0; }
 static void order_3(struct lent *l) { l->order_len = 3; }
 static void order_0(struct lent *l) { l->order_len = 0; }
 static void file_39(struct lent *l) { l->file_len = 39; }
@@ -508,7 +626,7 @@ static void table_53(struct lent *l) { l->table_len = 53; }
 static void table_5(struct lent *l) { l->table_len = 5; }
 static void table_0(struct lent *l) { l->table_len = 0; }
 
-/* By rank; rank is the number, but for the second log of fumarehi_same, which comes after the first. */
+/* By rank, the order in which refusals are given; the second log of fumarehi_same comes after the first. */
 static const struct damage {
     const char *what;
     unsigned functions;
@@ -519,10 +637,10 @@ static const struct damage {
 } damages[] = {
     {"a file of 15 bytes", FILES, 1, 0, 0, 10, short_file},
     {"no file", FILES, 1, 0, 0, 10, no_file},
-    {"k 0", RELATION | FILES, 2, 0, 0, 20, k_0},
-    {"k 17", RELATION | FILES, 2, 0, 0, 20, k_17},
-    {"the largest k", RELATION, 2, 0, 0, 20, k_most},
-    {"k 2 in its low 32 bits", RELATION, 2, 0, 0, 20, k_wide},
+    {"k 0", RELATION | FILES | E, 2, 0, 0, 20, k_0},
+    {"k 17", RELATION | FILES | E, 2, 0, 0, 20, k_17},
+    {"the largest k", RELATION | E, 2, 0, 0, 20, k_most},
+    {"k 2 in its low 32 bits", RELATION | E, 2, 0, 0, 20, k_wide},
     {"s 0", PROFILE | FILES, 2, 0, 0, 20, s_0},
     {"s 33", PROFILE | FILES, 2, 0, 0, 20, s_33},
     {"the largest s", PROFILE, 2, 0, 0, 20, s_most},
@@ -535,6 +653,13 @@ static const struct damage {
     {"five moves", PROFILE, 2, 0, 0, 20, moves_5},
     {"trailer byte 10", FILES, 2, 0, 0, 20, byte_10},
     {"trailer byte 11", FILES, 2, 0, 0, 20, byte_11},
+    {"a letter k in the text", E, 11, 2, 0, 21, text_letter},
+    {"an empty choice in the text", E, 11, 0, 0, 21, text_choice},
+    {"a star after a bracket opens", E, 11, 1, 0, 21, text_star},
+    {"a bracket that nothing opened", E, 11, 4, 0, 21, text_closed},
+    {"byte 255 in the text", E, 11, 3, 0, 21, text_byte},
+    {"17 brackets deep", E, 12, 0, 0, 22, deep_17},
+    {"32 letters typed", E, 13, 0, 0, 23, letters_32},
     {"masks too near", FILES, 3, 0, 0, 30, masks_near},
     {"masks too far", FILES, 3, 0, 0, 30, masks_far},
     {"moves too near", FILES, 3, 0, 0, 30, moves_near},
@@ -562,6 +687,8 @@ static const struct damage {
     {"no file buffer", W, 9, 0, 0, 90, no_file},
     {"a mask buffer of 1", R, 9, 0, 0, 90, masks_1},
     {"a move buffer of 3", R, 9, 0, 0, 90, moves_3},
+    {"a buffer of 5 for typed courses", E, 9, 0, 0, 90, moves_5},
+    {"no buffer for typed courses", E, 9, 0, 0, 90, moves_0},
     {"a table of 53", J | T, 10, 0, 0, 100, table_53},
     {"a table of 5", J | T, 10, 0, 0, 100, table_5},
     {"no table", J | T, 10, 0, 0, 100, table_0},
@@ -598,18 +725,18 @@ static void refused_calls(size_t f)
                 refused(f, lower, higher);
 }
 
-/* The refusals of each function, as the header lists them; a file's log never has more than 255 letters. */
-static const char *const possible[FUNCTIONS] = {"2456789:", "245678:", "24578", "245789", "12345689", "1234568", "2456789"};
+/* The refusals of each function, as the header lists them, ':' for 10, ';' for 11 and so on; a file's log never has more than 255 letters. */
+static const char *const possible[FUNCTIONS] = {"2456789:", "245678:", "24578", "245789", "12345689", "1234568", "2456789", "29;<="};
 
 static void print_answers(void)
 {
     printf("%-12s%9s", "function", "answered");
-    for (int number = 1; number <= 10; number++)
+    for (int number = 1; number <= REFUSALS; number++)
         printf("%7d", number);
     printf("\n");
     for (size_t f = 0; f < FUNCTIONS; f++) {
         printf("%-12s%9lu", functions[f].name, answers[f][0]);
-        for (int number = 1; number <= 10; number++) {
+        for (int number = 1; number <= REFUSALS; number++) {
             int can = strchr(possible[f], '0' + number) != NULL;
             if (can)
                 printf("%7lu", answers[f][number]);
@@ -634,7 +761,7 @@ int main(int count, char **paths)
     answered(0, 0);
     const char *large = large_table();
     print_answers();
-    printf("client.c: %d samples, %lu events, %zu worked cases, a table of more than 2^32 numbers %s; %lu comparisons, %lu failed\n", count - 1, events,
-           sizeof cases / sizeof *cases, large, compared, failed);
+    printf("client.c: %d samples, %lu events, %zu worked cases, %zu texts, a table of more than 2^32 numbers %s; %lu comparisons, %lu failed\n", count - 1,
+           events, sizeof cases / sizeof *cases, sizeof texts / sizeof *texts, large, compared, failed);
     return failed > 0;
 }

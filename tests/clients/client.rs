@@ -1,7 +1,7 @@
 //! A Rust client of the static library: client SAMPLE.log ...
 //!
-//! Judges the samples by the safe wrappers as the program `judge` does and compares with SAMPLE.txt, writes and reads back what was read, and
-//! makes refused calls, which must leave their buffers as they were.
+//! Judges the samples by the safe wrappers as the program `judge` does and compares with SAMPLE.txt, writes and reads back what was read, judges
+//! logs by typed courses, and makes refused calls, which must leave their buffers as they were.
 
 mod fumarehi;
 
@@ -190,6 +190,69 @@ fn cut_files(compared: &mut Compared) {
     }
 }
 
+// Typed courses.
+
+/// The earliest permitted order of a log, as letters, by the courses typed.
+fn judged_by(masks: &[u16], text: &str, log: &str) -> Result<Option<String>, Refused> {
+    let mut moves = [0; 512];
+    let courses = fumarehi::expression(masks.len(), text.as_bytes(), &mut moves)?;
+    let log: Vec<u8> = log.bytes().map(|letter| letter - b'a').collect();
+    let mut order = vec![0; log.len()];
+    let verdict = fumarehi::judge(&courses.profile(masks, &moves), &log, &mut order, &mut [0; 600])?;
+    Ok(verdict.has_order.then(|| order.iter().map(|letter| (b'a' + letter) as char).collect()))
+}
+
+fn typed_courses(compared: &mut Compared) {
+    let cases: [(&[u16], &str, &str, Option<&str>); 8] = [
+        (&[2, 1], "(ab)*", "bbaa", Some("abab")),
+        (&[2, 1], "(ab)*", "bab", None),
+        (&[2, 1], "(ab)*", "", Some("")),
+        (&[0, 0], "(ab)*", "ba", None),
+        (&[2, 1], "ba", "ab", Some("ba")),
+        (&[2, 1], "ab|ba", "ba", Some("ab")),
+        (&[0, 0, 0], "a(b|c)*a", "abcba", Some("abcba")),
+        (&[0, 4, 2], "a(bc)*a", "acbbca", Some("abcbca")),
+    ];
+    for (masks, text, log, order) in cases {
+        let found = judged_by(masks, text, log);
+        compared.expect(found == Ok(order.map(String::from)), &format!("{text} on {log}: {found:?}"));
+    }
+    let mut moves = TABLE;
+    let made = fumarehi::expression(2, b"(ab)*", &mut moves);
+    let expected = fumarehi::Courses { k: 2, s: 3, start: 0, finals: 5 };
+    compared.expect(made == Ok(expected), &format!("(ab)* makes {made:?}"));
+    compared.expect(moves[..6] == [2, 0, 0, 4, 2, 0] && moves[6..] == TABLE[6..], "the moves of (ab)*");
+}
+
+/// Texts about each limit: on the near side they are answered.
+fn refused_texts(compared: &mut Compared) {
+    let nested = |depth: usize| ["(".repeat(depth), "a".into(), ")".repeat(depth)].concat();
+    let refused = |refusal, place| Some(Refused { refusal, place, log: 0 });
+    let cases = [
+        (0, "a".to_string(), 100, refused(Refusal::OutOfRange, 0)),
+        (17, "a".to_string(), 100, refused(Refusal::OutOfRange, 0)),
+        (17, "".to_string(), 0, refused(Refusal::OutOfRange, 0)),
+        (16, "p".to_string(), 32, None),
+        (15, "p".to_string(), 0, refused(Refusal::BadText, 0)),
+        (1, "a|".to_string(), 0, refused(Refusal::BadText, 2)),
+        (1, nested(16), 2, None),
+        (1, nested(17), 1, refused(Refusal::DeepText, 0)),
+        (1, nested(17) + ")", 1, refused(Refusal::BadText, 35)),
+        (1, nested(17) + &"a".repeat(31), 1, refused(Refusal::DeepText, 0)),
+        (2, "a".repeat(31), 64, None),
+        (2, "a".repeat(31), 63, refused(Refusal::ShortBuffer, 0)),
+        (2, "a".repeat(32), 63, refused(Refusal::LongText, 0)),
+        (2, "a".repeat(32) + "c", 63, refused(Refusal::BadText, 32)),
+    ];
+    for (k, text, len, refused) in cases {
+        let mut moves = TABLE;
+        let answer = fumarehi::expression(k, text.as_bytes(), &mut moves[..len]);
+        let written = answer.map_or(0, |made| made.s * k);
+        compared.expect(answer.err() == refused, &format!("{k} letters, {text}: {answer:?}"));
+        compared.expect(moves[written..] == TABLE[written..], &format!("buffer after {k} letters, {text}"));
+    }
+}
+
 fn main() -> ExitCode {
     let mut compared = Compared::default();
     let paths: Vec<String> = std::env::args().skip(1).collect();
@@ -199,6 +262,8 @@ fn main() -> ExitCode {
     refused_buffers(&mut compared);
     refused_same(&mut compared);
     cut_files(&mut compared);
+    typed_courses(&mut compared);
+    refused_texts(&mut compared);
     println!("client.rs: {} samples; {} comparisons, {} failed", paths.len(), compared.all, compared.failed);
     if compared.failed == 0 { ExitCode::SUCCESS } else { ExitCode::FAILURE }
 }

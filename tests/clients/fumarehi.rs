@@ -55,6 +55,12 @@ mod c {
             told: *mut u64,
         ) -> u32;
         pub fn fumarehi_next_event(log: *const u8, log_len: usize, at: *mut usize) -> u32;
+        pub fn fumarehi_expression(
+            k: usize,
+            text: *const u8, text_len: usize,
+            moves: *mut u32, moves_len: usize,
+            told: *mut u64,
+        ) -> u32;
     }
 }
 
@@ -90,10 +96,13 @@ pub enum Refusal {
     BadLetter = 8,
     ShortBuffer = 9,
     FullTable = 10,
+    BadText = 11,
+    DeepText = 12,
+    LongText = 13,
 }
 
 impl Refusal {
-    const ALL: [Refusal; 10] = [
+    const ALL: [Refusal; 13] = [
         Refusal::ShortFile,
         Refusal::OutOfRange,
         Refusal::Distance,
@@ -104,6 +113,9 @@ impl Refusal {
         Refusal::BadLetter,
         Refusal::ShortBuffer,
         Refusal::FullTable,
+        Refusal::BadText,
+        Refusal::DeepText,
+        Refusal::LongText,
     ];
 
     pub fn number(self) -> u32 {
@@ -111,14 +123,14 @@ impl Refusal {
     }
 
     fn from_number(number: u32) -> Refusal {
-        *Self::ALL.iter().find(|refusal| refusal.number() == number).expect("the header has ten refusals")
+        *Self::ALL.iter().find(|refusal| refusal.number() == number).expect("a refusal of the header")
     }
 }
 
 #[derive(Clone, Copy, Debug, PartialEq, Eq)]
 pub struct Refused {
     pub refusal: Refusal,
-    /// The place of the first bad letter at `BadLetter`, else 0.
+    /// The place in the log of the first bad letter at `BadLetter`, the place of the fault in the text at `BadText`, else 0.
     pub place: usize,
     /// The log that `same` refuses at `LongLog` and `BadLetter`, 1 or 2, else 0.
     pub log: usize,
@@ -153,6 +165,23 @@ impl Header {
     pub fn profile<'a>(&self, masks: &'a [u16], moves: &'a [u32]) -> Profile<'a> {
         let Header { k, s, start, finals, .. } = *self;
         Profile { k, s, start, finals, masks: &masks[..k], moves: &moves[..s * k] }
+    }
+}
+
+/// What courses typed as an expression make beside their moves.
+#[derive(Clone, Copy, Debug, PartialEq, Eq)]
+pub struct Courses {
+    pub k: usize,
+    pub s: usize,
+    pub start: usize,
+    pub finals: u32,
+}
+
+impl Courses {
+    /// The profile of the courses with the caller's masks; the move buffer is the one that `expression` filled.
+    pub fn profile<'a>(&self, masks: &'a [u16], moves: &'a [u32]) -> Profile<'a> {
+        let Courses { k, s, start, finals } = *self;
+        Profile { k, s, start, finals, masks, moves: &moves[..s * k] }
     }
 }
 
@@ -243,6 +272,10 @@ pub mod numbers {
     pub fn next_event(log: &[u8], at: &mut usize) -> u32 {
         unsafe { c::fumarehi_next_event(log.as_ptr(), log.len(), at) }
     }
+
+    pub fn expression(k: usize, text: &[u8], moves: &mut [u32], told: &mut [u64; 4]) -> u32 {
+        unsafe { c::fumarehi_expression(k, text.as_ptr(), text.len(), moves.as_mut_ptr(), moves.len(), told.as_mut_ptr()) }
+    }
 }
 
 fn answer<T>(number: u32, place: u64, log: u64, value: impl FnOnce() -> T) -> Result<T, Refused> {
@@ -306,6 +339,14 @@ pub fn write_file(p: &Profile, log: &[u8], file: &mut [u8]) -> Result<usize, Ref
     let mut told = [0; 2];
     let number = numbers::write_file(p, log, file, &mut told);
     answer(number, told[0], 0, || told[1] as usize)
+}
+
+/// Makes a profile of courses typed as an expression; its moves go to the start of the buffer.
+pub fn expression(k: usize, text: &[u8], moves: &mut [u32]) -> Result<Courses, Refused> {
+    let mut told = [0; 4];
+    let number = numbers::expression(k, text, moves, &mut told);
+    let [place, s, start, finals] = told;
+    answer(number, place, 0, || Courses { k, s: s as usize, start: start as usize, finals: finals as u32 })
 }
 
 /// A log read event by event.

@@ -1,14 +1,18 @@
 //! Compares the static library with the reference on random calls: fuzz [SEED [COUNT]].
 //!
-//! Valid calls of small size, calls with damage, files laid out freely and damaged. Every call is made twice, by the header's numbers and by the
-//! safe wrapper, on buffers with random content and random guards around; every buffer is compared whole afterwards, only the lent part of
-//! the work table is left out after refusal 10. A refusal that a function can give and never gave is a failure too.
+//! Valid calls of small size, calls with damage, files laid out freely and damaged, texts right and wrong. Every call is made twice, by the
+//! header's numbers and by the safe wrapper, on buffers with random content and random guards around; every buffer is compared whole afterwards,
+//! only the lent part of the work table is left out after refusal 10. Logs are judged by the courses that right texts type. All short texts are
+//! tried too. A refusal that a function can give and never gave is a failure.
 
+mod courses;
 mod fumarehi;
 mod reference;
+mod texts;
 
 use fumarehi::numbers;
 use reference::{Counts, Profile, Records, Refused, Solved};
+use std::collections::BTreeSet;
 use std::fmt::Debug;
 use std::ops::Range;
 use std::process::ExitCode;
@@ -19,6 +23,10 @@ const CALLS: u64 = 300_000;
 const ENOUGH: u64 = 5;
 /// What every element of `told` holds before a call.
 const UNTOLD: u64 = 0xdead_beef_dead_beef;
+/// The last number of a refusal.
+const REFUSALS: usize = 13;
+/// All texts up to this length are tried.
+const LISTED_TEXT: usize = 5;
 
 type Checked = Result<(), String>;
 
@@ -478,7 +486,7 @@ fn file(random: &mut Random) -> Vec<u8> {
 
 // What was met.
 
-const FUNCTIONS: [(&str, &[usize]); 8] = [
+const FUNCTIONS: [(&str, &[usize]); 9] = [
     ("judge", &[2, 4, 5, 6, 7, 8, 9, 10]),
     ("table", &[2, 4, 5, 6, 7, 8, 10]),
     ("same", &[2, 4, 5, 7, 8]),
@@ -487,11 +495,12 @@ const FUNCTIONS: [(&str, &[usize]); 8] = [
     ("log_part", &[1, 2, 3, 4, 5, 6, 8]),
     ("write_file", &[2, 4, 5, 6, 7, 8, 9]),
     ("next_event", &[]),
+    ("expression", &[2, 9, 11, 12, 13]),
 ];
 
 #[derive(Default)]
 struct Seen {
-    answers: [[u64; 11]; 8],
+    answers: [[u64; REFUSALS + 1]; FUNCTIONS.len()],
     verdicts: [u64; 2],
     /// Orders that are not the log, and of these those that are not its first order.
     orders: [u64; 2],
@@ -500,6 +509,12 @@ struct Seen {
     records: u64,
     most_prefixes: usize,
     events: u64,
+    /// Verdicts for typed courses, without and with independent letters.
+    typed: [[u64; 2]; 2],
+    /// Answered texts of 31 letters, and with brackets 16 deep.
+    most_typed: [u64; 2],
+    /// Texts up to `LISTED_TEXT` bytes, wrong and right.
+    listed: [u64; 2],
 }
 
 impl Seen {
@@ -518,11 +533,11 @@ impl Seen {
 
     fn print(&self) {
         print!("{:<12}{:>9}", "function", "answered");
-        (1..=10).for_each(|number| print!("{number:>7}"));
+        (1..=REFUSALS).for_each(|number| print!("{number:>7}"));
         println!("{:>9}", "calls");
         for ((name, possible), answers) in FUNCTIONS.iter().zip(&self.answers) {
             print!("{name:<12}{:>9}", answers[0]);
-            for number in 1..=10 {
+            for number in 1..=REFUSALS {
                 if possible.contains(&number) { print!("{:>7}", answers[number]) } else { print!("{:>7}", "-") }
             }
             println!("{:>9}", answers.iter().sum::<u64>());
@@ -532,6 +547,10 @@ impl Seen {
         let ([differ, same], [_, first, second]) = (self.sames, self.refused_log);
         println!("same: {same}, not same: {differ}; refused for the first log: {first}, for the second: {second}");
         println!("prefixes compared: {}, at most {} of a log; events read: {}", self.records, self.most_prefixes, self.events);
+        let [[no, yes], [no_reached, yes_reached]] = self.typed;
+        println!("typed courses: logs described {yes}, not {no}; with independent letters a described log reached {yes_reached}, none {no_reached}");
+        let ([letters, brackets], [wrong, right]) = (self.most_typed, self.listed);
+        println!("texts answered with 31 letters: {letters}, 16 deep: {brackets}; all texts up to {LISTED_TEXT} bytes: right {right}, wrong {wrong}");
     }
 
     /// What a test of full size has met.
@@ -547,6 +566,12 @@ impl Seen {
         let rare = |pair: [u64; 2]| pair[0].min(pair[1]) * 5 < pair[0].max(pair[1]).max(1);
         if rare(self.verdicts) {
             missing.push(format!("a verdict is rare: {:?}", self.verdicts));
+        }
+        if self.typed.into_iter().any(rare) {
+            missing.push(format!("a verdict for typed courses is rare: {:?}", self.typed));
+        }
+        if self.most_typed.contains(&0) {
+            missing.push(format!("no text at a limit was answered: {:?}", self.most_typed));
         }
         if rare(self.sames) {
             missing.push(format!("an answer of same is rare: {:?}", self.sames));
@@ -869,8 +894,95 @@ fn check_next_event(random: &mut Random, seen: &mut Seen) -> Checked {
         .map_err(|what| format!("{what}\n  next_event {log:?} from {from}"))
 }
 
+type Expressed = Result<(courses::Typed, Profile), Refused>;
+
+fn agree_expression(expected: &Expressed, answer: (u32, [u64; 4]), moves: &Lent<u32>) -> Checked {
+    match expected {
+        Err(refused) => {
+            agree_refused(answer, refused)?;
+            moves.stays("move buffer")
+        }
+        Ok((_, p)) => {
+            agree("answer and told", answer, (0, [0, p.s as u64, p.start as u64, p.finals.into()]))?;
+            moves.begins("move buffer", &p.moves)
+        }
+    }
+}
+
+fn call_expression(k: usize, text: &[u8], mut moves: Lent<u32>, expected: &Expressed) -> Checked {
+    let len = moves.len();
+    let mut again = moves.clone();
+    let mut told = [UNTOLD; 4];
+    let number = numbers::expression(k, text, moves.lend(), &mut told);
+    let wrapped = fumarehi::expression(k, text, again.lend());
+    let wrapped = as_numbers(wrapped, |made| [0, made.s as u64, made.start as u64, made.finals.into()]);
+    agree_expression(expected, (number, told), &moves)
+        .and_then(|()| agree_expression(expected, wrapped, &again))
+        .map_err(|what| format!("{what}\n  expression {k} {:?}, buffer {len}", String::from_utf8_lossy(text)))
+}
+
+/// The judge accepts with the profile made exactly the logs from which a described one can be reached, and gives the earliest.
+fn judges_typed(random: &mut Random, seen: &mut Seen, tree: &courses::Tree, made: &Profile) -> Checked {
+    let independent = random.one_in(2);
+    let masks = if independent { masks(random, made.k) } else { vec![0; made.k] };
+    let mut log = texts::described_log(random, tree);
+    log.truncate(if independent { 7 } else { 30 });
+    match random.below(5) {
+        0 => log = shuffled(random, &log),
+        1 => log = near(random, &masks, &log),
+        2 => log = some_log(random, made.k, log.len()),
+        3 if !log.is_empty() => {
+            let at = random.below(log.len());
+            log[at] = random.below(made.k) as u8;
+        }
+        _ => log = exchanged(random, &masks, &log),
+    }
+    let order = reference::reachable(&masks, &log).into_iter().find(|order| courses::described(tree, order));
+    seen.typed[independent as usize][order.is_some() as usize] += 1;
+    let p = Profile { masks, ..made.clone() };
+    let mut found = vec![0; log.len()];
+    let verdict = fumarehi::judge(&lend(&p), &log, &mut found, &mut [0; 6 * 256]).map_err(|refused| format!("judge: {refused:?}"))?;
+    agree("the order of a log", (verdict.has_order.then_some(found), &p.masks, &log), (order, &p.masks, &log))
+}
+
+fn check_expression(random: &mut Random, seen: &mut Seen) -> Checked {
+    let (k, text) = texts::some_text(random);
+    let letters = text.iter().filter(|byte| byte.is_ascii_lowercase()).count().min(40);
+    let len = buffer_len(random, (letters + 1) * k.min(20));
+    let moves = lent_numbers(random, len);
+    let expected = courses::expression(k, &text, len);
+    seen.answer(8, expected.as_ref().err());
+    call_expression(k, &text, moves, &expected)?;
+    match &expected {
+        Ok((typed, made)) => {
+            seen.most_typed[0] += (typed.letters == 31) as u64;
+            seen.most_typed[1] += (typed.deepest == 16) as u64;
+            judges_typed(random, seen, &typed.tree, made).map_err(|what| format!("{what}\n  courses {:?}", String::from_utf8_lossy(&text)))
+        }
+        Err(_) => Ok(()),
+    }
+}
+
+/// Every text of few bytes, where a is the only letter: 11 with the place that the list of all right texts gives, or none. A beginning of a right
+/// text needs at most a letter and a bracket for each byte to be one.
+fn check_listed(random: &mut Random, seen: &mut Seen) -> Checked {
+    let right: BTreeSet<Vec<u8>> = courses::right_texts(2 * LISTED_TEXT + 1).into_iter().collect();
+    let beginnings: BTreeSet<&[u8]> = right.iter().flat_map(|text| (0..=text.len().min(LISTED_TEXT)).map(|len| &text[..len])).collect();
+    for text in texts::all_texts(LISTED_TEXT) {
+        let place = (0..text.len()).find(|&at| !beginnings.contains(&text[..=at])).unwrap_or(text.len());
+        let moves = lent_numbers(random, 32);
+        let expected = courses::expression(1, &text, moves.len());
+        let refused = expected.as_ref().err().map(|refused| (refused.number, refused.place));
+        seen.listed[right.contains(&text) as usize] += 1;
+        agree("the reference's place", refused, if right.contains(&text) { None } else { Some((11, place)) })
+            .map_err(|what| format!("{what}\n  {:?}", String::from_utf8_lossy(&text)))?;
+        call_expression(1, &text, moves, &expected)?;
+    }
+    Ok(())
+}
+
 fn check(random: &mut Random, seen: &mut Seen) -> Checked {
-    match random.below(100) {
+    match random.below(110) {
         0..=29 => check_judge(random, seen),
         30..=46 => check_table(random, seen),
         47..=58 => check_same(random, seen),
@@ -878,7 +990,8 @@ fn check(random: &mut Random, seen: &mut Seen) -> Checked {
         69..=81 => check_read_file(random, seen),
         82..=89 => check_log_part(random, seen),
         90..=97 => check_write_file(random, seen),
-        _ => check_next_event(random, seen),
+        98..=99 => check_next_event(random, seen),
+        _ => check_expression(random, seen),
     }
 }
 
@@ -888,6 +1001,10 @@ fn main() -> ExitCode {
     let calls = arguments.next().unwrap_or(CALLS);
     let mut seen = Seen::default();
     let mut failures = 0;
+    if let Err(what) = check_listed(&mut Random(seed), &mut seen) {
+        println!("FAILED, texts: {what}");
+        failures += 1;
+    }
     for call in 0..calls {
         // A call depends on seed and number only, so one call can be made again alone.
         let mut random = Random(Random(seed).next().wrapping_add(call.wrapping_mul(0x2545_f491_4f6c_dd1d)));

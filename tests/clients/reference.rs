@@ -39,7 +39,7 @@ pub struct Sets {
 /// The sets of every prefix of a log.
 pub type Records = BTreeMap<Counts, Sets>;
 
-fn refuse<T>(number: u32) -> Result<T, Refused> {
+pub fn refuse<T>(number: u32) -> Result<T, Refused> {
     Err(Refused { number, place: 0, log: 0 })
 }
 
@@ -102,7 +102,7 @@ fn letters(k: usize, log: &[u8]) -> Result<(), Refused> {
     }
 }
 
-fn room(len: usize, needed: usize) -> Result<(), Refused> {
+pub fn room(len: usize, needed: usize) -> Result<(), Refused> {
     if len < needed { refuse(9) } else { Ok(()) }
 }
 

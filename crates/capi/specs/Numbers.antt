@@ -20,6 +20,7 @@ use Rattle.logfile.specs.declared.Reading.{Reading}
 use Rattle.logfile.specs.declared.Reading.the-variants.{Told}
 use Rattle.filewriter.specs.declared.Writing.{Writing}
 use Rattle.filewriter.specs.declared.Writing.the-variants.{Length}
+use Rattle.expression.specs.declared.Made.{Made}
 use Rattle.logreader.specs.declared.Event.{Event}
 use Rattle.logreader.specs.declared.Event.the-variants.{Letter, End}
 
@@ -108,3 +109,12 @@ writing-told (Length n) = 0 ∷ n ∷ []
 abbrev pub event-number : Event → ℕ
 event-number (Letter a) = a
 event-number End = 256
+
+-- typed courses: the refusal's number; place, s, start, final set
+abbrev pub made-code : Made → ℕ
+made-code (Made.Refused r) = refusal-number r
+made-code (Made.Profile h) = 0
+
+abbrev pub made-told : Made → List ℕ
+made-told (Made.Refused r) = refusal-place r ∷ 0 ∷ 0 ∷ 0 ∷ []
+made-told (Made.Profile h) = 0 ∷ h .s ∷ h .start ∷ h .finals ∷ []

@@ -8,8 +8,10 @@ ghost use Rattle.order.specs.Order.{ordered-buffer, ordering};
 ghost use Rattle.logfile.specs.Files.{file-masks, file-moves, file-shape, filled, log-location, log-length, read-refusal, reading};
 ghost use Rattle.filewriter.specs.Written.{file-bytes, write-refusal, writing};
 ghost use Rattle.logreader.specs.Events.{event-of, place-behind};
-ghost use Rattle.capi.specs.Numbers.{Building, Judging, compared-code, compared-told, event-number, located-code, located-told, ordered-code, ordered-told, reading-code, reading-told, writing-code, writing-told};
+ghost use Rattle.expression.specs.Making.{made-buffer, making};
+ghost use Rattle.capi.specs.Numbers.{Building, Judging, compared-code, compared-told, event-number, located-code, located-told, made-code, made-told, ordered-code, ordered-told, reading-code, reading-told, writing-code, writing-told};
 use comparison::Compared;
+use expression::Made;
 use filewriter::Writing;
 use logfile::Located;
 use logfile::Reading;
@@ -249,5 +251,32 @@ pub extern "C" fn fumarehi_next_event(log: &[u8], at: &mut usize) -> u32
     match event {
         Event::Letter(letter) => letter as u32,
         Event::End => 256,
+    }
+}
+
+// Courses typed as an expression.
+#[no_mangle]
+pub extern "C" fn fumarehi_expression(
+    k: usize,
+    text: &[u8],
+    moves: &mut [u32],
+    told: &mut [u64; 4],
+) -> u32
+    ensures { λ r. ⌜ (let a = making k (now (text .entry)) (length (now (moves .entry))) in
+        (r ≡ made-code a) × (now (told .exit) ≡ made-told a) × (now (moves .exit) ≡ made-buffer k (now (text .entry)) (now (moves .entry)))) ⌝ }
+{
+    let made = expression::make(k, text, moves);
+    match made {
+        Made::Refused(r) => {
+            *told = [place_of(r), 0, 0, 0];
+            refusals::number(r)
+        }
+        Made::Profile(shape) => {
+            let s = shape.s as u64;
+            let start = shape.start as u64;
+            let finals = shape.finals as u64;
+            *told = [0, s, start, finals];
+            0
+        }
     }
 }

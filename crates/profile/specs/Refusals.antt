@@ -13,7 +13,7 @@ use Rattle.profile.specs.Tables.{capacity, layout}
 use Rattle.profile.specs.declared.Check.{Check}
 use Rattle.profile.specs.declared.Check.the-variants.{Good, Bad}
 use Rattle.profile.specs.declared.Refusal.{Refusal}
-use Rattle.profile.specs.declared.Refusal.the-variants.{ShortFile, OutOfRange, Distance, MaskBit, Asymmetric, StateBit, LongLog, BadLetter, ShortBuffer, FullTable}
+use Rattle.profile.specs.declared.Refusal.the-variants.{ShortFile, OutOfRange, Distance, MaskBit, Asymmetric, StateBit, LongLog, BadLetter, ShortBuffer, FullTable, BadText, DeepText, LongText}
 
 -- "A refusal gives its number …"
 abbrev pub refusal-number : Refusal → ℕ
@@ -27,8 +27,11 @@ refusal-number LongLog = 7
 refusal-number (BadLetter i) = 8
 refusal-number ShortBuffer = 9
 refusal-number FullTable = 10
+refusal-number (BadText i) = 11
+refusal-number DeepText = 12
+refusal-number LongText = 13
 
--- "… and a place": "Place is 0 except at 8"
+-- "… and a place": "Place is 0 except at 8", and at 11 (document 02, Paper 1)
 abbrev pub refusal-place : Refusal → ℕ
 refusal-place ShortFile = 0
 refusal-place OutOfRange = 0
@@ -40,6 +43,9 @@ refusal-place LongLog = 0
 refusal-place (BadLetter i) = i
 refusal-place ShortBuffer = 0
 refusal-place FullTable = 0
+refusal-place (BadText i) = i
+refusal-place DeepText = 0
+refusal-place LongText = 0
 
 -- the number S has a bit from n on
 abbrev pub bit-from : ℕ → ℕ → Bool

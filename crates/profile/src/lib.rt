@@ -20,6 +20,9 @@ pub enum Refusal {
     BadLetter(usize),
     ShortBuffer,
     FullTable,
+    BadText(usize),
+    DeepText,
+    LongText,
 }
 
 // The answer of a check: nothing is refused, or the lowest refusal that applies.

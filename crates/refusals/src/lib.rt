@@ -18,6 +18,9 @@ pub fn number(r: Refusal) -> u32
         Refusal::BadLetter(_) => 8,
         Refusal::ShortBuffer => 9,
         Refusal::FullTable => 10,
+        Refusal::BadText(_) => 11,
+        Refusal::DeepText => 12,
+        Refusal::LongText => 13,
     }
 }
 
@@ -36,5 +39,8 @@ pub fn place(r: Refusal) -> usize
         Refusal::BadLetter(i) => i,
         Refusal::ShortBuffer => 0,
         Refusal::FullTable => 0,
+        Refusal::BadText(i) => i,
+        Refusal::DeepText => 0,
+        Refusal::LongText => 0,
     }
 }

@@ -1,0 +1,54 @@
+-- `trial_grammar::grammar::place_of` is safe and ends.
+use borrow.Author.Needs.{needs}
+use Prim.Native.Nat.{_≤_, _-_}
+use Rattle.trial_grammar.proofs.grammar.place_of.Statement.{statement}
+use Rattle.trial_grammar.proofs.grammar.place_of.Tie as tie
+
+abbrev Inv-loop : tie.InvT-loop
+Inv-loop k text i₀ i-end i = 0 ≤ 0
+
+abbrev μ-loop : tie.MeasureT-loop
+μ-loop k text i₀ i-end i = i-end - i
+
+loop-holds : tie.Need-loop-holds Inv-loop μ-loop
+loop-holds c = search needs
+
+plus-requires : tie.Need-plus-requires Inv-loop μ-loop
+plus-requires c κs = search needs
+
+part8-requires : tie.Need-part8-requires Inv-loop μ-loop
+part8-requires c κs = search needs
+
+begins-requires : tie.Need-begins-requires Inv-loop μ-loop
+begins-requires c κs = search needs
+
+returns : tie.Need-returns Inv-loop μ-loop
+returns c = search needs
+
+add-i : tie.Need-add-i Inv-loop μ-loop
+add-i c = search needs
+
+loop-less : tie.Need-loop-less Inv-loop μ-loop
+loop-less c = search needs
+
+loop-again : tie.Need-loop-again Inv-loop μ-loop
+loop-again c = search needs
+
+returns-2 : tie.Need-returns-2 Inv-loop μ-loop
+returns-2 c = search needs
+
+pub place-of-spec : {M : Type 1} → statement M
+place-of-spec =
+    tie.close
+    (tie.spec
+    Inv-loop
+    μ-loop
+    loop-holds
+    plus-requires
+    part8-requires
+    begins-requires
+    returns
+    add-i
+    loop-less
+    loop-again
+    returns-2)

@@ -1,0 +1,62 @@
+-- `trial_grammar::parts::expression_of` is safe and ends.
+use borrow.Author.Needs.{needs}
+use Prim.Native.Nat.{_≤_, _-_}
+use Rattle.trial_grammar.proofs.parts.expression_of.Statement.{statement}
+use Rattle.trial_grammar.proofs.parts.expression_of.Tie as tie
+
+abbrev Inv-loop : tie.InvT-loop
+Inv-loop text table i j all₀ m₀ all m = 0 ≤ 0
+
+abbrev μ-loop : tie.MeasureT-loop
+μ-loop text table i j all₀ m₀ all m = j - m
+
+meaning-requires : tie.Need-meaning-requires Inv-loop μ-loop
+meaning-requires c κs = search needs
+
+loop-holds : tie.Need-loop-holds Inv-loop μ-loop
+loop-holds c = search needs
+
+at8-requires : tie.Need-at8-requires Inv-loop μ-loop
+at8-requires c κs = search needs
+
+meaning-requires-2 : tie.Need-meaning-requires-2 Inv-loop μ-loop
+meaning-requires-2 c κs = search needs
+
+plus-requires : tie.Need-plus-requires Inv-loop μ-loop
+plus-requires c κs = search needs
+
+meaning-requires-3 : tie.Need-meaning-requires-3 Inv-loop μ-loop
+meaning-requires-3 c κs = search needs
+
+either-requires : tie.Need-either-requires Inv-loop μ-loop
+either-requires c κs = search needs
+
+add-m : tie.Need-add-m Inv-loop μ-loop
+add-m c = search needs
+
+loop-less : tie.Need-loop-less Inv-loop μ-loop
+loop-less c = search needs
+
+loop-again : tie.Need-loop-again Inv-loop μ-loop
+loop-again c = search needs
+
+returns : tie.Need-returns Inv-loop μ-loop
+returns c = search needs
+
+pub expression-of-spec : {M : Type 1} → statement M
+expression-of-spec =
+    tie.close
+    (tie.spec
+    Inv-loop
+    μ-loop
+    meaning-requires
+    loop-holds
+    at8-requires
+    meaning-requires-2
+    plus-requires
+    meaning-requires-3
+    either-requires
+    add-m
+    loop-less
+    loop-again
+    returns)

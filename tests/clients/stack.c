@@ -1,0 +1,106 @@
+/* The most stack that calls of the static library take: stack.
+ *
+ * Each call runs on a stack of its own that was painted before; what is no longer paint was used. The calls have the most letters, states, events and
+ * brackets that are answered. The exit status is 1 if one takes more than the header states, or is refused.
+ */
+#define _XOPEN_SOURCE 700
+
+#include "fumarehi.h"
+
+#include <stdio.h>
+#include <string.h>
+#include <ucontext.h>
+
+enum { STACK = 1 << 18, PAINT = 0xA5, STATED = 116 * 1024 / 10 }; /* 11.6 KB */
+
+static uint8_t stack[STACK] __attribute__((aligned(64)));
+static ucontext_t outside, inside;
+
+static size_t used(void (*call)(void))
+{
+    memset(stack, PAINT, STACK);
+    getcontext(&inside);
+    inside.uc_stack.ss_sp = stack;
+    inside.uc_stack.ss_size = STACK;
+    inside.uc_link = &outside;
+    makecontext(&inside, call, 0);
+    swapcontext(&outside, &inside);
+    size_t untouched = 0;
+    while (untouched < STACK && stack[untouched] == PAINT)
+        untouched++;
+    return STACK - untouched;
+}
+
+/* ---- Calls ---- */
+
+static uint16_t masks[16];
+static uint32_t moves[512], table[6 * 4096];
+static uint8_t log[255], order[255], file[4096], text[4096];
+static size_t text_len, file_len;
+static uint64_t told[6];
+static uint32_t answer;
+
+static void nothing(void) {}
+static void judge(void) { answer = fumarehi_judge(16, 32, 0, 1, masks, 16, moves, 512, log, 255, order, 255, table, 6 * 4096, told); }
+static void build(void) { answer = fumarehi_table(16, 32, 0, 1, masks, 16, moves, 512, log, 255, table, 6 * 4096, told); }
+static void same(void) { answer = fumarehi_same(16, masks, 16, log, 255, log, 255, told); }
+static void first_order(void) { answer = fumarehi_first_order(16, masks, 16, log, 255, order, 255, told); }
+static void write_file(void) { answer = fumarehi_write_file(16, 32, 0, 1, masks, 16, moves, 512, log, 255, file, sizeof file, told); }
+static void read_file(void) { answer = fumarehi_read_file(file, file_len, masks, 16, moves, 512, told); }
+static void log_part(void) { answer = fumarehi_log_part(file, file_len, told); }
+static void expression(void) { answer = fumarehi_expression(16, text, text_len, moves, 512, told); }
+
+static void type(const char *part, size_t count)
+{
+    size_t len = strlen(part);
+    for (size_t i = 0; i < count; i++, text_len += len)
+        memcpy(text + text_len, part, len);
+}
+
+/* 31 letters typed, the last in brackets: every letter before it and every bracket around it keeps the walk open. */
+static void type_nested(const char *before, size_t depth)
+{
+    text_len = 0;
+    type(before, 30);
+    type("(", depth);
+    type("a", 1);
+    type(")", depth);
+}
+
+static size_t most;
+static int refused;
+
+static void print(const char *name, void (*call)(void))
+{
+    size_t bytes = used(call) - used(nothing);
+    printf("%-44s%7zu bytes%s\n", name, bytes, answer ? ", REFUSED" : "");
+    most = bytes > most ? bytes : most;
+    refused |= answer != 0;
+}
+
+int main(void)
+{
+    memset(moves, 0xFF, sizeof moves);
+    for (size_t i = 0; i < 255; i++)
+        log[i] = (uint8_t)(i % 16);
+    masks[0] = 2;
+    masks[1] = 1;
+    print("judge", judge);
+    print("table", build);
+    print("same", same);
+    print("first_order", first_order);
+    print("write_file", write_file);
+    file_len = told[1];
+    print("read_file", read_file);
+    print("log_part", log_part);
+    type_nested("a", 0);
+    print("expression, 31 letters in a row", expression);
+    type_nested("a|", 0);
+    print("expression, 31 choices", expression);
+    type_nested("a", 16);
+    print("expression, 31 letters, 16 brackets", expression);
+    type_nested("a|", 16);
+    print("expression, 31 choices, 16 brackets", expression);
+    printf("stack: at most %zu bytes, stated %d; %s\n", most, STATED, most > STATED || refused ? "FAILED" : "0 failed");
+    return most > STATED || refused;
+}
