@@ -127,7 +127,7 @@ fn assert_same_tables(tables: &Tables, prefixes: usize) {
     assert!(sorted(&tables.ours[..used]) == sorted(&tables.merge[..used]), "the tables have the same records");
 }
 
-/// The answer of a judge with its order. The looks of the contestants agree as well: all count the letters that can be added to prefixes.
+/// The answer of a judge with its order: verdict, P and looks, all exact.
 fn answered(log: &[u8], judge: impl FnOnce(&mut [u8]) -> Result<Answer, Refusal>) -> (Answer, Vec<u8>) {
     let mut order = vec![0; log.len()];
     let answer = judge(&mut order).expect("the input is admitted and its records fit");

@@ -63,7 +63,8 @@ enum {
 /* Judges a log. told: place, verdict, P, looks.
  * Verdict 1: some log that exchanges of neighbouring independent letters reach is accepted; the first log_len bytes of 'order' are the earliest such
  * log in letter order, the others stay. Verdict 0: none is; 'order' stays. P is the number of prefixes of the log; the work table then holds a
- * record of six numbers for each (see fumarehi_table). Looks lies between P - 1 and P * k.
+ * record of six numbers for each (see fumarehi_table). Looks is the number of pairs of a prefix and a letter such that adding one of that letter
+ * gives a prefix again; it may exceed 32 bits. Logs that exchanges turn into each other have equal P and looks.
  * Refused by 2 and 4 to 10; 9 if order_len is below log_len, also where the verdict would be 0. */
 uint32_t fumarehi_judge(size_t k, size_t s, size_t start, uint32_t finals,
                         const uint16_t *masks, size_t masks_len,
@@ -73,7 +74,7 @@ uint32_t fumarehi_judge(size_t k, size_t s, size_t start, uint32_t finals,
                         uint32_t *work, size_t work_len,
                         uint64_t told[4]);
 
-/* Builds the prefix table of a log. told: place, P, looks.
+/* Builds the prefix table of a log. told: place, P, looks; both as of fumarehi_judge.
  * A record is six numbers, one record for each prefix by rising total count: numbers 0 to 3 have the counts, 8 bits each, letter i in bits
  * 8 * (i mod 4) and up of number i div 4; number 4 is the set of states that an order of the prefix leads to from the start; number 5 is the
  * set of states from which an order of the rest leads to a final state. Numbers past record P - 1 stay.

@@ -163,7 +163,7 @@ fn refused_buffers(compared: &mut Compared) {
     compared.expect(fumarehi::judge(&ALT, BA, &mut order, &mut table[..23]) == Err(full), "judge: a table of 23");
     compared.expect(fumarehi::table(&ALT, BA, &mut table[..23]) == Err(full), "table: a table of 23");
     compared.expect(order == ORDER && table[23..] == TABLE[23..], "buffers after a full table");
-    compared.expect(fumarehi::table(&ALT, BA, &mut table[..24]).is_ok_and(|table| table.prefixes == 4), "table: a table of 24");
+    compared.expect(fumarehi::table(&ALT, BA, &mut table[..24]).is_ok_and(|table| table.prefixes == 4 && table.looks == 4), "table: a table of 24");
 }
 
 fn refused_same(compared: &mut Compared) {

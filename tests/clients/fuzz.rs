@@ -611,11 +611,6 @@ fn agree_refused<const N: usize>(answer: (u32, [u64; N]), refused: &Refused) -> 
     agree("answer and told", answer, refusal(refused))
 }
 
-fn looks_in_range(p: &Profile, prefixes: usize, looks: u64) -> Checked {
-    let (prefixes, k) = (prefixes as u64, p.k as u64);
-    if (prefixes - 1..=prefixes * k).contains(&looks) { Ok(()) } else { Err(format!("looks {looks} with P {prefixes}, k {k}")) }
-}
-
 fn counts(k: usize, record: &[u32]) -> Result<Counts, String> {
     let counts: Counts = record[..4].iter().flat_map(|number| number.to_le_bytes()).collect();
     if counts[k..].iter().all(|&count| count == 0) { Ok(counts[..k].to_vec()) } else { Err(format!("counts from k on: {record:?}")) }
@@ -653,10 +648,8 @@ fn agree_judge(p: &Profile, expected: &Expected, answer: (u32, [u64; 4]), order:
             agree_refused_table(work, refused)
         }
         Ok(solved) => {
-            let (number, [place, verdict, prefixes, looks]) = answer;
-            let expected = (0, 0, solved.order.is_some() as u64, solved.records.len() as u64);
-            agree("answer, place, verdict, P", (number, place, verdict, prefixes), expected)?;
-            looks_in_range(p, solved.records.len(), looks)?;
+            let expected = (0, [0, solved.order.is_some() as u64, solved.records.len() as u64, solved.looks as u64]);
+            agree("answer; place, verdict, P, looks", answer, expected)?;
             order.begins("order buffer", solved.order.as_deref().unwrap_or_default())?;
             agree_table(p, work, &solved.records)
         }
@@ -702,9 +695,7 @@ fn agree_built(p: &Profile, expected: &Expected, answer: (u32, [u64; 3]), table:
             agree_refused_table(table, refused)
         }
         Ok(solved) => {
-            let (number, [place, prefixes, looks]) = answer;
-            agree("answer, place, P", (number, place, prefixes), (0, 0, solved.records.len() as u64))?;
-            looks_in_range(p, solved.records.len(), looks)?;
+            agree("answer; place, P, looks", answer, (0, [0, solved.records.len() as u64, solved.looks as u64]))?;
             agree_table(p, table, &solved.records)
         }
     }

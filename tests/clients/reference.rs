@@ -298,10 +298,17 @@ fn order_by_recursion(p: &Profile, totals: &[Total]) -> Option<Vec<u8>> {
 
 // Table and judge.
 
+/// The pairs of a prefix and a letter such that adding one of that letter gives a prefix again.
+fn looks(k: usize, records: &Records) -> usize {
+    let again = |counts: &Counts, a: usize| counts[a] < 255 && records.contains_key(&one_more(counts, a));
+    records.keys().map(|counts| (0..k).filter(|&a| again(counts, a)).count()).sum()
+}
+
 /// What is to be said of a log when its call is admitted.
 #[derive(Clone, Debug)]
 pub struct Solved {
     pub records: Records,
+    pub looks: usize,
     pub order: Option<Vec<u8>>,
     log_len: usize,
 }
@@ -317,7 +324,7 @@ pub fn solve(p: &Profile, log: &[u8]) -> Result<Solved, Refused> {
         assert_eq!(records_by_listing(p, log), records, "the reference disagrees with itself: {p:?} {log:?}");
         assert_eq!(order_by_listing(p, log), order, "the reference disagrees with itself: {p:?} {log:?}");
     }
-    Ok(Solved { records, order, log_len: log.len() })
+    Ok(Solved { looks: looks(p.k, &records), records, order, log_len: log.len() })
 }
 
 impl Solved {

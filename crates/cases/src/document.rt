@@ -20,6 +20,7 @@ use trial_logs::compare::compare_table;
 use trial_logs::listing::list;
 use trial_logs::listing::row;
 use trial_logs::paths::earliest_accepted;
+use trial_logs::prefixes::look_count;
 use trial_logs::prefixes::prefix_count;
 
 // The earliest accepted listed log is the expected one, or there is none.
@@ -39,7 +40,7 @@ fn order_listed(
     }
 }
 
-// The listing agrees with the case's reachable logs, its P and its order, so that what the library is compared with is itself right.
+// The listing agrees with the case's reachable logs, its P, looks and order, so that what the library is compared with is itself right.
 fn listing_right(
     shape: Shape,
     masks: &[u16],
@@ -52,16 +53,17 @@ fn listing_right(
     let count = list(masks, log, &mut rows);
     (count == digit(text, 1))
         & (prefix_count(masks, log) == digit(text, 2))
-        & order_listed(shape, moves, &rows, count, order, digit(text, 3))
+        & (look_count(masks, log) == digit(text, 3))
+        & order_listed(shape, moves, &rows, count, order, digit(text, 4))
 }
 
-// A log with its order; the text has the log's length, the number of reachable logs, P and the verdict.
+// A log with its order; the text has the log's length, the number of reachable logs, P, looks and the verdict.
 fn compare_case(shape: Shape, masks: &[u16], moves: &[u32], text: &[u8], t: Tally) -> Tally {
     let mut log = [0u8; 8];
     let mut order = [0u8; 8];
     let n = digit(text, 0);
-    put_letters_in(text, 5, n, &mut log);
-    put_letters_in(text, plus(6, n), n, &mut order);
+    put_letters_in(text, 6, n, &mut log);
+    put_letters_in(text, plus(7, n), n, &mut order);
     let right = listing_right(
         shape,
         masks,
@@ -100,20 +102,20 @@ fn case(line: &[u8], t: Tally) -> Tally {
 // M1 to M8; of M7 and M8 the free profile has the first order.
 fn document_cases(t: Tally) -> Tally {
     let alt = case(
-        b"2201 21 2001 4691 1100 0101",
-        case(b"2201 21 2001 0111  ", t),
+        b"2201 21 2001 469c1 1100 0101",
+        case(b"2201 21 2001 01101  ", t),
     );
     let no_order = case(
-        b"2201 00 2001 2130 10 00",
-        case(b"2201 21 2001 3360 101 000", alt),
+        b"2201 00 2001 21320 10 00",
+        case(b"2201 21 2001 33670 101 000", alt),
     );
     let courses = case(
-        b"2408 21 24088000 2241 10 01",
-        case(b"2304 21 024000 2241 01 10", no_order),
+        b"2408 21 24088000 22441 10 01",
+        case(b"2304 21 024000 22441 01 10", no_order),
     );
     case(
-        b"3101 252 111 3361 201 120",
-        case(b"4101 2100 1111 6491 012103 012013", courses),
+        b"3101 252 111 33671 201 120",
+        case(b"4101 2100 1111 649a1 012103 012013", courses),
     )
 }
 

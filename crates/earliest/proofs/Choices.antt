@@ -10,11 +10,11 @@ use lib.ListN.{length, length-set}
 use Rattle.profile.specs.Lists.{Mem}
 use Rattle.profile.specs.Traces.{independent}
 use Rattle.profile.specs.Automata.{Profile, automaton, meets}
-use Rattle.profile.specs.Prefixes.{IsPrefix, at, one, total}
+use Rattle.profile.specs.Prefixes.{IsPrefix, addable?, at, more, one, total}
 use Rattle.profile.specs.Tables.{layout, packed}
 use Rattle.profile.proofs.Lists.{equal-test, is-true, lt-or-le}
 use Rattle.theory.proofs.Packing.{packed-inj}
-use Rattle.theory.proofs.Prefixes.{addable-of, addable?, more, one-cases, one-same}
+use Rattle.theory.proofs.Prefixes.{addable-of, one-cases, one-same}
 use Rattle.theory.proofs.Levels.{at-bump, bump, level-next}
 use Rattle.theory.proofs.Merge.{level-unmarked}
 use Rattle.theory.proofs.Judgement.{choice, some-choice}

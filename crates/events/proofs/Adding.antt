@@ -9,10 +9,10 @@ use native.Mathlib.Omega.{arith}
 use lib.Dec.{T, T-not, not-T, eqb, eqb→eq, ltb, ltb→lt, lt→ltb}
 use lib.ListN.{length, getD}
 use Rattle.profile.specs.Lists.{Mem, all, below}
-use Rattle.profile.specs.Prefixes.{IsPrefix, at, count, less, unmarked}
+use Rattle.profile.specs.Prefixes.{IsPrefix, addable?, at, count, less, more, unmarked}
 use Rattle.profile.specs.Traces.{letters-below}
 use Rattle.profile.proofs.Lists.{all-at, all-of, below-at, below-of, both, either, fst-of, is-false, is-true, or-left, or-right, snd-of, test}
-use Rattle.theory.proofs.Prefixes.{addable-at, addable-of, addable?, more, more-of-pick, one-cases}
+use Rattle.theory.proofs.Prefixes.{addable-at, addable-of, more-of-pick, one-cases}
 use Rattle.theory.proofs.Scan.{scan-at, scan-of, scan?}
 use Rattle.profile.proofs.Traces.{Pick}
 use Rattle.places.specs.Places.{next-places}

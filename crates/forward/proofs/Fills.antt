@@ -10,14 +10,13 @@ use lib.ListN.{length, getD, take, drop, length-append, length-map}
 use lib.Seq.{length-take-le, take-all, take-suc}
 use Rattle.profile.specs.Automata.{Profile}
 use Rattle.profile.specs.Lists.{below, filter}
-use Rattle.profile.specs.Prefixes.{at, prefix-count}
+use Rattle.profile.specs.Prefixes.{addable?, at, prefix-count}
 use Rattle.profile.specs.Tables.{layout, record-length}
 use Rattle.profile.specs.Traces.{independent}
 use Rattle.theory.proofs.Counting.{length-range}
 use Rattle.theory.proofs.Levels.{by-total-length}
 use Rattle.profile.proofs.Lists.{filter-no, filter-yes, test}
 use Rattle.theory.proofs.Looks.{looks-by-total, pairs-append, pairs-cons}
-use Rattle.theory.proofs.Prefixes.{addable?}
 use Rattle.cursors.specs.Cursors.{seek-from, started}
 use Rattle.theory.proofs.Fronts.{front-whole}
 use Rattle.forward.specs.Forward.{Forward, Ready}

@@ -10,13 +10,12 @@ use lib.ListN.{length, getD, take, drop, drop-of-length-le, take-append-drop}
 use lib.Seq.{drop-cons, split-at}
 use Rattle.profile.specs.Automata.{Profile, automaton}
 use Rattle.profile.specs.Lists.{Mem}
-use Rattle.profile.specs.Prefixes.{at}
+use Rattle.profile.specs.Prefixes.{addable?, at}
 use Rattle.profile.specs.Tables.{layout, packed}
 use Rattle.profile.specs.Traces.{bit, independent}
 use Rattle.theory.proofs.Levels.{bump}
 use Rattle.profile.proofs.Lists.{lt-or-le, mem-getD}
 use Rattle.theory.proofs.Merge.{Cursor, Grown, cursor-end, cursor-next, cursor-start, extends?, forward-merge, hits, least-of-all, level-grown, some-hits}
-use Rattle.theory.proofs.Prefixes.{addable?}
 use Rattle.theory.proofs.Profiles.{lawful}
 use Rattle.theory.proofs.SetLoops.{passing-bit}
 use Rattle.counts.proofs.Packed.{Small}

@@ -6,10 +6,9 @@ use Prim.Native.Nat.{ℕ, _*_, _≤_, _<_}
 use lib.ListN.{length, drop}
 use Rattle.profile.specs.Automata.{Profile}
 use Rattle.profile.specs.Lists.{below}
-use Rattle.profile.specs.Prefixes.{prefix-count}
+use Rattle.profile.specs.Prefixes.{looks, prefix-count}
 use Rattle.profile.specs.Tables.{layout, record-length}
 use Rattle.profile.specs.Traces.{independent}
-use Rattle.theory.proofs.Looks.{looks}
 use Rattle.theory.proofs.Refusals.{GoodLog, GoodProfile}
 use Rattle.places.specs.Places.{place-start, place-table}
 use Rattle.forward.specs.declared.Filled.{Filled}

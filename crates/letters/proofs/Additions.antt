@@ -11,12 +11,11 @@ use lib.Dec.{T, eqb, ltb, lt→ltb}
 use lib.ListN.{length, getD, List·getD-append}
 use lib.Seq.{ext-getD}
 use Rattle.profile.specs.Lists.{all, below, filter}
-use Rattle.profile.specs.Prefixes.{IsPrefix, at}
+use Rattle.profile.specs.Prefixes.{IsPrefix, additions, at}
 use Rattle.profile.specs.Tables.{count-field, layout, packed}
 use Rattle.profile.specs.Traces.{letters-below}
 use Rattle.theory.proofs.Counting.{at-map, length-range}
 use Rattle.profile.proofs.Lists.{all-at, all-of, below-at, below-suc, both, filter-agree, filter-last-no, filter-last-yes, fst-of, mem-place, snd-of}
-use Rattle.theory.proofs.Looks.{additions}
 use Rattle.theory.proofs.Packing.{field-packed}
 use Rattle.theory.proofs.Prefixes.{count-le}
 use Rattle.profile.proofs.Sets.{T-eq}

@@ -12,12 +12,12 @@ use lib.ListN.{length, getD, drop, replicate, set, length-append, length-map}
 use lib.Seq.{ext-getD, getD-set-other, getD-set-same}
 use Rattle.profile.specs.Lists.{below, first-place, range}
 use Rattle.profile.specs.Orders.{first-order}
-use Rattle.profile.specs.Prefixes.{IsPrefix, count, one, unmarked}
+use Rattle.profile.specs.Prefixes.{IsPrefix, addable?, count, more, one, unmarked}
 use Rattle.profile.specs.Traces.{independent}
 use Rattle.theory.proofs.Counting.{at-map}
 use Rattle.theory.proofs.Earliest.{Greedy, end, first-greedy, greedy-append, greedy-takes, take}
 use Rattle.profile.proofs.Lists.{is-true}
-use Rattle.theory.proofs.Prefixes.{addable-at, addable-of, addable?, all-of-pick, count-append, count-le, more, more-of-pick, one-cases, one-same, prefix-of-takes}
+use Rattle.theory.proofs.Prefixes.{addable-at, addable-of, all-of-pick, count-append, count-le, more-of-pick, one-cases, one-same, prefix-of-takes}
 use Rattle.theory.proofs.Profiles.{distinct}
 use Rattle.theory.proofs.Refusals.{GoodLog, Relation}
 use Rattle.profile.proofs.Traces.{Pick, Takes, first, takes-length}

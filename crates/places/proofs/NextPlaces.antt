@@ -9,10 +9,10 @@ use native.Mathlib.Omega.{arith}
 use lib.Dec.{T, not-T, eqb, eqb→eq, eqb-refl}
 use lib.ListN.{length, getD, set, length-set}
 use lib.Seq.{ext-getD, getD-set-other, getD-set-same}
-use Rattle.profile.specs.Prefixes.{at, count, less, one}
+use Rattle.profile.specs.Prefixes.{at, count, less, more, one}
 use Rattle.profile.proofs.Lists.{is-false, mem-getD, test}
 use Rattle.theory.proofs.Counting.{at-map, length-range}
-use Rattle.theory.proofs.Prefixes.{more, one-other, one-same}
+use Rattle.theory.proofs.Prefixes.{one-other, one-same}
 use Rattle.places.specs.Places.{next-places, places-from, places-of}
 use Rattle.places.proofs.Places.{places-length, places-no, places-within, places-yes}
 

@@ -10,7 +10,7 @@ use lib.ListN.{replicate}
 use Rattle.profile.specs.Lists.{Mem, all, any, equal?}
 use Rattle.profile.specs.Traces.{Reachable, independent, orders}
 use Rattle.profile.specs.Automata.{Profile, automaton}
-use Rattle.profile.specs.Prefixes.{at, backward, forward, prefix-count}
+use Rattle.profile.specs.Prefixes.{at, backward, forward, looks as looks-by, prefix-count}
 use Rattle.profile.specs.Orders.{accepted-order}
 use Rattle.profile.proofs.Lists.{all-at, any-at, equal-test, fst-of, snd-of}
 use Rattle.profile.proofs.Traces.{reach-orders}
@@ -23,6 +23,7 @@ pub record Row : Type 0 where
   pub log : List ℕ
   pub order : Option (List ℕ)
   pub number : ℕ
+  pub looks : ℕ
   pub reachable : List (List ℕ)
   pub sets : List (List ℕ × ℕ × ℕ)
 
@@ -35,6 +36,9 @@ order-of r = accepted-order (may-of r) (λ a. a) (automaton (r .profile)) (r .lo
 abbrev pub number-of : Row → ℕ
 number-of r = prefix-count (may-of r) (λ a. a) (r .profile .k) (r .log)
 
+abbrev pub looks-of : Row → ℕ
+looks-of r = looks-by (may-of r) (λ a. a) (r .profile .k) (r .log)
+
 -- forward and backward at the counts c
 abbrev pub forward-of : Row → List ℕ → ℕ
 forward-of r c = forward (may-of r) (λ a. a) (automaton (r .profile)) (r .log) (at c)
@@ -46,6 +50,7 @@ backward-of r c = backward (may-of r) (λ a. a) (automaton (r .profile)) (r .log
 pub record Right (r : Row) : Type 0 where
   pub orders : order-of r ≡ r .order
   pub numbers : number-of r ≡ r .number
+  pub looked : looks-of r ≡ r .looks
   pub reaches : (v : List ℕ) → Reachable (may-of r) (r .log) v ↔ Mem v (r .reachable)
   pub records : (e : List ℕ × ℕ × ℕ) → Mem e (r .sets) → (forward-of r (e .0) ≡ e .1) × (backward-of r (e .0) ≡ e .2)
 
@@ -66,12 +71,13 @@ free k masks = record { k = k; masks = masks; s = 1; start = 0; finals = 1; move
 -- M1 to M9, in their order
 pub worked : List Row
 worked =
-    record { profile = alt ab; log = []; order = some []; number = 1; reachable = [] ∷ []; sets = [] }
+    record { profile = alt ab; log = []; order = some []; number = 1; looks = 0; reachable = [] ∷ []; sets = [] }
     ∷ record {
       profile = alt ab;
       log = 1 ∷ 1 ∷ 0 ∷ 0 ∷ [];
       order = some (0 ∷ 1 ∷ 0 ∷ 1 ∷ []);
       number = 9;
+      looks = 12;
       reachable =
           (1 ∷ 1 ∷ 0 ∷ 0 ∷ []) ∷ (1 ∷ 0 ∷ 1 ∷ 0 ∷ []) ∷ (1 ∷ 0 ∷ 0 ∷ 1 ∷ []) ∷ (0 ∷ 1 ∷ 1 ∷ 0 ∷ []) ∷ (0 ∷ 1 ∷ 0 ∷ 1 ∷ []) ∷ (0 ∷ 0 ∷ 1 ∷ 1 ∷ []) ∷ [];
       sets = [];
@@ -81,15 +87,17 @@ worked =
       log = 1 ∷ 0 ∷ 1 ∷ [];
       order = none;
       number = 6;
+      looks = 7;
       reachable = (1 ∷ 0 ∷ 1 ∷ []) ∷ (0 ∷ 1 ∷ 1 ∷ []) ∷ (1 ∷ 1 ∷ 0 ∷ []) ∷ [];
       sets = [];
     }
-    ∷ record { profile = alt (0 ∷ 0 ∷ []); log = 1 ∷ 0 ∷ []; order = none; number = 3; reachable = (1 ∷ 0 ∷ []) ∷ []; sets = [] }
+    ∷ record { profile = alt (0 ∷ 0 ∷ []); log = 1 ∷ 0 ∷ []; order = none; number = 3; looks = 2; reachable = (1 ∷ 0 ∷ []) ∷ []; sets = [] }
     ∷ record {
       profile = record { k = 2; masks = ab; s = 3; start = 0; finals = 4; moves = 0 ∷ 2 ∷ 4 ∷ 0 ∷ 0 ∷ 0 ∷ [] };
       log = 0 ∷ 1 ∷ [];
       order = some (1 ∷ 0 ∷ []);
       number = 4;
+      looks = 4;
       reachable = (0 ∷ 1 ∷ []) ∷ (1 ∷ 0 ∷ []) ∷ [];
       sets = [];
     }
@@ -98,6 +106,7 @@ worked =
       log = 1 ∷ 0 ∷ [];
       order = some (0 ∷ 1 ∷ []);
       number = 4;
+      looks = 4;
       reachable = (0 ∷ 1 ∷ []) ∷ (1 ∷ 0 ∷ []) ∷ [];
       sets = [];
     }
@@ -106,6 +115,7 @@ worked =
       log = 0 ∷ 1 ∷ 2 ∷ 1 ∷ 0 ∷ 3 ∷ [];
       order = some (0 ∷ 1 ∷ 2 ∷ 0 ∷ 1 ∷ 3 ∷ []);
       number = 9;
+      looks = 10;
       reachable = (0 ∷ 1 ∷ 2 ∷ 1 ∷ 0 ∷ 3 ∷ []) ∷ (1 ∷ 0 ∷ 2 ∷ 1 ∷ 0 ∷ 3 ∷ []) ∷ (0 ∷ 1 ∷ 2 ∷ 0 ∷ 1 ∷ 3 ∷ []) ∷ (1 ∷ 0 ∷ 2 ∷ 0 ∷ 1 ∷ 3 ∷ []) ∷ [];
       sets = [];
     }
@@ -114,6 +124,7 @@ worked =
       log = 2 ∷ 0 ∷ 1 ∷ [];
       order = some (1 ∷ 2 ∷ 0 ∷ []);
       number = 6;
+      looks = 7;
       reachable = (2 ∷ 0 ∷ 1 ∷ []) ∷ (2 ∷ 1 ∷ 0 ∷ []) ∷ (1 ∷ 2 ∷ 0 ∷ []) ∷ [];
       sets = [];
     }
@@ -122,6 +133,7 @@ worked =
       log = 1 ∷ 0 ∷ [];
       order = some (0 ∷ 1 ∷ []);
       number = 4;
+      looks = 4;
       reachable = (1 ∷ 0 ∷ []) ∷ (0 ∷ 1 ∷ []) ∷ [];
       sets = (0 ∷ 0 ∷ [], 1, 1) ∷ (1 ∷ 0 ∷ [], 2, 2) ∷ (0 ∷ 1 ∷ [], 0, 0) ∷ (1 ∷ 1 ∷ [], 1, 1) ∷ [];
     }
@@ -132,9 +144,9 @@ worked =
 -- prefix, decide the next letter. Only course bac on abc, beside which ab leads on to nothing: the smallest letter that can be added is no choice.
 pub further : List Row
 further =
-    record { profile = alt ab; log = 0 ∷ []; order = none; number = 2; reachable = (0 ∷ []) ∷ []; sets = [] }
-    ∷ record { profile = alt (0 ∷ 1 ∷ []); log = 1 ∷ 0 ∷ []; order = some (0 ∷ 1 ∷ []); number = 4; reachable = (1 ∷ 0 ∷ []) ∷ (0 ∷ 1 ∷ []) ∷ []; sets = [] }
-    ∷ record { profile = alt (2 ∷ 0 ∷ []); log = 1 ∷ 0 ∷ []; order = none; number = 3; reachable = (1 ∷ 0 ∷ []) ∷ []; sets = [] }
+    record { profile = alt ab; log = 0 ∷ []; order = none; number = 2; looks = 1; reachable = (0 ∷ []) ∷ []; sets = [] }
+    ∷ record { profile = alt (0 ∷ 1 ∷ []); log = 1 ∷ 0 ∷ []; order = some (0 ∷ 1 ∷ []); number = 4; looks = 4; reachable = (1 ∷ 0 ∷ []) ∷ (0 ∷ 1 ∷ []) ∷ []; sets = [] }
+    ∷ record { profile = alt (2 ∷ 0 ∷ []); log = 1 ∷ 0 ∷ []; order = none; number = 3; looks = 2; reachable = (1 ∷ 0 ∷ []) ∷ []; sets = [] }
     ∷ record {
       profile = record {
         k = 4;
@@ -147,6 +159,7 @@ further =
       log = 0 ∷ 1 ∷ 2 ∷ 3 ∷ [];
       order = some (0 ∷ 1 ∷ 3 ∷ 2 ∷ []);
       number = 7;
+      looks = 8;
       reachable = (0 ∷ 1 ∷ 2 ∷ 3 ∷ []) ∷ (1 ∷ 0 ∷ 2 ∷ 3 ∷ []) ∷ (0 ∷ 1 ∷ 3 ∷ 2 ∷ []) ∷ (1 ∷ 0 ∷ 3 ∷ 2 ∷ []) ∷ [];
       sets = [];
     }
@@ -155,6 +168,7 @@ further =
       log = 0 ∷ 1 ∷ 2 ∷ [];
       order = some (1 ∷ 0 ∷ 2 ∷ []);
       number = 5;
+      looks = 5;
       reachable = (0 ∷ 1 ∷ 2 ∷ []) ∷ (1 ∷ 0 ∷ 2 ∷ []) ∷ [];
       sets = (1 ∷ 0 ∷ 0 ∷ [], 2, 0) ∷ (0 ∷ 1 ∷ 0 ∷ [], 8, 8) ∷ [];
     }
@@ -179,7 +193,7 @@ listed? : Row → Bool
 listed? r = within (orders (may-of r) (r .log)) (r .reachable) && within (r .reachable) (orders (may-of r) (r .log))
 
 right? : Row → Bool
-right? r = (same-option (order-of r) (r .order) && eqb (number-of r) (r .number)) && (listed? r && all (sets? r) (r .sets))
+right? r = (same-option (order-of r) (r .order) && (eqb (number-of r) (r .number) && eqb (looks-of r) (r .looks))) && (listed? r && all (sets? r) (r .sets))
 
 computed : T (all right? (worked ++ further))
 unfolding right? listed? sets? within same-option worked further
@@ -200,7 +214,9 @@ right-of : (r : Row) → T (right? r) → Right r
 unfolding right? listed? sets?
 right-of r t =
     let a = same-option (order-of r) (r .order) in
-    let b = eqb (number-of r) (r .number) in
+    let n = eqb (number-of r) (r .number) in
+    let l = eqb (looks-of r) (r .looks) in
+    let b = n && l in
     let c = within (orders (may-of r) (r .log)) (r .reachable) in
     let d = within (r .reachable) (orders (may-of r) (r .log)) in
     let f = all (sets? r) (r .sets) in
@@ -209,7 +225,8 @@ right-of r t =
     let t₃ = fst-of (c && d) f t₂ in
     record {
       orders = option-eq (order-of r) (r .order) (fst-of a b t₁);
-      numbers = eqb→eq (number-of r) (r .number) (snd-of a b t₁);
+      numbers = eqb→eq (number-of r) (r .number) (fst-of n l (snd-of a b t₁));
+      looked = eqb→eq (looks-of r) (r .looks) (snd-of n l (snd-of a b t₁));
       reaches = λ v. (
         λ q. mem-of-test (orders (may-of r) (r .log)) (r .reachable) (fst-of c d t₃) v (reach-orders (may-of r) (r .log) v .0 q),
         λ n. reach-orders (may-of r) (r .log) v .1 (mem-of-test (r .reachable) (orders (may-of r) (r .log)) (snd-of c d t₃) v n),
@@ -221,6 +238,6 @@ right-of r t =
           );
     }
 
--- M1 to M9 and the further rows: verdict with its order, P, exactly the reachable logs, and the sets
+-- M1 to M9 and the further rows: verdict with its order, P, looks, exactly the reachable logs, and the sets
 pub cases : (r : Row) → Mem r (worked ++ further) → Right r
 cases r m = right-of r (all-at right? computed m)

@@ -1,9 +1,9 @@
--- Document 01, "Prefixes and their table": counts, marked events, prefixes, P, forward and backward.
+-- Document 01, "Prefixes and their table": counts, marked events, prefixes, P, forward and backward; document 02, Paper 2: looks.
 use mathlib.Core.Path.{_≡_}
 use mathlib.Core.Bool.{Bool, true, not, _&&_, cond}
 use mathlib.Core.List.{List, [], _∷_, _++_, map}
 use Prim.Native.Nat.{ℕ, zero, suc, _+_, _-_, _≤_, _<_}
-use lib.Dec.{T, eqb}
+use lib.Dec.{T, eqb, ltb}
 use lib.ListN.{length, getD}
 use Rattle.profile.specs.Lists.{all, below, filter, flat-map}
 use Rattle.profile.specs.Traces.{orders}
@@ -12,6 +12,10 @@ use Rattle.profile.specs.Automata.{Automaton, run, run-back, union}
 -- 1 for the letter x, 0 for any other
 abbrev pub one : ℕ → ℕ → ℕ
 one x y = cond (eqb x y) 1 0
+
+-- counts with one x more
+abbrev pub more : (ℕ → ℕ) → ℕ → ℕ → ℕ
+more c x y = one x y + c y
 
 -- counts with one x less
 abbrev pub less : (ℕ → ℕ) → ℕ → ℕ → ℕ
@@ -62,6 +66,18 @@ prefixes may letter k w = filter (λ c. closed? may letter w (at c)) (vectors (m
 -- "P", the number of prefixes
 abbrev pub prefix-count : (ℕ → ℕ → Bool) → (ℕ → ℕ) → ℕ → List ℕ → ℕ
 prefix-count may letter k w = length (prefixes may letter k w)
+
+-- "adding one of that letter gives a prefix again": of a prefix c and a letter x. No other count grows, so none but that of x can exceed its own in w.
+abbrev pub addable? : (ℕ → ℕ → Bool) → (ℕ → ℕ) → List ℕ → (ℕ → ℕ) → ℕ → Bool
+addable? may letter w c x = ltb (c x) (count letter w x) && closed? may letter w (more c x)
+
+-- the letters of which that holds
+abbrev pub additions : (ℕ → ℕ → Bool) → (ℕ → ℕ) → ℕ → List ℕ → List ℕ → List ℕ
+additions may letter k w c = filter (addable? may letter w (at c)) (below k)
+
+-- "looks", "exactly the number of pairs of a prefix and a letter such that adding one of that letter gives a prefix again"
+abbrev pub looks : (ℕ → ℕ → Bool) → (ℕ → ℕ) → ℕ → List ℕ → ℕ
+looks may letter k w = length (flat-map (additions may letter k w) (prefixes may letter k w))
 
 -- "total count"
 abbrev pub total : List ℕ → ℕ

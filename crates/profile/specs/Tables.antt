@@ -3,7 +3,7 @@ use mathlib.Core.Path.{_≡_}
 use mathlib.Core.Bool.{Bool}
 use mathlib.Core.Logic.{_↔_}
 use mathlib.Core.List.{List, [], _∷_, _++_, map}
-use Prim.Native.Nat.{ℕ, _+_, _*_, _/_, _%_, _^_, _-_, _≤_, min}
+use Prim.Native.Nat.{ℕ, _+_, _*_, _/_, _%_, _^_, min}
 use lib.ListN.{length, getD, take, drop}
 use Rattle.profile.specs.Lists.{Mem, NoDup, Rising, below, flat-map}
 use Rattle.profile.specs.Automata.{Automaton}
@@ -52,7 +52,3 @@ pub record Holds (L : Layout) (may : ℕ → ℕ → Bool) (letter : ℕ → ℕ
 -- "a rest below six, and all numbers past the first 4,294,967,292, are unused": the records that a table of n numbers has place for
 abbrev pub capacity : Layout → ℕ → ℕ
 capacity L n = min n 4294967292 / record-length L
-
--- "looks … is free from P − 1 to P × k"
-abbrev pub Looks : ℕ → ℕ → ℕ → Type 0
-Looks P k n = (P - 1 ≤ n) × (n ≤ P * k)

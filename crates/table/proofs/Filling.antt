@@ -21,10 +21,7 @@ use Rattle.profile.specs.declared.Refusal.the-variants.{FullTable}
 use Rattle.profile.proofs.Lists.{filter-at}
 use Rattle.theory.proofs.Levels.{by-total, by-total-at, by-total-length, by-total-nodup, by-total-of, level}
 use Rattle.theory.proofs.Refusals.{log-at, lowest-append, lowest-first, profile-at}
-use Rattle.profile.specs.Tables.{Looks}
 use Rattle.profile.proofs.Lists.{flat-map-length}
-use Rattle.theory.proofs.Looks.{looks-within}
-use Rattle.theory.proofs.Profiles.{distinct}
 use Rattle.forward.specs.Forward.{Forward}
 use Rattle.forward.specs.declared.Filled.the-variants.{Done, Full}
 use Rattle.backward.specs.Backward.{Drafted}
@@ -144,7 +141,7 @@ module _ (p : Profile) (w before : List ℕ) {room : ℕ} (s : Sound p w (length
       refused = sym (unrefused p w s (omega (arith, h .0, h .1)));
       table = (
         h .0,
-        subst (Looks P (p .k)) (sym (h .2)) (rw (h .0) (looks-within (independent (p .masks)) (λ a. a) (p .k) w (s .log .letters) (distinct (p .masks) (s .profile .relation .own)))),
+        h .2,
         holds p w before s last (e ∙ ap (λ t. filled p w (in-order p w) ++ t) (same ∙ ap (λ m. drop (record-length layout * m) before) (h .0))),
       );
     }

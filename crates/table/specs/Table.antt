@@ -8,8 +8,8 @@ use Prim.Native.Nat.{ℕ}
 use lib.ListN.{length}
 use Rattle.profile.specs.Traces.{independent}
 use Rattle.profile.specs.Automata.{Profile, automaton}
-use Rattle.profile.specs.Prefixes.{prefix-count}
-use Rattle.profile.specs.Tables.{Holds, Looks, capacity, layout}
+use Rattle.profile.specs.Prefixes.{looks, prefix-count}
+use Rattle.profile.specs.Tables.{Holds, capacity, layout}
 use Rattle.profile.specs.Refusals.{full-table, log-refusals, lowest, profile-refusals}
 use Rattle.theory.proofs.Refusals.{GoodLog, GoodProfile}
 use Rattle.profile.specs.declared.Refusal.{Refusal}
@@ -35,11 +35,13 @@ refused-by (Refused r) = some r
 refused-by (Filled P n) = none
 
 -- what is promised of the table: "Refusals leave every buffer unchanged; only after 10 is the work table's content free"; after an answer the table
--- holds the prefixes, P is their number, and looks, which is free, lies within its bounds
+-- holds the prefixes, P is their number, and looks that of their additions
 abbrev pub promised : Profile → List ℕ → List ℕ → List ℕ → Built → Type 0
 promised p w before after (Refused r) = r ≢ FullTable → after ≡ before
 promised p w before after (Filled P n) =
-    (P ≡ prefix-count (independent (p .masks)) (λ a. a) (p .k) w) × Looks P (p .k) n × Holds layout (independent (p .masks)) (λ a. a) (automaton p) (p .k) w before after
+    (P ≡ prefix-count (independent (p .masks)) (λ a. a) (p .k) w)
+    × (n ≡ looks (independent (p .masks)) (λ a. a) (p .k) w)
+    × Holds layout (independent (p .masks)) (λ a. a) (automaton p) (p .k) w before after
 
 -- which refusal is given, and what is promised of the table, after an answer r
 pub record Promise (p : Profile) (w before after : List ℕ) (r : Built) : Type 0 where

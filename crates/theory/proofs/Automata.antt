@@ -9,10 +9,10 @@ use lib.Dec.{T, ltb, ltb→lt}
 use lib.Bits.{or-zero-r}
 use Rattle.profile.specs.Automata.{Accepted, Automaton, PathOf, goes, meets, run, run-back, stop, union}
 use Rattle.profile.specs.Lists.{below, filter}
-use Rattle.profile.specs.Prefixes.{IsPrefix, at, backward, count, forward, less, marked, unmarked}
+use Rattle.profile.specs.Prefixes.{IsPrefix, addable?, at, backward, count, forward, less, marked, more, unmarked}
 use Rattle.profile.specs.Traces.{Reachable, bit, letters-below, orders}
 use Rattle.profile.proofs.Lists.{below-of, filter-at, filter-of}
-use Rattle.theory.proofs.Prefixes.{addable-at, addable-of, addable?, all-of-pick, count-append, count-of-prefix, count-order, front-all, front-marked, front-none, more, more-of-pick, prefix-of-front, prefix-of-takes, removable-at, removable-of, removable?, takes-of-prefix}
+use Rattle.theory.proofs.Prefixes.{addable-at, addable-of, all-of-pick, count-append, count-of-prefix, count-order, front-all, front-marked, front-none, more-of-pick, prefix-of-front, prefix-of-takes, removable-at, removable-of, removable?, takes-of-prefix}
 use Rattle.profile.proofs.Sets.{meets-at, meets-of, sets-eq, union-at, union-of}
 use Rattle.profile.proofs.Traces.{Order, Pick, done, mem-of-order, next, order-of-mem, order-of-reach, reach-of-order, takes-last, takes-trans}
 

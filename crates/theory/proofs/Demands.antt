@@ -6,19 +6,23 @@ use mathlib.Core.Option.{Option, none, some}
 use Prim.Native.Nat.{ℕ}
 use Rattle.profile.specs.Traces.{Reachable, independent}
 use Rattle.profile.specs.Automata.{Accepted, Profile, automaton}
-use Rattle.profile.specs.Prefixes.{prefix-count}
+use Rattle.profile.specs.Prefixes.{looks, prefix-count}
 use Rattle.profile.specs.Orders.{Earlier, Same, accepted-order}
 use Rattle.theory.proofs.Comparison.{accepted-order-same, prefix-count-same}
+use Rattle.theory.proofs.Looks.{looks-same}
 use Rattle.theory.proofs.Judgement.{accepted-order-at, accepted-order-not}
 use Rattle.theory.proofs.Profiles.{distinct, lawful}
 use Rattle.theory.proofs.Refusals.{Admitted}
 
--- the order that the judge is to give, as document 01 has it: events are letters
+-- the order, P and looks that the judge is to give, as document 01 has it: events are letters
 abbrev pub order-of : Profile → List ℕ → Option (List ℕ)
 order-of p w = accepted-order (independent (p .masks)) (λ a. a) (automaton p) w
 
 abbrev pub prefixes-of : Profile → List ℕ → ℕ
 prefixes-of p w = prefix-count (independent (p .masks)) (λ a. a) (p .k) w
+
+abbrev pub looks-of : Profile → List ℕ → ℕ
+looks-of p w = looks (independent (p .masks)) (λ a. a) (p .k) w
 
 -- v is reachable from w and accepted
 pub record Witness (p : Profile) (w v : List ℕ) : Type 0 where
@@ -51,10 +55,11 @@ module _ (p : Profile) (w : List ℕ) where
       go (some v) e h = absurd (h v (order-earliest e .0))
 
 -- "Any two such logs with the same profile that are reachable from each other get the same verdict, the same order if there is one, and the same
--- prefix count": none is verdict 0, so equal orders are equal verdicts too
+-- prefix count": none is verdict 0, so equal orders are equal verdicts too. "Logs reachable from each other then also show equal looks" (Paper 2)
 pub same-answer : (p : Profile) (v w : List ℕ) {n m : ℕ} → Admitted p v n → Admitted p w m → Same (independent (p .masks)) v w
-    → (order-of p v ≡ order-of p w) × (prefixes-of p v ≡ prefixes-of p w)
+    → (order-of p v ≡ order-of p w) × (prefixes-of p v ≡ prefixes-of p w) × (looks-of p v ≡ looks-of p w)
 same-answer p v w a b s = (
   accepted-order-same (λ a. a) (automaton p) (independent (p .masks)) (s .0) (s .1),
   prefix-count-same (λ a. a) (automaton p) (independent (p .masks)) (s .0) (s .1) (distinct (p .masks) (a .profile .relation .own)) (p .k) (a .log .letters) (b .log .letters),
+  looks-same (λ a. a) (automaton p) (independent (p .masks)) (s .0) (s .1) (distinct (p .masks) (a .profile .relation .own)) (p .k) (a .log .letters) (b .log .letters),
 )

@@ -9,12 +9,12 @@ use lib.Dec.{T, ltb, ltb→lt}
 use Rattle.profile.specs.Automata.{Accepted, Automaton, accepted?, meets, run, run-back, union}
 use Rattle.profile.specs.Lists.{Mem, filter}
 use Rattle.profile.specs.Orders.{NoLater, accepted-order, earliest}
-use Rattle.profile.specs.Prefixes.{IsPrefix, backward, unmarked}
+use Rattle.profile.specs.Prefixes.{IsPrefix, addable?, backward, more, unmarked}
 use Rattle.profile.specs.Traces.{Reachable, letters-below, orders}
 use Rattle.theory.proofs.Automata.{Lawful, back-at-leads, back-of-leads, backward-first, run-at, run-of, unmarked-none}
 use Rattle.theory.proofs.Earliest.{Greedy, earliest-at, end, good, greedy-first, greedy-none, take}
 use Rattle.profile.proofs.Lists.{filter-at, filter-of, lt-or-le}
-use Rattle.theory.proofs.Prefixes.{addable-at, addable-of, addable?, all-of-pick, more, more-of-pick}
+use Rattle.theory.proofs.Prefixes.{addable-at, addable-of, all-of-pick, more-of-pick}
 use Rattle.profile.proofs.Sets.{meets-at, meets-of, union-at, union-of}
 use Rattle.profile.proofs.Traces.{Order, mem-of-order, order-of-mem, order-of-reach, reach-of-order}
 

@@ -11,10 +11,10 @@ use lib.Dec.{T, eqb, eqb→eq, eqb-refl, ltb, ltb→lt}
 use lib.ListN.{length, set, length-set}
 use Rattle.profile.specs.Lists.{Mem, NoDup, below, filter, flat-map, range}
 use Rattle.profile.specs.Traces.{letters-below}
-use Rattle.profile.specs.Prefixes.{IsPrefix, at, count, marked, one, prefix-count, prefixes, total}
+use Rattle.profile.specs.Prefixes.{IsPrefix, addable?, at, count, marked, more, one, prefix-count, prefixes, total}
 use Rattle.theory.proofs.Counting.{at-map, length-range, prefix-count-of, prefixes-at, prefixes-nodup, prefixes-of}
 use Rattle.profile.proofs.Lists.{below-of, filter-at, filter-nodup, filter-of, flat-map-at, flat-map-nodup, flat-map-of, fst-of, lt-or-le, range-nodup, snd-of}
-use Rattle.theory.proofs.Prefixes.{addable-at, addable-of, addable?, all-of-pick, count-of-prefix, front-length, front-marks, front-of-prefix, more, one-cases, one-other, one-same, prefix-last}
+use Rattle.theory.proofs.Prefixes.{addable-at, addable-of, all-of-pick, count-of-prefix, front-length, front-marks, front-of-prefix, one-cases, one-other, one-same, prefix-last}
 
 -- the prefixes of one total, and all of them by rising total, within one total the smaller count of letter 0 first
 abbrev pub level : (ℕ → ℕ → Bool) → (ℕ → ℕ) → ℕ → List ℕ → ℕ → List (List ℕ)

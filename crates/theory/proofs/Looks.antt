@@ -1,34 +1,34 @@
--- Looks: the pairs of a prefix and a letter such that one more of that letter gives a prefix again.
+-- Looks: it counts the pairs of document 02's words, may be counted by rising total, lies within document 01's bounds, and is the same for logs
+-- reachable from each other.
 use mathlib.Core.Path.{_≡_, refl, sym, _∙_, ap, subst}
 use mathlib.Core.Bool.{Bool}
-use mathlib.Core.Logic.{_≢_}
+use mathlib.Core.Logic.{_↔_, _≢_}
 use mathlib.Core.List.{List, [], _∷_, _++_, map, List·Memᴰ·head, List·Memᴰ·tail, Memᴰ·cast, Memᴰ·map, Memᴰ·of-map}
-use Prim.Native.Nat.{ℕ, zero, suc, _+_, _*_, _≤_}
+use Prim.Native.Nat.{ℕ, zero, suc, _+_, _-_, _*_, _≤_, _<_}
 use native.Mathlib.Omega.{arith}
 use lib.Dec.{T, eqb, eqb-refl}
 use lib.ListN.{length, length-append, length-map, replicate}
 use Rattle.profile.specs.Automata.{Automaton}
 use Rattle.profile.specs.Lists.{Mem, NoDup, below, filter, flat-map}
-use Rattle.profile.specs.Prefixes.{at, prefix-count, prefixes, total}
-use Rattle.profile.specs.Tables.{Looks}
+use Rattle.profile.specs.Prefixes.{IsPrefix, addable?, additions, at, looks, more, prefix-count, prefixes, total}
 use Rattle.profile.specs.Traces.{Reachable, letters-below}
 use Rattle.theory.proofs.Comparison.{back-over, over, prefixes-same}
-use Rattle.theory.proofs.Counting.{length-range, prefixes-at, prefixes-nodup}
+use Rattle.theory.proofs.Counting.{length-range, prefixes-at, prefixes-nodup, prefixes-of}
 use Rattle.theory.proofs.Levels.{bump, by-total, by-total-at, by-total-nodup, by-total-of, level-last}
-use Rattle.profile.proofs.Lists.{below-of, filter-agree, filter-at, filter-nodup, filter-of, flat-map-agree, flat-map-append, flat-map-at, flat-map-nodup, flat-map-of, map-nodup, nodup-length, range-nodup}
-use Rattle.theory.proofs.Prefixes.{addable-at, addable-of, addable?}
+use Rattle.profile.proofs.Lists.{below-at, below-of, filter-agree, filter-at, filter-nodup, filter-of, flat-map-agree, flat-map-append, flat-map-at, flat-map-nodup, flat-map-of, map-nodup, nodup-length, range-nodup}
+use Rattle.theory.proofs.Prefixes.{addable-at, addable-of}
 use Rattle.profile.proofs.Sets.{T-eq}
 
--- the letters of which one more gives a prefix again
-abbrev pub additions : (ℕ → ℕ → Bool) → (ℕ → ℕ) → ℕ → List ℕ → List ℕ → List ℕ
-additions may letter k w c = filter (addable? may letter w (at c)) (below k)
-
--- the pairs of counts in l and such a letter, and these pairs for all prefixes
+-- the pairs of counts in l and a letter that can be added to them
 abbrev pub pairs-in : (ℕ → ℕ → Bool) → (ℕ → ℕ) → ℕ → List ℕ → List (List ℕ) → ℕ
 pairs-in may letter k w l = length (flat-map (additions may letter k w) l)
 
-abbrev pub looks : (ℕ → ℕ → Bool) → (ℕ → ℕ) → ℕ → List ℕ → ℕ
-looks may letter k w = pairs-in may letter k w (prefixes may letter k w)
+-- a prefix of w, as k counts, and a letter below k such that adding one of it gives a prefix again
+pub record Addition (may : ℕ → ℕ → Bool) (letter : ℕ → ℕ) (k : ℕ) (w c : List ℕ) (x : ℕ) : Type 0 where
+  pub letters : length c ≡ k
+  pub prefix : IsPrefix may letter w (at c)
+  pub letter-below : x < k
+  pub again : IsPrefix may letter w (more (at c) x)
 
 -- the prefixes with one such letter more
 abbrev grown : (ℕ → ℕ → Bool) → (ℕ → ℕ) → ℕ → List ℕ → List (List ℕ)
@@ -54,24 +54,39 @@ module _ {A B : Type 0} where
         flat-map-length-map f g l,
       )
 
+  module _ (f : A → List B) where
+    -- each a of l with each element of f a
+    abbrev paired : List A → List (A × B)
+    paired l = flat-map (λ a. map (λ b. (a, b)) (f a)) l
+
+    paired-length : (l : List A) → length (paired l) ≡ length (flat-map f l)
+    paired-length l = flat-map-length-map f (λ a b. (a, b)) l
+
+    paired-at : {a : A} {b : B} (l : List A) → Mem (a, b) (paired l) → Mem a l × Mem b (f a)
+    paired-at {a} {b} l m =
+        let n = flat-map-at (λ a. map (λ b. (a, b)) (f a)) l m in
+        let q = Memᴰ·of-map (λ b. (n .0, b)) (f (n .0)) (n .2) in (
+          Memᴰ·cast (sym (ap (λ p. p .0) (q .2))) (n .1),
+          subst (λ z. Mem b (f z)) (ap (λ p. p .0) (q .2)) (Memᴰ·cast (sym (ap (λ p. p .1) (q .2))) (q .1)),
+        )
+
+    paired-of : {a : A} {b : B} {l : List A} → Mem a l → Mem b (f a) → Mem (a, b) (paired l)
+    paired-of {a} m n = flat-map-of (λ a. map (λ b. (a, b)) (f a)) m (Memᴰ·map (λ b. (a, b)) n)
+
   module _ (f : A → List B) (once : (a : A) → NoDup (f a)) where
+    paired-nodup : (l : List A) → NoDup l → NoDup (paired f l)
+    paired-nodup l d = flat-map-nodup (λ a. map (λ b. (a, b)) (f a)) l d
+        (λ a. map-nodup (λ b. (a, b)) (λ x y e. ap (λ p. p .1) e) (f a) (once a))
+        (λ a c p m n. ap (λ p. p .0) (Memᴰ·of-map (λ b. (a, b)) (f a) m .2 ∙ sym (Memᴰ·of-map (λ b. (c, b)) (f c) n .2)))
+
     -- lists without repeats: more elements to go through, no smaller length
     flat-map-length-more : (l r : List A) → NoDup l → ((a : A) → Mem a l → Mem a r) → length (flat-map f l) ≤ length (flat-map f r)
     flat-map-length-more l r d h = omega (
       arith,
-      nodup-length (flat-map pairs l) (flat-map pairs r)
-          (flat-map-nodup pairs l d (λ a. map-nodup (pair a) (λ x y e. ap (λ p. p .1) e) (f a) (once a))
-          (λ a c p m n. ap (λ p. p .0) (Memᴰ·of-map (pair a) (f a) m .2 ∙ sym (Memᴰ·of-map (pair c) (f c) n .2))))
-          (λ p m. let n = flat-map-at pairs l m in flat-map-of pairs (h (n .0) (n .1)) (n .2)),
-      flat-map-length-map f pair l,
-      flat-map-length-map f pair r,
+      nodup-length (paired f l) (paired f r) (paired-nodup l d) (λ p m. let n = paired-at f l m in paired-of f (h (p .0) (n .0)) (n .1)),
+      paired-length f l,
+      paired-length f r,
     )
-      where
-        pair : A → B → A × B
-        pair a b = (a, b)
-
-        pairs : A → List (A × B)
-        pairs a = map (pair a) (f a)
 
     -- the same elements, the same length
     pub flat-map-length-same : (l r : List A) → NoDup l → NoDup r → ((a : A) → Mem a l → Mem a r) → ((a : A) → Mem a r → Mem a l) → length (flat-map f l) ≡ length (flat-map f r)
@@ -93,11 +108,13 @@ module _ (may : ℕ → ℕ → Bool) (letter : ℕ → ℕ) (k : ℕ) (w : List
   pairs-append l r =
       ap length (flat-map-append (additions may letter k w) l r) ∙ length-append (flat-map (additions may letter k w) l) (flat-map (additions may letter k w) r)
 
+  additions-nodup : (c : List ℕ) → NoDup (additions may letter k w c)
+  additions-nodup c = filter-nodup (addable? may letter w (at c)) (below k) (range-nodup k 0)
+
   additions-le : (c : List ℕ) → length (additions may letter k w c) ≤ k
   additions-le c = omega (
     arith,
-    nodup-length (additions may letter k w c) (below k) (filter-nodup (addable? may letter w (at c)) (below k) (range-nodup k 0))
-        (λ x m. filter-at (addable? may letter w (at c)) (below k) m .0),
+    nodup-length (additions may letter k w c) (below k) (additions-nodup c) (λ x m. filter-at (addable? may letter w (at c)) (below k) m .0),
     length-map (below k) (λ x. x),
     length-range (λ x. x) k 0,
   )
@@ -110,14 +127,43 @@ module _ (may : ℕ → ℕ → Bool) (letter : ℕ → ℕ) (k : ℕ) (w : List
 
   module _ (letters : T (letters-below letter k w)) where
     pub looks-by-total : looks may letter k w ≡ pairs-in may letter k w (by-total may letter k w)
-    looks-by-total = flat-map-length-same (additions may letter k w)
-        (λ c. filter-nodup (addable? may letter w (at c)) (below k) (range-nodup k 0))
+    looks-by-total = flat-map-length-same (additions may letter k w) additions-nodup
         (prefixes may letter k w) (by-total may letter k w) (prefixes-nodup may letter k w) (by-total-nodup may letter k w)
         (λ c m. by-total-of may letter k w c letters m) (by-total-at may letter k w)
 
-    -- ---- the bounds
-
     module _ (distinct : (a b : ℕ) → T (may a b) → letter a ≢ letter b) where
+      -- ---- the pairs in words
+
+      looked : List (List ℕ × ℕ)
+      looked = paired (additions may letter k w) (prefixes may letter k w)
+
+      addition-at : (c : List ℕ) (x : ℕ) → Mem (c, x) looked → Addition may letter k w c x
+      unfolding looked
+      addition-at c x m =
+          let n = paired-at (additions may letter k w) (prefixes may letter k w) m in
+          let p = prefixes-at may letter k w c letters (n .0) in
+          let q = filter-at (addable? may letter w (at c)) (below k) (n .1) in
+          record { letters = p .0; prefix = p .1; letter-below = below-at k x (q .0); again = addable-at may letter distinct (p .1) (q .1) .0 }
+
+      addition-of : (c : List ℕ) (x : ℕ) → Addition may letter k w c x → Mem (c, x) looked
+      unfolding looked
+      addition-of c x a = paired-of (additions may letter k w) (prefixes-of may letter k w c (a .letters) (a .prefix))
+          (filter-of (addable? may letter w (at c)) (below-of k x (a .letter-below)) (addable-of may letter distinct (at c) x (a .again)))
+
+      -- "exactly the number of pairs of a prefix and a letter such that adding one of that letter gives a prefix again": any list of exactly these
+      -- pairs, each once, has as many
+      pub looks-pairs : (l : List (List ℕ × ℕ)) → NoDup l → ((c : List ℕ) (x : ℕ) → Mem (c, x) l ↔ Addition may letter k w c x) → length l ≡ looks may letter k w
+      unfolding looked
+      looks-pairs l d h = omega (
+        arith,
+        nodup-length l looked d (λ p m. addition-of (p .0) (p .1) (h (p .0) (p .1) .0 m)),
+        nodup-length looked l (paired-nodup (additions may letter k w) additions-nodup (prefixes may letter k w) (prefixes-nodup may letter k w))
+            (λ p m. h (p .0) (p .1) .1 (addition-at (p .0) (p .1) m)),
+        paired-length (additions may letter k w) (prefixes may letter k w),
+      )
+
+      -- ---- the bounds
+
       -- every prefix is empty, or a prefix with one letter more
       grown-of : (c : List ℕ) → Mem c (prefixes may letter k w) → Mem c (replicate k 0 ∷ grown may letter k w)
       grown-of c m = go (total c) refl
@@ -129,7 +175,8 @@ module _ (may : ℕ → ℕ → Bool) (letter : ℕ → ℕ) (k : ℕ) (w : List
               List·Memᴰ·tail (flat-map-of (λ d. map (bump d) (additions may letter k w d)) (filter-at (λ d. eqb (total d) n) (prefixes may letter k w) (s .2) .0)
               (Memᴰ·cast (s .5) (Memᴰ·map (bump (s .0)) (filter-of (addable? may letter w (at (s .0))) (below-of k (s .1) (s .3)) (s .4)))))
 
-      pub looks-within : Looks (prefix-count may letter k w) k (looks may letter k w)
+      -- the bounds of document 01: "from P − 1 to P × k"
+      pub looks-within : (prefix-count may letter k w - 1 ≤ looks may letter k w) × (looks may letter k w ≤ prefix-count may letter k w * k)
       looks-within = (
         omega (
           arith,

@@ -8,20 +8,13 @@ use native.Mathlib.Omega.{arith}
 use lib.ListN.{length}
 use lib.Dec.{T, T-not, not-T, eqb, eqb→eq, eqb-refl, ltb, ltb→lt, lt→ltb}
 use Rattle.profile.specs.Lists.{Mem, all}
-use Rattle.profile.specs.Prefixes.{IsPrefix, at, closed?, count, less, marked, one, unmarked}
+use Rattle.profile.specs.Prefixes.{IsPrefix, addable?, at, closed?, count, less, marked, more, one, unmarked}
 use Rattle.profile.proofs.Lists.{all-at, all-of, both, fst-of, is-true, snd-of, test}
 use Rattle.profile.proofs.Traces.{Order, Pick, Takes, done, first, later, next, order-trans, takes-last, takes-refl, takes-split, takes-trans}
 
--- counts with one x more
-abbrev pub more : (ℕ → ℕ) → ℕ → ℕ → ℕ
-more c x y = one x y + c y
-
--- of a prefix c: is it one with one x less; is it one with one x more
+-- of a prefix c: is it one with one x less
 abbrev pub removable? : (ℕ → ℕ → Bool) → (ℕ → ℕ) → List ℕ → (ℕ → ℕ) → ℕ → Bool
 removable? may letter w c x = not (eqb (c x) 0) && closed? may letter w (less c x)
-
-abbrev pub addable? : (ℕ → ℕ → Bool) → (ℕ → ℕ) → List ℕ → (ℕ → ℕ) → ℕ → Bool
-addable? may letter w c x = ltb (c x) (count letter w x) && closed? may letter w (more c x)
 
 -- Front may w m r: w is m and r, and each event of m may pass the earlier ones of r
 pub data Front (may : ℕ → ℕ → Bool) : List ℕ → List ℕ → List ℕ → Type 0 where

@@ -1,7 +1,5 @@
 // The answers of the tested calls as numbers.
 use crate::calls::NUMBERS;
-use crate::cells::plus;
-use crate::cells::times;
 use crate::cells::untouched8;
 use crate::cells::untouched32;
 use comparison::Compared;
@@ -100,13 +98,12 @@ pub fn is_refusal(answer: Answer, number: usize, place: usize, log: usize) -> bo
         & (number == 0 || answer.verdict == NONE)
 }
 
-// The answer is not a refusal, and has the verdict, P, and looks from P - 1 to P × k.
-pub fn is_verdict(answer: Answer, verdict: usize, prefixes: usize, k: usize) -> bool {
+// The answer is not a refusal, and has the verdict, P and looks.
+pub fn is_verdict(answer: Answer, verdict: usize, prefixes: usize, looks: usize) -> bool {
     (answer.refusal == 0)
         & (answer.verdict == verdict)
         & (answer.prefixes == prefixes)
-        & (prefixes <= plus(answer.looks, 1))
-        & (answer.looks <= times(k, prefixes))
+        & (answer.looks == looks)
 }
 
 // A refusal leaves the order buffer as it was, and the table too unless the number is 10: then what lies past its `size` numbers stays.

@@ -5,6 +5,7 @@ use crate::paths::backward;
 use crate::paths::earliest_accepted;
 use crate::paths::forward;
 use crate::prefixes::closed;
+use crate::prefixes::look_count;
 use crate::prefixes::marks_of;
 use crate::prefixes::take_events;
 use profile::Shape;
@@ -116,7 +117,7 @@ fn table_right(
     prefixes: usize,
     numbers: &[u32],
 ) -> bool {
-    is_verdict(answer, verdict, prefixes, shape.k)
+    is_verdict(answer, verdict, prefixes, look_count(masks, log))
         & untouched32(numbers, NUMBERS, record_at(prefixes))
         & records_right(shape, masks, moves, log, table_part(numbers), prefixes)
 }

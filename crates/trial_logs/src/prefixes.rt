@@ -46,12 +46,39 @@ pub fn closed(masks: &[u16], log: &[u8], marks: usize) -> bool {
     true
 }
 
-// P, by trying every set of marks; a log here has at most eight events.
+// The marks are a prefix of the log, which has at most eight events.
+fn is_prefix(masks: &[u16], log: &[u8], marks: usize) -> bool {
+    closed(masks, log, marks) & (marks >> (log.len() % 16) == 0)
+}
+
+// P, by trying every set of marks.
 pub fn prefix_count(masks: &[u16], log: &[u8]) -> usize {
     let mut sum = 0;
     for marks in 0..256 {
-        if closed(masks, log, marks) & (marks >> (log.len() % 16) == 0) {
+        if is_prefix(masks, log, marks) {
             sum = plus(sum, 1);
+        }
+    }
+    sum
+}
+
+// The letters of which one can be added to the marks. Only a letter's first unmarked event can be marked beside them, so it stands for its letter.
+fn additions(masks: &[u16], log: &[u8], marks: usize) -> usize {
+    let mut sum = 0;
+    for i in 0..log.len() {
+        if !bit(marks, i) & closed(masks, log, marks | (1 << (i % 64))) {
+            sum = plus(sum, 1);
+        }
+    }
+    sum
+}
+
+// Looks: the pairs of a prefix and a letter such that adding one of that letter gives a prefix again.
+pub fn look_count(masks: &[u16], log: &[u8]) -> usize {
+    let mut sum = 0;
+    for marks in 0..256 {
+        if is_prefix(masks, log, marks) {
+            sum = plus(sum, additions(masks, log, marks));
         }
     }
     sum

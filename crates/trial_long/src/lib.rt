@@ -49,12 +49,12 @@ fn line_records(table: &[u32]) -> bool {
     true
 }
 
-// 256 records, the last with the count 255, and nothing else written; or the refusal.
+// 256 records, the last with the count 255, and nothing else written; one letter can be added to each but the last. Or the refusal.
 fn line_table(answer: Answer, number: usize, verdict: usize, numbers: &[u32], size: usize) -> bool {
     if number != 0 {
         return is_refusal(answer, number, 0, 0) & is_unchanged(number, b"", numbers, size);
     }
-    is_verdict(answer, verdict, 256, 1)
+    is_verdict(answer, verdict, 256, 255)
         & untouched32(numbers, NUMBERS, 1536)
         & line_records(table_part(numbers))
 }
@@ -174,9 +174,9 @@ fn alternates(order: &[u8]) -> bool {
     true
 }
 
-// Verdict 1 with abab to the end, 16384 records, and nothing else written.
+// Verdict 1 with abab to the end, 16384 records, and nothing else written; an a can be added 127 × 128 times, and so can a b.
 fn square_right(answer: Answer, buffer: &[u8], numbers: &[u32]) -> bool {
-    is_verdict(answer, 1, 16384, 2)
+    is_verdict(answer, 1, 16384, 32512)
         & untouched8(buffer, BYTES, 254)
         & alternates(part8(buffer, BYTES, 254))
         & untouched32(numbers, NUMBERS, 98304)

@@ -14,8 +14,8 @@ use Rattle.profile.specs.Orders.{Earlier, Same}
 use Rattle.profile.specs.Refusals.{judge-refusal}
 use Rattle.profile.specs.declared.Refusal.{Refusal}
 use Rattle.profile.specs.declared.Refusal.the-variants.{FullTable}
-use Rattle.theory.proofs.Demands.{Witness, no-order, order-earliest, order-of, same-answer}
-use Rattle.verdict.specs.Verdict.{Promise, refused-by, verdict-number}
+use Rattle.theory.proofs.Demands.{Witness, looks-of, no-order, order-earliest, order-of, prefixes-of, same-answer}
+use Rattle.verdict.specs.Verdict.{Counted, Promise, refused-by, verdict-number}
 use Rattle.verdict.specs.declared.Judged.{Judged}
 use Rattle.verdict.specs.declared.Judged.the-variants.{NoOrder, Order, Refused}
 use Rattle.verdict.proofs.Judging.{admitted, order-length}
@@ -25,6 +25,12 @@ abbrev pub told-prefixes : Judged → Option ℕ
 told-prefixes (Refused r) = none
 told-prefixes (NoOrder P n) = some P
 told-prefixes (Order P n) = some P
+
+-- looks, as it is told
+abbrev pub told-looks : Judged → Option ℕ
+told-looks (Refused r) = none
+told-looks (NoOrder P n) = some n
+told-looks (Order P n) = some n
 
 -- the two verdicts are different
 zero-one : _≡_ {A = Option ℕ} (some 0) (some 1) → ⊥
@@ -78,32 +84,32 @@ module _ (p : Profile) (w order order′ table table′ : List ℕ) (unrefused :
       )
 
 -- "Any two such logs with the same profile that are reachable from each other get the same verdict, the same order if there is one, and the same prefix
--- count …, whatever buffers each was lent. This holds for one log judged twice, so a larger table changes none of these three."
+-- count …, whatever buffers each was lent. This holds for one log judged twice, so a larger table changes none of these three." "Logs reachable from each
+-- other then also show equal looks" (document 02, Paper 2)
 module _ (p : Profile) (v w : List ℕ) (order₁ order₁′ table₁ table₁′ order₂ order₂′ table₂ table₂′ : List ℕ)
     (first : judge-refusal p v (length order₁) (length table₁) ≡ none) (second : judge-refusal p w (length order₂) (length table₂) ≡ none)
     (same : Same (independent (p .masks)) v w) where
-  -- the two answers have the same order, or none
-  orders : order-of p v ≡ order-of p w
-  orders = same-answer p v w (admitted p v order₁ table₁ first) (admitted p w order₂ table₂ second) same .0
+  -- the two logs have the same order, or none, the same P and the same looks
+  answers : (order-of p v ≡ order-of p w) × (prefixes-of p v ≡ prefixes-of p w) × (looks-of p v ≡ looks-of p w)
+  answers = same-answer p v w (admitted p v order₁ table₁ first) (admitted p w order₂ table₂ second) same
+
+  counted-same : {P Q n m : ℕ} → Counted p v table₁ table₁′ P n → Counted p w table₂ table₂′ Q m → (P ≡ Q) × (n ≡ m)
+  counted-same g h = (g .prefixes ∙ answers .1 ∙ sym (h .prefixes), g .looks ∙ answers .2 ∙ sym (h .looks))
 
   pub judged-same : (i j : Judged) → Promise p v order₁ order₁′ table₁ table₁′ i → Promise p w order₂ order₂′ table₂ table₂′ j
-      → (verdict-number i ≡ verdict-number j) × (told-prefixes i ≡ told-prefixes j) × (verdict-number i ≡ some 1 → take (length v) order₁′ ≡ take (length w) order₂′)
+      → (verdict-number i ≡ verdict-number j) × (told-prefixes i ≡ told-prefixes j) × (told-looks i ≡ told-looks j)
+      × (verdict-number i ≡ some 1 → take (length v) order₁′ ≡ take (length w) order₂′)
   judged-same (Refused r) j g h = absurd (Option·some-ne-none r (g .refused ∙ first))
   judged-same (NoOrder P n) (Refused r) g h = absurd (Option·some-ne-none r (h .refused ∙ second))
-  judged-same (NoOrder P n) (NoOrder Q m) g h = (refl, counts, λ e. absurd (zero-one e))
-    where
-      counts : _≡_ {A = Option ℕ} (some P) (some Q)
-      counts = ap some (g .told .2 .prefixes ∙ same-answer p v w (admitted p v order₁ table₁ first) (admitted p w order₂ table₂ second) same .1 ∙ sym (h .told .2 .prefixes))
-  judged-same (NoOrder P n) (Order Q m) g h = absurd (Option·none-ne-some _ (sym (g .told .0) ∙ orders ∙ h .told .1))
+  judged-same (NoOrder P n) (NoOrder Q m) g h =
+      let c = counted-same (g .told .2) (h .told .2) in (refl, ap some (c .0), ap some (c .1), λ e. absurd (zero-one e))
+  judged-same (NoOrder P n) (Order Q m) g h = absurd (Option·none-ne-some _ (sym (g .told .0) ∙ answers .0 ∙ h .told .1))
   judged-same (Order P n) (Refused r) g h = absurd (Option·some-ne-none r (h .refused ∙ second))
-  judged-same (Order P n) (NoOrder Q m) g h = absurd (Option·none-ne-some _ (sym (h .told .0) ∙ sym orders ∙ g .told .1))
-  judged-same (Order P n) (Order Q m) g h = (refl, counts, λ e. bytes)
+  judged-same (Order P n) (NoOrder Q m) g h = absurd (Option·none-ne-some _ (sym (h .told .0) ∙ sym (answers .0) ∙ g .told .1))
+  judged-same (Order P n) (Order Q m) g h = let c = counted-same (g .told .3) (h .told .3) in (refl, ap some (c .0), ap some (c .1), λ e. bytes)
     where
-      counts : _≡_ {A = Option ℕ} (some P) (some Q)
-      counts = ap some (g .told .3 .prefixes ∙ same-answer p v w (admitted p v order₁ table₁ first) (admitted p w order₂ table₂ second) same .1 ∙ sym (h .told .3 .prefixes))
-
       bytes : take (length v) order₁′ ≡ take (length w) order₂′
       bytes =
           ap (take (length v)) (g .told .2) ∙ take-at (g .told .0) (drop (length v) order₁) (length v) (order-length p v (g .told .1))
-          ∙ Option·some-injective (g .told .0) (h .told .0) (sym (g .told .1) ∙ orders ∙ h .told .1)
+          ∙ Option·some-injective (g .told .0) (h .told .0) (sym (g .told .1) ∙ answers .0 ∙ h .told .1)
           ∙ sym (ap (take (length w)) (h .told .2) ∙ take-at (h .told .0) (drop (length w) order₂) (length w) (order-length p w (h .told .1)))

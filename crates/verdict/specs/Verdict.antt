@@ -7,8 +7,8 @@ use Prim.Native.Nat.{ℕ}
 use lib.ListN.{length, drop}
 use Rattle.profile.specs.Traces.{independent}
 use Rattle.profile.specs.Automata.{Profile, automaton}
-use Rattle.profile.specs.Prefixes.{prefix-count}
-use Rattle.profile.specs.Tables.{Holds, Looks, layout}
+use Rattle.profile.specs.Prefixes.{looks as looks-by, prefix-count}
+use Rattle.profile.specs.Tables.{Holds, layout}
 use Rattle.profile.specs.Orders.{accepted-order}
 use Rattle.profile.specs.Refusals.{judge-refusal}
 use Rattle.profile.specs.declared.Refusal.{Refusal}
@@ -28,10 +28,10 @@ verdict-number (Refused r) = none
 verdict-number (NoOrder P n) = some 0
 verdict-number (Order P n) = some 1
 
--- "P", and what is promised of looks and of the table, which was `before`
+-- "P", "looks", and what is promised of the table, which was `before`
 pub record Counted (p : Profile) (w before after : List ℕ) (P n : ℕ) : Type 0 where
   pub prefixes : P ≡ prefix-count (independent (p .masks)) (λ a. a) (p .k) w
-  pub looks : Looks P (p .k) n
+  pub looks : n ≡ looks-by (independent (p .masks)) (λ a. a) (p .k) w
   pub table : Holds layout (independent (p .masks)) (λ a. a) (automaton p) (p .k) w before after
 
 -- "Verdict 1 comes with the order in the first bytes of the order buffer …; its other bytes stay. Verdict 0 means 'no order' and leaves that buffer

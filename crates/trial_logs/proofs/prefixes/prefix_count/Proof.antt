@@ -13,11 +13,8 @@ abbrev μ-loop : tie.MeasureT-loop
 loop-holds : tie.Need-loop-holds Inv-loop μ-loop
 loop-holds c = search needs
 
-closed-requires : tie.Need-closed-requires Inv-loop μ-loop
-closed-requires c κs = search needs
-
-shr-if1 : tie.Need-shr-if1 Inv-loop μ-loop
-shr-if1 c = search needs
+is-prefix-requires : tie.Need-is-prefix-requires Inv-loop μ-loop
+is-prefix-requires c κs = search needs
 
 plus-requires : tie.Need-plus-requires Inv-loop μ-loop
 plus-requires c κs = search needs
@@ -41,8 +38,7 @@ prefix-count-spec =
     Inv-loop
     μ-loop
     loop-holds
-    closed-requires
-    shr-if1
+    is-prefix-requires
     plus-requires
     add-marks
     loop-less
