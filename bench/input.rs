@@ -10,16 +10,22 @@ pub struct Profile {
     pub moves: Vec<u32>,
 }
 
-/// Which letters are dependent.
+/// Which letters may be exchanged.
 #[derive(Clone, Copy, PartialEq)]
 pub enum Letters {
     Independent,
-    /// Each letter and the next one.
+    /// All but each letter and the next one.
     Neighbours,
-    /// The letters 4 i to 4 i + 3.
+    /// All but the letters 4 i to 4 i + 3 with one another.
     Groups,
-    /// A quarter of the pairs.
+    /// Three quarters of the pairs.
     Random,
+    /// One way: a smaller letter before a larger.
+    Rising,
+    /// One way: a larger letter before a smaller.
+    Falling,
+    /// Three quarters of the pairs in each direction, drawn by itself.
+    Directed,
 }
 
 impl Letters {
@@ -29,6 +35,9 @@ impl Letters {
             Letters::Neighbours => "neighbours",
             Letters::Groups => "groups of 4",
             Letters::Random => "random",
+            Letters::Rising => "rising",
+            Letters::Falling => "falling",
+            Letters::Directed => "directed",
         }
     }
 }
@@ -59,20 +68,26 @@ impl Random {
     }
 }
 
+/// Whether the smaller letter j before i may be exchanged, and whether i before j.
+fn directions(letters: Letters, i: usize, j: usize, random: &mut Random) -> [bool; 2] {
+    match letters {
+        Letters::Independent => [true; 2],
+        Letters::Neighbours => [i - j != 1; 2],
+        Letters::Groups => [i / 4 != j / 4; 2],
+        Letters::Random => [random.below(4) != 0; 2],
+        Letters::Rising => [true, false],
+        Letters::Falling => [false, true],
+        Letters::Directed => [random.below(4) != 0, random.below(4) != 0],
+    }
+}
+
 fn masks(k: usize, letters: Letters, random: &mut Random) -> Vec<u16> {
     let mut masks = vec![0; k];
     for i in 0..k {
         for j in 0..i {
-            let dependent = match letters {
-                Letters::Independent => false,
-                Letters::Neighbours => i - j == 1,
-                Letters::Groups => i / 4 == j / 4,
-                Letters::Random => random.below(4) == 0,
-            };
-            if !dependent {
-                masks[i] |= 1 << j;
-                masks[j] |= 1 << i;
-            }
+            let [rising, falling] = directions(letters, i, j, random);
+            masks[j] |= u16::from(rising) << i;
+            masks[i] |= u16::from(falling) << j;
         }
     }
     masks
@@ -110,10 +125,10 @@ fn finals(row: Row) -> u32 {
     }
 }
 
-/// Letters in turn where none are dependent, so that P is the product of k equal numbers or nearly; else at random.
+/// Letters in turn where all pairs are alike, so that P is the product of k equal numbers, or nearly, or its part that one direction leaves; else at random.
 fn log(row: Row, random: &mut Random) -> Vec<u8> {
     let letter = |i: usize| match row.letters {
-        Letters::Independent => i % row.k,
+        Letters::Independent | Letters::Rising | Letters::Falling => i % row.k,
         _ => random.below(row.k),
     };
     (0..row.n).map(letter).map(|a| a as u8).collect()

@@ -11,7 +11,7 @@ mod picture;
 mod report;
 mod rules;
 
-use input::Letters::{Groups, Independent, Neighbours, Random};
+use input::Letters::{Directed, Falling, Groups, Independent, Neighbours, Random, Rising};
 use input::{Letters, Row};
 use measure::{Measured, Tables};
 
@@ -22,7 +22,7 @@ const RECORDS: usize = 4_500_000;
 const SWEEPS: usize = 3;
 
 /// Lines of k, letters, s, verdict, and the lengths of the logs: P grows along a line. A log in turns has every letter, since pairs with a letter
-/// that does not occur are cheaper.
+/// that does not occur are cheaper. The second half has one-way relations.
 const LINES: &[(usize, Letters, usize, bool, &[usize])] = &[
     (2, Independent, 2, true, &[62, 255]),
     (2, Independent, 8, true, &[12, 16, 20, 62, 128, 255]),
@@ -45,6 +45,29 @@ const LINES: &[(usize, Letters, usize, bool, &[usize])] = &[
     (16, Groups, 8, true, &[48, 100]),
     (16, Random, 2, true, &[60]),
     (16, Random, 32, true, &[60]),
+    (2, Rising, 32, true, &[255]),
+    (2, Rising, 8, true, &[20, 128, 255]),
+    (2, Falling, 32, true, &[20, 128, 255]),
+    (2, Falling, 8, false, &[255]),
+    (3, Rising, 8, true, &[30, 141, 255]),
+    (3, Rising, 32, true, &[255]),
+    (3, Falling, 8, true, &[30, 141, 255]),
+    (3, Falling, 8, false, &[255]),
+    (4, Rising, 2, true, &[120]),
+    (4, Rising, 8, true, &[40, 120, 255]),
+    (4, Falling, 8, true, &[40, 120, 255]),
+    (4, Falling, 8, false, &[120]),
+    (4, Falling, 32, true, &[120]),
+    (4, Directed, 8, true, &[60, 120]),
+    (8, Rising, 8, true, &[40, 80]),
+    (8, Falling, 8, true, &[60, 100]),
+    (8, Directed, 8, true, &[60, 80]),
+    (8, Directed, 8, false, &[80]),
+    (8, Directed, 32, true, &[60]),
+    (16, Rising, 8, true, &[32, 40]),
+    (16, Falling, 8, true, &[48, 64]),
+    (16, Directed, 2, true, &[60]),
+    (16, Directed, 32, true, &[60]),
 ];
 
 fn rows() -> impl Iterator<Item = Row> {

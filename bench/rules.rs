@@ -26,7 +26,7 @@ fn refused(number: u32) -> Result<(), Refusal> {
     Err(Refusal { number, place: 0 })
 }
 
-/// The refusals 2 and 4 to 9 of document 01, the lowest first.
+/// The refusals 2, 4 and 6 to 9 of documents 01 and 02, the lowest first.
 pub fn check(p: &Profile, log: &[u8], order: &[u8]) -> Result<(), Refusal> {
     let (k, s) = (p.k, p.s);
     if !(1..=16).contains(&k) || !(1..=32).contains(&s) || p.start >= s || p.masks.len() != k || p.moves.len() != s * k {
@@ -34,9 +34,6 @@ pub fn check(p: &Profile, log: &[u8], order: &[u8]) -> Result<(), Refusal> {
     }
     if p.masks.iter().enumerate().any(|(i, &m)| u32::from(m) >> k != 0 || m >> i & 1 == 1) {
         return refused(4);
-    }
-    if (0..k).any(|i| (0..i).any(|j| p.masks[i] >> j & 1 != p.masks[j] >> i & 1)) {
-        return refused(5);
     }
     if p.moves.iter().chain([&p.finals]).any(|&set| u64::from(set) >> s != 0) {
         return refused(6);
@@ -111,8 +108,8 @@ impl Events {
         }
         let mut dependent = [0; 16];
         for a in 0..p.k {
-            let others = (1u32 << p.k) - 1 - (1 << a);
-            dependent[a] = !p.masks[a] & others as u16;
+            let keeps = |b: &usize| *b != a && p.masks[*b] >> a & 1 == 0;
+            dependent[a] = (0..p.k).filter(keeps).fold(0, |set, b| set | 1 << b);
         }
         Events { k: p.k, end, places, starts, dependent }
     }

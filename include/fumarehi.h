@@ -10,7 +10,7 @@
  *   13  more than 31 letters are typed
  *    3  a distance of the file is out of its range
  *    4  a mask has a bit from k on, or its own bit
- *    5  the masks are not symmetric
+ *    5  unused: masks need not be symmetric
  *    6  a move or the final set has a bit from s on
  *    7  the log has more than 255 letters
  *    8  a letter of the log is k or more; its first place in the log is told, from 0
@@ -30,8 +30,8 @@
  * 11.6 KB in fumarehi_expression, 3.3 KB in the others.
  *
  * A profile is k letters (1 to 16), s states (1 to 32), the start state (below s), the set of final states (bit q for state q), k masks (bit j of mask i
- * is set where letters i and j are independent) and s * k moves (at q * k + a, bit r is set where letter a may lead from state q to state r).
- * A log is a letter per byte, 0 to k - 1.
+ * is set where letter i directly followed by j may become j followed by i: an exchange; the other direction is bit i of mask j) and s * k moves (at
+ * q * k + a, bit r is set where letter a may lead from state q to state r). A log is a letter per byte, 0 to k - 1.
  */
 #ifndef FUMAREHI_H
 #define FUMAREHI_H
@@ -49,7 +49,6 @@ enum {
     FUMAREHI_OUT_OF_RANGE = 2,
     FUMAREHI_DISTANCE = 3,
     FUMAREHI_MASK_BIT = 4,
-    FUMAREHI_ASYMMETRIC = 5,
     FUMAREHI_STATE_BIT = 6,
     FUMAREHI_LONG_LOG = 7,
     FUMAREHI_BAD_LETTER = 8,
@@ -61,11 +60,11 @@ enum {
 };
 
 /* Judges a log. told: place, verdict, P, looks.
- * Verdict 1: some log that exchanges of neighbouring independent letters reach is accepted; the first log_len bytes of 'order' are the earliest such
+ * Verdict 1: some log that exchanges of neighbouring letters reach from the given one is accepted; the first log_len bytes of 'order' are the earliest such
  * log in letter order, the others stay. Verdict 0: none is; 'order' stays. P is the number of prefixes of the log; the work table then holds a
  * record of six numbers for each (see fumarehi_table). Looks is the number of pairs of a prefix and a letter such that adding one of that letter
  * gives a prefix again; it may exceed 32 bits. Logs that exchanges turn into each other have equal P and looks.
- * Refused by 2 and 4 to 10; 9 if order_len is below log_len, also where the verdict would be 0. */
+ * Refused by 2, 4 and 6 to 10; 9 if order_len is below log_len, also where the verdict would be 0. */
 uint32_t fumarehi_judge(size_t k, size_t s, size_t start, uint32_t finals,
                         const uint16_t *masks, size_t masks_len,
                         const uint32_t *moves, size_t moves_len,
@@ -78,7 +77,7 @@ uint32_t fumarehi_judge(size_t k, size_t s, size_t start, uint32_t finals,
  * A record is six numbers, one record for each prefix by rising total count: numbers 0 to 3 have the counts, 8 bits each, letter i in bits
  * 8 * (i mod 4) and up of number i div 4; number 4 is the set of states that an order of the prefix leads to from the start; number 5 is the
  * set of states from which an order of the rest leads to a final state. Numbers past record P - 1 stay.
- * Refused by 2, 4 to 8 and 10. */
+ * Refused by 2, 4, 6 to 8 and 10. */
 uint32_t fumarehi_table(size_t k, size_t s, size_t start, uint32_t finals,
                         const uint16_t *masks, size_t masks_len,
                         const uint32_t *moves, size_t moves_len,
@@ -87,7 +86,7 @@ uint32_t fumarehi_table(size_t k, size_t s, size_t start, uint32_t finals,
                         uint64_t told[3]);
 
 /* Compares two logs. told: place, log, same.
- * Same is 1 exactly when exchanges lead from each log to the other. Refused by 2, 4 and 5, then by 7 and 8 of the first log, then by 7 and 8 of the
+ * Same is 1 exactly when exchanges lead from each log to the other, each way. Refused by 2 and 4, then by 7 and 8 of the first log, then by 7 and 8 of the
  * second; log is 1 or 2 at 7 and 8, and 0 otherwise. */
 uint32_t fumarehi_same(size_t k,
                        const uint16_t *masks, size_t masks_len,
@@ -96,7 +95,7 @@ uint32_t fumarehi_same(size_t k,
                        uint64_t told[3]);
 
 /* Writes the earliest log in letter order that exchanges reach from the given one to the first log_len bytes of 'order'. told: place.
- * Refused by 2, 4, 5, 7, 8 and 9. */
+ * Refused by 2, 4, 7, 8 and 9. Logs with equal first orders are the same where the masks are symmetric; else they need not be. */
 uint32_t fumarehi_first_order(size_t k,
                               const uint16_t *masks, size_t masks_len,
                               const uint8_t *log, size_t log_len,
@@ -104,19 +103,19 @@ uint32_t fumarehi_first_order(size_t k,
                               uint64_t told[1]);
 
 /* Reads a log file. told: place, k, s, start, final set, log length.
- * Fills the first k masks and the first s * k moves; further elements stay. Refused by 1 to 6, 8 and 9; 7 cannot be, as the length is one byte. */
+ * Fills the first k masks and the first s * k moves; further elements stay. Refused by 1 to 4, 6, 8 and 9; 7 cannot be, as the length is one byte. */
 uint32_t fumarehi_read_file(const uint8_t *file, size_t file_len,
                             uint16_t *masks, size_t masks_len,
                             uint32_t *moves, size_t moves_len,
                             uint64_t told[6]);
 
 /* Finds the log in a log file. told: place, offset, length.
- * The log is the part file[offset] to file[offset + length - 1]. Refused by 1 to 6 and 8; the part is then empty. */
+ * The log is the part file[offset] to file[offset + length - 1]. Refused by 1 to 4, 6 and 8; the part is then empty. */
 uint32_t fumarehi_log_part(const uint8_t *file, size_t file_len,
                            uint64_t told[3]);
 
 /* Writes a log file: masks, moves, log, trailer, without gaps. told: place, file length.
- * Bytes past the file's end stay. Refused by 2 and 4 to 9. */
+ * Bytes past the file's end stay. Refused by 2, 4 and 6 to 9. */
 uint32_t fumarehi_write_file(size_t k, size_t s, size_t start, uint32_t finals,
                              const uint16_t *masks, size_t masks_len,
                              const uint32_t *moves, size_t moves_len,

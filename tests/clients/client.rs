@@ -47,6 +47,12 @@ impl Read<'_> {
     fn relation(&self) -> Relation<'_> {
         Relation { k: self.header.k, masks: self.profile().masks }
     }
+
+    /// The other samples have no pair that goes both ways, so that a log is the same as itself alone.
+    fn is_symmetric(&self) -> bool {
+        let k = self.header.k;
+        (0..k).all(|i| (0..k).all(|j| self.masks[i] >> j & 1 == self.masks[j] >> i & 1))
+    }
 }
 
 /// P, and the order if there is one.
@@ -81,7 +87,8 @@ fn held(compared: &mut Compared, name: &str, file: &[u8], read: &Read, order: Op
     let mut first = vec![0; read.log.len()];
     compared.expect(fumarehi::first_order(&read.relation(), read.log, &mut first) == Ok(()), &format!("{name}: first order"));
     for other in [Some(&first[..]), order].into_iter().flatten() {
-        compared.expect(fumarehi::same(&read.relation(), read.log, other) == Ok(true), &format!("{name}: an order is not the same"));
+        let same = read.is_symmetric() || other == read.log;
+        compared.expect(fumarehi::same(&read.relation(), read.log, other) == Ok(same), &format!("{name}: an order and the log"));
     }
     compared.expect(order.is_none_or(|order| first[..] <= *order), &format!("{name}: an order before the first order"));
 }
@@ -116,7 +123,6 @@ fn refused_inputs() -> Vec<(Refused, Profile<'static>, Vec<u8>)> {
         (refused(Refusal::OutOfRange, 0), Profile { moves: &[2, 0, 0], ..ALT }, BA.to_vec()),
         (refused(Refusal::MaskBit, 0), Profile { masks: &[3, 1], ..ALT }, BA.to_vec()),
         (refused(Refusal::MaskBit, 0), Profile { masks: &[2, 5], ..ALT }, BA.to_vec()),
-        (refused(Refusal::Asymmetric, 0), Profile { masks: &[2, 0], ..ALT }, BA.to_vec()),
         (refused(Refusal::StateBit, 0), Profile { moves: &[2, 0, 0, 5], ..ALT }, BA.to_vec()),
         (refused(Refusal::StateBit, 0), Profile { finals: 1 << 31, ..ALT }, BA.to_vec()),
         (refused(Refusal::LongLog, 0), ALT, vec![0; 256]),
@@ -174,6 +180,23 @@ fn refused_same(compared: &mut Compared) {
     compared.expect(fumarehi::same(&alt, &bad, &long) == refused(Refusal::BadLetter, 2, 1), "same: a bad letter in the first log");
     compared.expect(fumarehi::same(&alt, BA, &long) == refused(Refusal::LongLog, 0, 2), "same: a long second log");
     compared.expect(fumarehi::same(&alt, BA, &bad) == refused(Refusal::BadLetter, 2, 2), "same: a bad letter in the second log");
+}
+
+/// Alt on ba with one bit set: b may be moved past, or a may.
+fn one_way(compared: &mut Compared) {
+    let ab: &[u8] = &[0, 1];
+    for (masks, expected) in [(&[0, 1], Some(ab)), (&[2, 0], None)] {
+        let (relation, mut order, mut first, mut table) = (Relation { k: 2, masks }, [9; 2], [9; 2], [0; 24]);
+        let verdict = fumarehi::judge(&Profile { masks, ..ALT }, BA, &mut order, &mut table);
+        let prefixes = if expected.is_some() { 4 } else { 3 };
+        compared.expect(verdict.is_ok_and(|v| (v.has_order, v.prefixes) == (expected.is_some(), prefixes)), &format!("{masks:?}: the verdict of ba"));
+        compared.expect(order == expected.unwrap_or(&[9, 9]), &format!("{masks:?}: the order of ba"));
+        compared.expect(fumarehi::first_order(&relation, BA, &mut first) == Ok(()), &format!("{masks:?}: a first order"));
+        compared.expect(first == expected.unwrap_or(BA), &format!("{masks:?}: the first order of ba"));
+        for (first, second, same) in [(BA, ab, false), (ab, BA, false), (BA, BA, true)] {
+            compared.expect(fumarehi::same(&relation, first, second) == Ok(same), &format!("{masks:?}: {first:?} and {second:?}"));
+        }
+    }
 }
 
 /// The file cut short at every length: the trailer is never where it was.
@@ -261,6 +284,7 @@ fn main() -> ExitCode {
     refused_profiles(&mut compared);
     refused_buffers(&mut compared);
     refused_same(&mut compared);
+    one_way(&mut compared);
     cut_files(&mut compared);
     typed_courses(&mut compared);
     refused_texts(&mut compared);

@@ -67,7 +67,7 @@ mod c {
 /// What `numbers::next_event` gives at the end of a log.
 pub const END: u32 = 256;
 
-/// Letters and which of them are independent.
+/// Letters and their exchanges: bit j of mask i is set where i directly followed by j may become j followed by i.
 #[derive(Clone, Copy, Debug)]
 pub struct Relation<'a> {
     pub k: usize,
@@ -84,13 +84,13 @@ pub struct Profile<'a> {
     pub moves: &'a [u32],
 }
 
+/// The refusals with their numbers, of which 5 is unused.
 #[derive(Clone, Copy, Debug, PartialEq, Eq)]
 pub enum Refusal {
     ShortFile = 1,
     OutOfRange = 2,
     Distance = 3,
     MaskBit = 4,
-    Asymmetric = 5,
     StateBit = 6,
     LongLog = 7,
     BadLetter = 8,
@@ -102,12 +102,11 @@ pub enum Refusal {
 }
 
 impl Refusal {
-    const ALL: [Refusal; 13] = [
+    const ALL: [Refusal; 12] = [
         Refusal::ShortFile,
         Refusal::OutOfRange,
         Refusal::Distance,
         Refusal::MaskBit,
-        Refusal::Asymmetric,
         Refusal::StateBit,
         Refusal::LongLog,
         Refusal::BadLetter,

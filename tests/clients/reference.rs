@@ -47,6 +47,7 @@ fn bit(number: u32, at: usize) -> bool {
     number >> at & 1 == 1
 }
 
+/// i directly followed by j may become j followed by i.
 pub fn independent(masks: &[u16], i: u8, j: u8) -> bool {
     bit(masks[i as usize].into(), j.into())
 }
@@ -67,12 +68,6 @@ fn mask_bits(masks: &[u16]) -> Result<(), Refused> {
     if (0..k).any(|i| (0..16).any(|j| wrong(i, j))) { refuse(4) } else { Ok(()) }
 }
 
-fn symmetric(masks: &[u16]) -> Result<(), Refused> {
-    let k = masks.len() as u8;
-    let one_way = |i, j| independent(masks, i, j) && !independent(masks, j, i);
-    if (0..k).any(|i| (0..k).any(|j| one_way(i, j))) { refuse(5) } else { Ok(()) }
-}
-
 fn state_bits(p: &Profile) -> Result<(), Refused> {
     let wrong = |set: u32| (p.s..32).any(|r| bit(set, r));
     if p.moves.iter().any(|&set| wrong(set)) || wrong(p.finals) { refuse(6) } else { Ok(()) }
@@ -80,15 +75,13 @@ fn state_bits(p: &Profile) -> Result<(), Refused> {
 
 fn relation(k: usize, masks: &[u16]) -> Result<(), Refused> {
     letters_in_range(k, masks)?;
-    mask_bits(masks)?;
-    symmetric(masks)
+    mask_bits(masks)
 }
 
 fn profile(p: &Profile) -> Result<(), Refused> {
     letters_in_range(p.k, &p.masks)?;
     states_in_range(p)?;
     mask_bits(&p.masks)?;
-    symmetric(&p.masks)?;
     state_bits(p)
 }
 
@@ -170,20 +163,20 @@ fn counts_of(k: usize, log: &[u8]) -> Counts {
     counts
 }
 
-/// The marking rule as document 01 says it.
+/// The marking rule as document 02 says it.
 fn is_prefix(masks: &[u16], log: &[u8], counts: &[u8]) -> bool {
     let marks = marked(log, counts);
     let holds_back = |earlier: usize, later: usize| log[earlier] == log[later] || !independent(masks, log[earlier], log[later]);
     (0..log.len()).all(|later| !marks[later] || (0..later).all(|earlier| marks[earlier] || !holds_back(earlier, later)))
 }
 
-/// The marking rule in one pass: no marked event after an unmarked one that holds it back.
+/// The marking rule in one pass: every marked event is of a letter that may pass all unmarked ones before it.
 fn is_prefix_at_once(masks: &[u16], log: &[u8], counts: &[u8]) -> bool {
-    let mut unmarked = 0u16;
+    let mut passing = u16::MAX;
     for (&a, mark) in log.iter().zip(marked(log, counts)) {
         if !mark {
-            unmarked |= 1 << a;
-        } else if unmarked & !masks[a as usize] != 0 {
+            passing &= masks[a as usize];
+        } else if !bit(passing.into(), a.into()) {
             return false;
         }
     }
@@ -313,7 +306,7 @@ pub struct Solved {
     log_len: usize,
 }
 
-/// Refusals 2 and 4 to 8, or all there is to say.
+/// Refusals 2, 4 and 6 to 8, or all there is to say.
 pub fn solve(p: &Profile, log: &[u8]) -> Result<Solved, Refused> {
     profile(p)?;
     letters(p.k, log)?;
@@ -369,11 +362,32 @@ pub fn first_order(k: usize, masks: &[u16], log: &[u8], order_len: usize) -> Res
     Ok(earliest(masks, log))
 }
 
+/// The letters of the second log, taken in turn, each pass all that is left before them in the first, and nothing is left.
+fn leads_to(masks: &[u16], first: &[u8], second: &[u8]) -> bool {
+    let mut left = first.to_vec();
+    let takes = |&a: &u8| {
+        let passes = |at: usize| left[..at].iter().all(|&b| independent(masks, b, a));
+        let place = left.iter().position(|&b| b == a).filter(|&at| passes(at));
+        place.map(|at| left.remove(at)).is_some()
+    };
+    second.iter().all(takes) && first.len() == second.len()
+}
+
+/// Some pair may be exchanged one way and not the other.
+pub fn one_way(masks: &[u16]) -> bool {
+    let k = masks.len() as u8;
+    (0..k).any(|i| (0..k).any(|j| independent(masks, i, j) && !independent(masks, j, i)))
+}
+
 pub fn same(k: usize, masks: &[u16], first: &[u8], second: &[u8]) -> Result<bool, Refused> {
     relation(k, masks)?;
     letters(k, first).map_err(|refused| Refused { log: 1, ..refused })?;
     letters(k, second).map_err(|refused| Refused { log: 2, ..refused })?;
-    let same = earliest(masks, first) == earliest(masks, second);
+    let same = leads_to(masks, first, second) && leads_to(masks, second, first);
+    if same || !one_way(masks) {
+        let equal = earliest(masks, first) == earliest(masks, second);
+        assert_eq!(equal, same, "the reference disagrees with itself: {masks:?} {first:?} {second:?}");
+    }
     if first.len() <= LISTED && second.len() <= LISTED {
         let both = reachable(masks, first).contains(second) && reachable(masks, second).contains(first);
         assert_eq!(both, same, "the reference disagrees with itself: {masks:?} {first:?} {second:?}");

@@ -119,6 +119,14 @@ fn document_cases(t: Tally) -> Tally {
     )
 }
 
+// Alt on ba, where only b may be moved past, and where only a may.
+fn one_way_cases(t: Tally) -> Tally {
+    case(
+        b"2201 20 2001 21320 10 00",
+        case(b"2201 01 2001 22441 10 01", t),
+    )
+}
+
 // Alt on the log: of every table of up to 30 numbers those with its records are enough, and the rest stays.
 fn table_lengths(log: &[u8], t: Tally) -> Tally {
     let masks = [2u16, 1];
@@ -135,5 +143,8 @@ fn table_lengths(log: &[u8], t: Tally) -> Tally {
 
 // On ba 23 numbers are refused and 24 are enough; on the empty log 6 are enough.
 pub fn all_cases(t: Tally) -> Tally {
-    table_lengths(b"", table_lengths(&[1u8, 0], document_cases(t)))
+    table_lengths(
+        b"",
+        table_lengths(&[1u8, 0], one_way_cases(document_cases(t))),
+    )
 }

@@ -29,6 +29,12 @@ fn print(t: Tally) {
         tally::LOGS,
         1,
     );
+    tally::say(
+        t,
+        b"one-way masks: logs #, pairs reachable one way #\n",
+        tally::ONE_WAY_LOGS,
+        1,
+    );
     tally::say_all_refusals(t);
     tally::say(
         t,

@@ -1,13 +1,10 @@
-// The checks of a relation and a profile: refusals 2, 4, 5 and 6.
-ghost use mathlib.Core.Bool.{_&&_, _||_, not};
+// The checks of a relation and a profile: refusals 2, 4 and 6.
+ghost use mathlib.Core.Bool.{_||_};
 ghost use mathlib.Core.Path.{_≡_};
-ghost use lib.ListN.{length};
-ghost use Rattle.profile.specs.Lists.{any, below};
-ghost use Rattle.profile.specs.Traces.{independent as independent-by};
+ghost use Rattle.profile.specs.Lists.{any};
 ghost use Rattle.profile.specs.Automata.{profile-of};
-ghost use Rattle.profile.specs.Refusals.{asymmetric, bit-from, checked, letters-out-of-range, lowest, mask-bit, profile-refusals, relation-refusals};
+ghost use Rattle.profile.specs.Refusals.{bit-from, checked, letters-out-of-range, lowest, mask-bit, profile-refusals, relation-refusals};
 ghost use Rattle.profile.specs.Refusals.{profile-out-of-range as profile-out-of-range-by};
-ghost use Rattle.checks.specs.Checks.{mask-refusals};
 use profile::Check;
 use profile::Refusal;
 use profile::Shape;
@@ -75,44 +72,6 @@ fn mask_refused(k: usize, masks: &[u16]) -> bool
     false
 }
 
-// Letters i and j are independent, and not the other way round.
-fn one_way(masks: &[u16], i: usize, j: usize) -> bool
-    ensures { λ r. ⌜ r ≡ (independent-by (now (masks .entry)) i j && not (independent-by (now (masks .entry)) j i)) ⌝ }
-{
-    if commutation::independent(masks, i, j) {
-        return !commutation::independent(masks, j, i);
-    }
-    false
-}
-
-// Letter i is independent of some letter, and not the other way round.
-fn letter_one_way(masks: &[u16], i: usize) -> bool
-    ensures { λ r. ⌜ r ≡ any (λ j. independent-by (now (masks .entry)) i j && not (independent-by (now (masks .entry)) j i)) (below (length (now (masks .entry)))) ⌝ }
-{
-    let mut j = 0;
-    while j < masks.len() {
-        if one_way(masks, i, j) {
-            return true;
-        }
-        j += 1;
-    }
-    false
-}
-
-// 5: masks not symmetric.
-fn not_symmetric(masks: &[u16]) -> bool
-    ensures { λ r. ⌜ r ≡ asymmetric (now (masks .entry)) ⌝ }
-{
-    let mut i = 0;
-    while i < masks.len() {
-        if letter_one_way(masks, i) {
-            return true;
-        }
-        i += 1;
-    }
-    false
-}
-
 // A move with a bit from s on.
 fn move_refused(moves: &[u32], s: usize) -> bool
     ensures { λ r. ⌜ r ≡ any (bit-from s) (now (moves .entry)) ⌝ }
@@ -138,31 +97,20 @@ fn states_refused(finals: u32, moves: &[u32], s: usize) -> bool
     move_refused(moves, s)
 }
 
-// The lowest of refusals 4 and 5 that applies to the masks.
-fn check_masks(k: usize, masks: &[u16]) -> Check
-    ensures { λ r. ⌜ checked r ≡ lowest (mask-refusals k (now (masks .entry))) ⌝ }
-{
-    if mask_refused(k, masks) {
-        return Check::Bad(Refusal::MaskBit);
-    }
-    if not_symmetric(masks) {
-        return Check::Bad(Refusal::Asymmetric);
-    }
-    Check::Good
-}
-
-// The lowest of refusals 2, 4 and 5 that applies to k and the masks.
+// The lowest of refusals 2 and 4 that applies to k and the masks.
 pub fn check_relation(k: usize, masks: &[u16]) -> Check
     ensures { λ r. ⌜ checked r ≡ lowest (relation-refusals k (now (masks .entry))) ⌝ }
 {
     if relation_out_of_range(k, masks) {
         Check::Bad(Refusal::OutOfRange)
+    } else if mask_refused(k, masks) {
+        Check::Bad(Refusal::MaskBit)
     } else {
-        check_masks(k, masks)
+        Check::Good
     }
 }
 
-// The lowest of refusals 2, 4, 5 and 6 that applies to a profile.
+// The lowest of refusals 2, 4 and 6 that applies to a profile.
 pub fn check_profile(shape: Shape, masks: &[u16], moves: &[u32]) -> Check
     ensures { λ r. ⌜ checked r ≡ lowest (profile-refusals (profile-of shape (now (masks .entry)) (now (moves .entry)))) ⌝ }
 {
@@ -172,9 +120,8 @@ pub fn check_profile(shape: Shape, masks: &[u16], moves: &[u32]) -> Check
     if profile_out_of_range(shape, masks, moves) {
         return Check::Bad(Refusal::OutOfRange);
     }
-    let of_masks = check_masks(k, masks);
-    if let Check::Bad(r) = of_masks {
-        return Check::Bad(r);
+    if mask_refused(k, masks) {
+        return Check::Bad(Refusal::MaskBit);
     }
     if states_refused(finals, moves, s) {
         return Check::Bad(Refusal::StateBit);

@@ -2,7 +2,7 @@
 ghost use mathlib.Core.Path.{_≡_};
 ghost use Rattle.profile.specs.Traces.{independent as independent-by};
 
-// Letters i and j are independent: bit j of mask i is set. What the masks do not have is not set.
+// Letter i directly followed by j may become j followed by i: bit j of mask i is set. What the masks do not have is not set.
 pub fn independent(masks: &[u16], i: usize, j: usize) -> bool
     ensures { λ r. ⌜ r ≡ independent-by (now (masks .entry)) i j ⌝ }
 {

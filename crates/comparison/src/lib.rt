@@ -97,7 +97,7 @@ fn all_agree(k: usize, masks: &[u16], first: &[u8], second: &[u8]) -> bool
     true
 }
 
-// Whether each log is reachable from the other; refused by 2, 4 and 5, then by 7 and 8 of the first log, then of the second.
+// Whether each log is reachable from the other; refused by 2 and 4, then by 7 and 8 of the first log, then of the second.
 pub fn same(k: usize, masks: &[u16], first: &[u8], second: &[u8]) -> Compared
     ensures { λ r. ⌜ r ≡ comparison k (now (masks .entry)) (now (first .entry)) (now (second .entry)) ⌝ }
 {

@@ -61,7 +61,7 @@ files =
     ∷ case (set alt-file 32 24) 2 4 (8 ∷ 0 ∷ []) []
     ∷ case (set alt-file 0 1) 2 4 (4 ∷ 0 ∷ []) []
     ∷ case (set alt-file 1 1) 2 4 (4 ∷ 0 ∷ []) []
-    ∷ case (set alt-file 2 0) 2 4 (5 ∷ 0 ∷ []) []
+    ∷ case (set alt-file 2 0) 2 4 [] bbaa
     ∷ case (set alt-file 36 4) 2 4 (6 ∷ 0 ∷ []) []
     ∷ case (set alt-file 7 1) 2 4 (6 ∷ 0 ∷ []) []
     ∷ case (set alt-file 22 2) 0 0 (8 ∷ 2 ∷ []) []

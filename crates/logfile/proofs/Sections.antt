@@ -11,10 +11,10 @@ use lib.Dec.{eqb, leb, ltb}
 use lib.ListN.{length, take, drop}
 use lib.Seq.{take-at}
 use Rattle.profile.specs.Automata.{Profile}
-use Rattle.profile.specs.Refusals.{asymmetric, log-refusals, lowest, mask-bit, profile-out-of-range, profile-refusals, state-bit}
+use Rattle.profile.specs.Refusals.{log-refusals, lowest, mask-bit, profile-out-of-range, profile-refusals, state-bit}
 use Rattle.profile.specs.declared.Shape.{Shape}
 use Rattle.profile.specs.declared.Refusal.{Refusal}
-use Rattle.profile.specs.declared.Refusal.the-variants.{Asymmetric, MaskBit, StateBit}
+use Rattle.profile.specs.declared.Refusal.the-variants.{MaskBit, StateBit}
 use Rattle.theory.proofs.Refusals.{lowest-append, lowest-first, lowest-none}
 use Rattle.logfile.specs.Files.{content-refusals, distance, distance-out-of-range, field, file-log, file-masks, file-moves, file-out-of-range, file-profile, file-refusals, file-shape, log-length, numbers-from, numbers-out-of-range, outside, section, trailer}
 use Rattle.logfile.proofs.Bytes.{numbers-length}
@@ -76,7 +76,7 @@ open-file f e =
 
 -- the conditions of the content: those of the profile without 2, then those of the log
 abbrev structure-refusals : Profile → List (Bool × Refusal)
-structure-refusals p = (mask-bit (p .k) (p .masks), MaskBit) ∷ (asymmetric (p .masks), Asymmetric) ∷ (state-bit p, StateBit) ∷ []
+structure-refusals p = (mask-bit (p .k) (p .masks), MaskBit) ∷ (state-bit p, StateBit) ∷ []
 
 past-range : (p : Profile) → profile-out-of-range p ≡ false → lowest (profile-refusals p) ≡ lowest (structure-refusals p)
 past-range p e = rw e

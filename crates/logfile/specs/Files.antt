@@ -8,10 +8,10 @@ use lib.ListN.{length, getD, take, drop}
 use Rattle.profile.specs.Lists.{below}
 use Rattle.profile.specs.Automata.{Profile, profile-of}
 use Rattle.profile.specs.Tables.{pack}
-use Rattle.profile.specs.Refusals.{asymmetric, log-refusals, lowest, mask-bit, profile-out-of-range, short-buffer, state-bit}
+use Rattle.profile.specs.Refusals.{log-refusals, lowest, mask-bit, profile-out-of-range, short-buffer, state-bit}
 use Rattle.profile.specs.declared.Shape.{Shape}
 use Rattle.profile.specs.declared.Refusal.{Refusal}
-use Rattle.profile.specs.declared.Refusal.the-variants.{Asymmetric, Distance, MaskBit, OutOfRange, ShortBuffer, ShortFile, StateBit}
+use Rattle.profile.specs.declared.Refusal.the-variants.{Distance, MaskBit, OutOfRange, ShortBuffer, ShortFile, StateBit}
 use Rattle.logfile.specs.declared.Reading.{Reading}
 use Rattle.logfile.specs.declared.Located.{Located}
 use Rattle.logfile.specs.declared.Located.the-variants.{At}
@@ -88,7 +88,7 @@ distance-out-of-range f = outside f 4 (2 * field f 0) || (outside f 6 (4 * (fiel
 
 -- the conditions of a file, by rising number, of its content and in all; 7 holds of none, since n is one byte
 abbrev pub content-refusals : Profile → List ℕ → List (Bool × Refusal)
-content-refusals p w = (mask-bit (p .k) (p .masks), MaskBit) ∷ (asymmetric (p .masks), Asymmetric) ∷ (state-bit p, StateBit) ∷ log-refusals (p .k) w
+content-refusals p w = (mask-bit (p .k) (p .masks), MaskBit) ∷ (state-bit p, StateBit) ∷ log-refusals (p .k) w
 
 abbrev pub file-refusals : List ℕ → List (Bool × Refusal)
 file-refusals f = (short-file f, ShortFile) ∷ (file-out-of-range f, OutOfRange) ∷ (distance-out-of-range f, Distance) ∷ content-refusals (file-profile f) (file-log f)

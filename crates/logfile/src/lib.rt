@@ -196,7 +196,7 @@ fn fill_moves(f: &[u8], at: usize, n: usize, moves: &mut [u32])
     }
 }
 
-// The lowest of refusals 4 to 8 that applies to a file whose sections stand inside it.
+// The lowest of refusals 4 and 6 to 8 that applies to a file whose sections stand inside it.
 fn check_content(f: &[u8]) -> Check
     requires { ⌜ (file-out-of-range (now f) ≡ false) × (distance-out-of-range (now f) ≡ false) ⌝ }
     ensures { λ r. ⌜ checked r ≡ lowest (content-refusals (file-profile (now (f .entry))) (file-log (now (f .entry)))) ⌝ }

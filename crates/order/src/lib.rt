@@ -97,7 +97,7 @@ fn put_first(k: usize, masks: &[u16], log: &[u8], out: &mut [u8])
     );
 }
 
-// Writes the earliest log reachable from the log to the first bytes of the buffer; refused by 2, 4, 5, 7, 8 and 9.
+// Writes the earliest log reachable from the log to the first bytes of the buffer; refused by 2, 4, 7, 8 and 9.
 pub fn first_order(k: usize, masks: &[u16], log: &[u8], out: &mut [u8]) -> Ordered
     ensures { λ r. ⌜ (r ≡ ordering k (now (masks .entry)) (now (log .entry)) (length (now (out .entry))))
         × (now (out .exit) ≡ ordered-buffer k (now (masks .entry)) (now (log .entry)) (now (out .entry))) ⌝ }

@@ -145,8 +145,8 @@ worked =
 pub further : List Row
 further =
     record { profile = alt ab; log = 0 ∷ []; order = none; number = 2; looks = 1; reachable = (0 ∷ []) ∷ []; sets = [] }
-    ∷ record { profile = alt (0 ∷ 1 ∷ []); log = 1 ∷ 0 ∷ []; order = some (0 ∷ 1 ∷ []); number = 4; looks = 4; reachable = (1 ∷ 0 ∷ []) ∷ (0 ∷ 1 ∷ []) ∷ []; sets = [] }
-    ∷ record { profile = alt (2 ∷ 0 ∷ []); log = 1 ∷ 0 ∷ []; order = none; number = 3; looks = 2; reachable = (1 ∷ 0 ∷ []) ∷ []; sets = [] }
+    ∷ record { profile = alt (0 ∷ 1 ∷ []); log = 1 ∷ 0 ∷ []; order = some (0 ∷ 1 ∷ []); number = 4; looks = 4; reachable = (1 ∷ 0 ∷ []) ∷ (0 ∷ 1 ∷ []) ∷ []; sets = (0 ∷ 0 ∷ [], 1, 1) ∷ (1 ∷ 1 ∷ [], 1, 1) ∷ [] }
+    ∷ record { profile = alt (2 ∷ 0 ∷ []); log = 1 ∷ 0 ∷ []; order = none; number = 3; looks = 2; reachable = (1 ∷ 0 ∷ []) ∷ []; sets = (0 ∷ 0 ∷ [], 1, 0) ∷ (1 ∷ 1 ∷ [], 0, 1) ∷ [] }
     ∷ record {
       profile = record {
         k = 4;

@@ -1,9 +1,11 @@
 -- The edges that document 01 names: which refusal a call gets, and which logs are the same. One theorem over each list of rows.
 use mathlib.Core.Path.{_≡_, refl, subst, sym}
 use mathlib.Core.Bool.{Bool, true, false}
+use mathlib.Core.Logic.{_≢_}
 use mathlib.Core.List.{List, [], _∷_}
 use mathlib.Core.Option.{Option, none, some}
 use Prim.Native.Nat.{ℕ}
+use native.Mathlib.Omega.{arith}
 use lib.Dec.{T}
 use lib.ListN.{replicate, take}
 use Rattle.profile.specs.Lists.{Mem, all, any, equal?}
@@ -13,6 +15,7 @@ use Rattle.profile.specs.Tables.{capacity, layout}
 use Rattle.profile.specs.Orders.{accepted-order, first-order, same?}
 use Rattle.profile.specs.Refusals.{admission-refusals, first-order-refusal, judge-refusal, lowest, refusal-number, refusal-place, same-refusal}
 use Rattle.profile.specs.declared.Refusal.{Refusal}
+use Rattle.profile.specs.declared.Refusal.the-variants.{ShortFile, OutOfRange, Distance, MaskBit, StateBit, LongLog, BadLetter, ShortBuffer, FullTable, BadText, DeepText, LongText}
 use Rattle.profile.proofs.Lists.{all-at, any-at, equal-test}
 use Rattle.profile.proofs.Cases.{ab, alt, free}
 
@@ -67,8 +70,8 @@ calls =
     ∷ call (shape 1 (0 ∷ []) 1 0 0 []) [] 0 6 (2 ∷ 0 ∷ [])
     ∷ call (shape 1 (2 ∷ []) 1 0 0 (2 ∷ [])) (1 ∷ []) 0 0 (4 ∷ 0 ∷ [])
     ∷ call (shape 1 (1 ∷ []) 1 0 0 (0 ∷ [])) [] 0 6 (4 ∷ 0 ∷ [])
-    ∷ call (alt (2 ∷ 0 ∷ [])) (2 ∷ []) 0 0 (5 ∷ 0 ∷ [])
-    ∷ call (alt (0 ∷ 1 ∷ [])) [] 0 6 (5 ∷ 0 ∷ [])
+    ∷ call (alt (2 ∷ 0 ∷ [])) (2 ∷ []) 0 0 (8 ∷ 0 ∷ [])
+    ∷ call (alt (0 ∷ 1 ∷ [])) [] 0 6 []
     ∷ call (shape 1 (0 ∷ []) 1 0 2 (0 ∷ [])) (1 ∷ []) 0 0 (6 ∷ 0 ∷ [])
     ∷ call (shape 1 (0 ∷ []) 1 0 0 (2 ∷ [])) [] 0 6 (6 ∷ 0 ∷ [])
     ∷ []
@@ -86,13 +89,28 @@ unfolding answered?
 refused c m = equal-test (answer-of c) (c .answer) .0 (all-at answered? calls-computed m)
 
 -- the list has a call for each refusal that the judge gives, so that none of its promises is empty
-pub every-refusal : (n : ℕ) → Mem n (2 ∷ 4 ∷ 5 ∷ 6 ∷ 7 ∷ 8 ∷ 9 ∷ 10 ∷ []) → (c : Call) × Mem c calls × T (equal? (take 1 (answer-of c)) (n ∷ []))
+pub every-refusal : (n : ℕ) → Mem n (2 ∷ 4 ∷ 6 ∷ 7 ∷ 8 ∷ 9 ∷ 10 ∷ []) → (c : Call) × Mem c calls × T (equal? (take 1 (answer-of c)) (n ∷ []))
 every-refusal n m =
     let x = any-at (λ c. equal? (take 1 (c .answer)) (n ∷ [])) calls (all-at (λ n. any (λ c. equal? (take 1 (c .answer)) (n ∷ [])) calls) met m) in
     (x .0, x .1, subst (λ l. T (equal? (take 1 l) (n ∷ []))) (sym (refused (x .0) (x .1))) (x .2))
   where
-    met : T (all (λ n. any (λ c. equal? (take 1 (c .answer)) (n ∷ [])) calls) (2 ∷ 4 ∷ 5 ∷ 6 ∷ 7 ∷ 8 ∷ 9 ∷ 10 ∷ []))
+    met : T (all (λ n. any (λ c. equal? (take 1 (c .answer)) (n ∷ [])) calls) (2 ∷ 4 ∷ 6 ∷ 7 ∷ 8 ∷ 9 ∷ 10 ∷ []))
     met = unfold calls call shape in tt
+
+-- "Symmetry is dropped, so 5 never occurs": in no call, since what refuses a call is one of these
+pub five-unused : (r : Refusal) → refusal-number r ≢ 5
+five-unused ShortFile e = omega arith
+five-unused OutOfRange e = omega arith
+five-unused Distance e = omega arith
+five-unused MaskBit e = omega arith
+five-unused StateBit e = omega arith
+five-unused LongLog e = omega arith
+five-unused (BadLetter i) e = omega arith
+five-unused ShortBuffer e = omega arith
+five-unused FullTable e = omega arith
+five-unused (BadText i) e = omega arith
+five-unused DeepText e = omega arith
+five-unused LongText e = omega arith
 
 -- calls that are not refused get both verdicts: M3 none, M2 an order
 pub both-verdicts : (told (judge-refusal (alt ab) (1 ∷ 0 ∷ 1 ∷ []) 3 36) ≡ []) × (accepted-order (independent ab) (λ a. a) (automaton (alt ab)) (1 ∷ 0 ∷ 1 ∷ []) ≡ none)
@@ -128,7 +146,7 @@ compared c = told-same (same-refusal (c .k) (c .masks) (c .first) (c .second)) (
 pair : List ℕ → List ℕ → List ℕ → List ℕ → Pair
 pair masks v w a = record { k = 2; masks = masks; first = v; second = w; answer = a }
 
--- ab and abb differ in the count of b alone; the first log is checked before the second
+-- ab and abb differ in the count of b alone; ab and ba are not the same where they may be exchanged one way only; the first log is checked before the second
 pub pairs : List Pair
 unfolding pair
 pairs =
@@ -138,7 +156,10 @@ pairs =
     ∷ pair ab [] [] (1 ∷ [])
     ∷ pair (0 ∷ []) (2 ∷ []) (2 ∷ []) (2 ∷ 0 ∷ 0 ∷ [])
     ∷ pair (1 ∷ 0 ∷ []) (2 ∷ []) (2 ∷ []) (4 ∷ 0 ∷ 0 ∷ [])
-    ∷ pair (2 ∷ 0 ∷ []) (2 ∷ []) (2 ∷ []) (5 ∷ 0 ∷ 0 ∷ [])
+    ∷ pair (2 ∷ 0 ∷ []) (2 ∷ []) (2 ∷ []) (8 ∷ 0 ∷ 1 ∷ [])
+    ∷ pair (2 ∷ 0 ∷ []) (0 ∷ 1 ∷ []) (1 ∷ 0 ∷ []) (0 ∷ [])
+    ∷ pair (0 ∷ 1 ∷ []) (0 ∷ 1 ∷ []) (1 ∷ 0 ∷ []) (0 ∷ [])
+    ∷ pair (0 ∷ 1 ∷ []) (1 ∷ 0 ∷ []) (1 ∷ 0 ∷ []) (1 ∷ [])
     ∷ pair ab (1 ∷ 2 ∷ []) (replicate 256 0) (8 ∷ 1 ∷ 1 ∷ [])
     ∷ pair ab (replicate 256 2) (2 ∷ []) (7 ∷ 0 ∷ 1 ∷ [])
     ∷ pair ab (1 ∷ []) (replicate 256 0) (7 ∷ 0 ∷ 2 ∷ [])

@@ -16,7 +16,7 @@ use Rattle.profile.specs.Tables.{Holds, Layout, count-field, layout, pac
 pub same-back : (may : ℕ → ℕ → Bool) (v w : List ℕ) → Same may v w → Reachable may w v
 same-back may v w s = s .1
 
--- "whenever an event is marked, every earlier event with … a dependent letter is marked too"
+-- "an earlier event must be marked unless its letter may be moved past by the marked one"
 pub marked-too : {may : ℕ → ℕ → Bool} {letter : ℕ → ℕ} {w : List ℕ} {c : ℕ → ℕ} → IsPrefix may letter w c → (u v x : List ℕ) (a b : ℕ)
     → w ≡ u ++ (a ∷ (v ++ (b ∷ x))) → count letter (u ++ (a ∷ v)) (letter b) < c (letter b) → T (not (may a b)) → count letter u (letter a) < c (letter a)
 marked-too p u v x a b e m d = p .closed u v x a b e m d

@@ -10,7 +10,7 @@ use lib.Dec.{T}
 use Rattle.profile.specs.Lists.{Mem}
 use Rattle.profile.specs.Prefixes.{at}
 use Rattle.profile.specs.Source.{Congruent, cong-append, cong-pair, cong-refl, cong-sym, cong-trans}
-use Rattle.profile.specs.Traces.{Reachable, exchange, insertions, itself, orders}
+use Rattle.profile.specs.Traces.{Reachable, Symmetric, exchange, insertions, itself, orders}
 use Rattle.profile.proofs.Lists.{flat-map-at, flat-map-of, is-true}
 
 -- Pick may w a r: the event a may be brought to the front of w, and r is what is left
@@ -48,7 +48,7 @@ module _ (may : ℕ → ℕ → Bool) where
       subst (Reachable may (w ++ x)) (sym (append-assoc u (b ∷ a ∷ v) x))
       (exchange u a b (v ++ x) ok (subst (Reachable may (w ++ x)) (append-assoc u (a ∷ b ∷ v) x) (reach-after x q)))
 
-  pub reach-sym : ((a b : ℕ) → T (may a b) → T (may b a)) → {w v : List ℕ} → Reachable may w v → Reachable may v w
+  pub reach-sym : Symmetric may → {w v : List ℕ} → Reachable may w v → Reachable may v w
   reach-sym s itself = itself
   reach-sym s (exchange u a b v ok q) = reach-trans (exchange u b a v (s a b ok) itself) (reach-sym s q)
 
@@ -159,7 +159,7 @@ module _ (may : ℕ → ℕ → Bool) where
   cong-of-reach itself = cong-refl _
   cong-of-reach (exchange u a b v ok q) = cong-trans (cong-of-reach q) (cong-append (cong-refl u) (cong-append (cong-pair a b ok) (cong-refl v)))
 
-  pub reach-of-cong : ((a b : ℕ) → T (may a b) → T (may b a)) → {w v : List ℕ} → Congruent may w v → Reachable may w v
+  pub reach-of-cong : Symmetric may → {w v : List ℕ} → Congruent may w v → Reachable may w v
   reach-of-cong s (cong-pair a b ok) = exchange [] a b [] ok itself
   reach-of-cong s (cong-refl u) = itself
   reach-of-cong s (cong-sym c) = reach-sym s (reach-of-cong s c)

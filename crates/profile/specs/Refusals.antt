@@ -1,5 +1,5 @@
--- Document 01, "Refused because of the input" and "… of the state of lent buffers": the ten refusals, the condition of each, and the lowest that applies.
-use mathlib.Core.Bool.{Bool, true, false, not, _&&_, _||_}
+-- Document 01, "Refused because of the input" and "… of the state of lent buffers": the refusals, the condition of each, and the lowest that applies.
+use mathlib.Core.Bool.{Bool, true, false, not, _||_}
 use mathlib.Core.List.{List, [], _∷_, _++_, map}
 use mathlib.Core.Option.{Option, none, some}
 use Prim.Native.Nat.{ℕ, _+_, _*_, _^_}
@@ -13,15 +13,14 @@ use Rattle.profile.specs.Tables.{capacity, layout}
 use Rattle.profile.specs.declared.Check.{Check}
 use Rattle.profile.specs.declared.Check.the-variants.{Good, Bad}
 use Rattle.profile.specs.declared.Refusal.{Refusal}
-use Rattle.profile.specs.declared.Refusal.the-variants.{ShortFile, OutOfRange, Distance, MaskBit, Asymmetric, StateBit, LongLog, BadLetter, ShortBuffer, FullTable, BadText, DeepText, LongText}
+use Rattle.profile.specs.declared.Refusal.the-variants.{ShortFile, OutOfRange, Distance, MaskBit, StateBit, LongLog, BadLetter, ShortBuffer, FullTable, BadText, DeepText, LongText}
 
--- "A refusal gives its number …"
+-- "A refusal gives its number …"; "Symmetry is dropped, so 5 never occurs": no refusal has it
 abbrev pub refusal-number : Refusal → ℕ
 refusal-number ShortFile = 1
 refusal-number OutOfRange = 2
 refusal-number Distance = 3
 refusal-number MaskBit = 4
-refusal-number Asymmetric = 5
 refusal-number StateBit = 6
 refusal-number LongLog = 7
 refusal-number (BadLetter i) = 8
@@ -37,7 +36,6 @@ refusal-place ShortFile = 0
 refusal-place OutOfRange = 0
 refusal-place Distance = 0
 refusal-place MaskBit = 0
-refusal-place Asymmetric = 0
 refusal-place StateBit = 0
 refusal-place LongLog = 0
 refusal-place (BadLetter i) = i
@@ -63,10 +61,6 @@ profile-out-of-range p =
 -- 4: "A mask with a bit from k on, or its own bit"
 abbrev pub mask-bit : ℕ → List ℕ → Bool
 mask-bit k masks = any (λ i. bit-from k (getD masks i 0) || independent masks i i) (below (length masks))
-
--- 5: "Masks not symmetric"
-abbrev pub asymmetric : List ℕ → Bool
-asymmetric masks = any (λ i. any (λ j. independent masks i j && not (independent masks j i)) (below (length masks))) (below (length masks))
 
 -- 6: "A move or the final set with a bit from s on"
 abbrev pub state-bit : Profile → Bool
@@ -104,11 +98,11 @@ checked (Bad r) = some r
 
 -- the conditions of a relation, of a profile and of a log, by rising number
 abbrev pub relation-refusals : ℕ → List ℕ → List (Bool × Refusal)
-relation-refusals k masks = (letters-out-of-range k masks, OutOfRange) ∷ (mask-bit k masks, MaskBit) ∷ (asymmetric masks, Asymmetric) ∷ []
+relation-refusals k masks = (letters-out-of-range k masks, OutOfRange) ∷ (mask-bit k masks, MaskBit) ∷ []
 
 abbrev pub profile-refusals : Profile → List (Bool × Refusal)
 profile-refusals p =
-    (profile-out-of-range p, OutOfRange) ∷ (mask-bit (p .k) (p .masks), MaskBit) ∷ (asymmetric (p .masks), Asymmetric) ∷ (state-bit p, StateBit) ∷ []
+    (profile-out-of-range p, OutOfRange) ∷ (mask-bit (p .k) (p .masks), MaskBit) ∷ (state-bit p, StateBit) ∷ []
 
 abbrev pub log-refusals : ℕ → List ℕ → List (Bool × Refusal)
 log-refusals k w = (long-log w, LongLog) ∷ (bad-letter k w, BadLetter (bad-place k w)) ∷ []

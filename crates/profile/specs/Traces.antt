@@ -16,9 +16,13 @@ letters-below letter k w = all (λ a. ltb (letter a) k) w
 abbrev pub bit : ℕ → ℕ → Bool
 bit S j = eqb (S / 2 ^ j % 2) 1
 
--- "letters i and j are independent exactly when bit j of mask i is set"
+-- "Bit j of mask i now means: i directly followed by j may become j followed by i": from Paper 4 on the relation is one-way, and the word is kept
 abbrev pub independent : List ℕ → ℕ → ℕ → Bool
 independent masks i j = bit (getD masks i 0) j
+
+-- "where the masks are symmetric": what may be exchanged may be exchanged the other way round
+abbrev pub Symmetric : (ℕ → ℕ → Bool) → Type 0
+Symmetric may = (a b : ℕ) → T (may a b) → T (may b a)
 
 -- "exchange", "reachable": v is reachable from w by any number of exchanges, zero included
 pub data Reachable (may : ℕ → ℕ → Bool) (w : List ℕ) : List ℕ → Type 0 where

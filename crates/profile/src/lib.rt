@@ -14,7 +14,6 @@ pub enum Refusal {
     OutOfRange,
     Distance,
     MaskBit,
-    Asymmetric,
     StateBit,
     LongLog,
     BadLetter(usize),

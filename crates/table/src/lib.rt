@@ -68,7 +68,7 @@ fn fill(
     }
 }
 
-// The record of every prefix of the log, by rising total; refused by 2, 4 to 8 and 10.
+// The record of every prefix of the log, by rising total; refused by 2, 4, 6 to 8 and 10.
 pub fn build(shape: Shape, masks: &[u16], moves: &[u32], log: &[u8], table: &mut [u32]) -> Built
     ensures { λ r. ⌜ Promise (profile-of shape (now (masks .entry)) (now (moves .entry))) (now (log .entry)) (now (table .entry)) (now (table .exit)) r ⌝ }
 {

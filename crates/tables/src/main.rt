@@ -46,8 +46,8 @@ fn show(shape: Shape, masks: &[u16], moves: &[u32], log: &[u8]) {
     say_table(&numbers);
 }
 
-// Courses ab, abab and so on, and the empty one; a and b independent.
-fn alt(log: &[u8]) {
+// Courses ab, abab and so on, and the empty one.
+fn alt_by(masks: &[u16], log: &[u8]) {
     show(
         Shape {
             k: 2,
@@ -55,10 +55,15 @@ fn alt(log: &[u8]) {
             start: 0,
             finals: 1,
         },
-        &[2u16, 1],
+        masks,
         &[2u32, 0, 0, 1],
         log,
     );
+}
+
+// a and b independent.
+fn alt(log: &[u8]) {
+    alt_by(&[2u16, 1], log);
 }
 
 // Every log is accepted: one state.
@@ -114,6 +119,8 @@ fn main() {
     alt(&empty);
     alt(&[1u8, 1, 0, 0]);
     alt(&[1u8, 0]);
+    alt_by(&[0u16, 1], &[1u8, 0]);
+    alt_by(&[2u16, 0], &[1u8, 0]);
     free(4, &[2u16, 1, 0, 0], &[0u8, 1, 2, 1, 0, 3]);
     free(3, &[2u16, 5, 2], &[2u8, 0, 1]);
     sixteen_letters();

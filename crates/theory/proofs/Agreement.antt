@@ -16,7 +16,7 @@ use Rattle.profile.specs.Lists.{Mem, NoDup, below}
 use Rattle.profile.specs.Orders.{Same, accepted-order, first-order}
 use Rattle.profile.specs.Prefixes.{IsPrefix, at, count, forward, marked, prefix-count, prefixes}
 use Rattle.profile.specs.Source.{Congruent, InLanguage, InTrace, TracePrefix, cong-sym}
-use Rattle.profile.specs.Traces.{Reachable, bit, letters-below}
+use Rattle.profile.specs.Traces.{Reachable, Symmetric, bit, letters-below}
 use Rattle.theory.proofs.Automata.{Lawful, forward-at, forward-of}
 use Rattle.theory.proofs.Counting.{at-map, count-above, length-range, prefix-count-of, prefixes-at, prefixes-nodup, prefixes-of}
 use Rattle.theory.proofs.Earliest.{first-same, same-first}
@@ -32,7 +32,7 @@ pub record Representatives (may : ℕ → ℕ → Bool) (w : List ℕ) (l : List
   pub apart : (x y : List ℕ) → Mem x l → Mem y l → Congruent may x y → x ≡ y
   pub every : (x : List ℕ) → TracePrefix may w x → (y : List ℕ) × Mem y l × Congruent may x y
 
-module _ (may : ℕ → ℕ → Bool) (letter : ℕ → ℕ) (symmetric : (a b : ℕ) → T (may a b) → T (may b a)) where
+module _ (may : ℕ → ℕ → Bool) (letter : ℕ → ℕ) (symmetric : Symmetric may) where
   -- ---- traces
 
   -- the logs reachable from w are the words of [w]

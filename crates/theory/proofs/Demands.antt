@@ -3,12 +3,13 @@ use mathlib.Core.Path.{_≡_, refl, sym, _∙_, ap, subst}
 use mathlib.Core.Logic.{_↔_, _≢_}
 use mathlib.Core.List.{List, [], _∷_, map}
 use mathlib.Core.Option.{Option, none, some}
-use Prim.Native.Nat.{ℕ}
+use Prim.Native.Nat.{ℕ, _≤_}
 use Rattle.profile.specs.Traces.{Reachable, independent}
 use Rattle.profile.specs.Automata.{Accepted, Profile, automaton}
 use Rattle.profile.specs.Prefixes.{looks, prefix-count}
-use Rattle.profile.specs.Orders.{Earlier, Same, accepted-order}
-use Rattle.theory.proofs.Comparison.{accepted-order-same, prefix-count-same}
+use Rattle.profile.specs.Orders.{Earlier, NoLater, Same, accepted-order}
+use Rattle.theory.proofs.Comparison.{accepted-order-reach, accepted-order-same, prefix-count-same}
+use Rattle.theory.proofs.Counting.{prefix-count-reach}
 use Rattle.theory.proofs.Looks.{looks-same}
 use Rattle.theory.proofs.Judgement.{accepted-order-at, accepted-order-not}
 use Rattle.theory.proofs.Profiles.{distinct, lawful}
@@ -63,3 +64,12 @@ same-answer p v w a b s = (
   prefix-count-same (λ a. a) (automaton p) (independent (p .masks)) (s .0) (s .1) (distinct (p .masks) (a .profile .relation .own)) (p .k) (a .log .letters) (b .log .letters),
   looks-same (λ a. a) (automaton p) (independent (p .masks)) (s .0) (s .1) (distinct (p .masks) (a .profile .relation .own)) (p .k) (a .log .letters) (b .log .letters),
 )
+
+-- "If log v is reachable from log w and v has an accepted order, then w has one that is no later in letter order"
+pub order-reach : (p : Profile) (v w : List ℕ) {u : List ℕ} → Reachable (independent (p .masks)) w v → order-of p v ≡ some u
+    → (x : List ℕ) × (order-of p w ≡ some x) × NoLater x u
+order-reach p v w r e = accepted-order-reach (λ a. a) (automaton p) (independent (p .masks)) w v r e
+
+-- a log has at least as many prefixes as each log that is reachable from it
+pub prefixes-reach : (p : Profile) (v w : List ℕ) {n : ℕ} → Admitted p v n → Reachable (independent (p .masks)) w v → prefixes-of p v ≤ prefixes-of p w
+prefixes-reach p v w a r = prefix-count-reach (independent (p .masks)) (λ a. a) (p .k) (distinct (p .masks) (a .profile .relation .own)) w v (a .log .letters) r

@@ -10,7 +10,7 @@ use lib.Dec.{T, T-not, eqb, ltb, eqb→eq, eqb-refl, ltb→lt, nltb→le}
 use Rattle.profile.specs.Lists.{Mem, filter}
 use Rattle.profile.specs.Orders.{NoLater, agrees, earliest, ends, first-order, least, no-later?, smaller}
 use Rattle.profile.specs.Prefixes.{at}
-use Rattle.profile.specs.Traces.{Reachable, orders}
+use Rattle.profile.specs.Traces.{Reachable, Symmetric, orders}
 use Rattle.profile.proofs.Lists.{either, filter-at, filter-none, filter-of, fst-of, is-false, is-true, lt-or-le, snd-of, test}
 use Rattle.theory.proofs.Prefixes.{pick-same}
 use Rattle.profile.proofs.Traces.{Order, Pick, Takes, done, mem-of-order, next, no-pick, order-of-mem, order-of-reach, order-trans, reach-of-order, reach-sym, reach-trans, takes-refl}
@@ -179,8 +179,8 @@ module _ (may : ℕ → ℕ → Bool) where
       (mem-of-order may v (order-trans may (order-of-reach may q) (order-of-mem may w (k .0))))
       (λ u m. k .1 u (mem-of-order may w (order-trans may (order-of-reach may p) (order-of-mem may v m)))))
 
-  -- and the other way round, where exchanges go both ways
-  pub first-same : ((a b : ℕ) → T (may a b) → T (may b a)) → {w v : List ℕ} → first-order may w ≡ first-order may v → Reachable may w v × Reachable may v w
+  -- and the other way round, where the masks are symmetric
+  pub first-same : Symmetric may → {w v : List ℕ} → first-order may w ≡ first-order may v → Reachable may w v × Reachable may v w
   first-same s {w} {v} e =
       let n = first-of w in
       let p = reach-of-order may (order-of-mem may w (earliest-at (orders may w) (n .1) .0)) in

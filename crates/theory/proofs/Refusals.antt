@@ -14,11 +14,11 @@ use lib.ListN.{length, getD, replicate, List·getD-eq-default}
 use Rattle.profile.specs.Lists.{Mem, Rising, all, any, below}
 use Rattle.profile.specs.Traces.{bit, independent, letters-below}
 use Rattle.profile.specs.Automata.{Profile}
-use Rattle.profile.specs.Refusals.{admission-refusals, asymmetric, bit-from, first-order-refusals, judge-refusal, judge-refusals, letters-out-of-range, log-refusals, lowest, mask-bit, profile-refusals, refusal-number, relation-refusals, short-buffer}
+use Rattle.profile.specs.Refusals.{admission-refusals, bit-from, first-order-refusals, judge-refusal, judge-refusals, letters-out-of-range, log-refusals, lowest, mask-bit, profile-refusals, refusal-number, relation-refusals, short-buffer}
 use Rattle.profile.specs.declared.Refusal.{Refusal}
 use Rattle.profile.specs.declared.Refusal.the-variants.{FullTable, ShortBuffer}
 use Rattle.profile.proofs.Cases.{free}
-use Rattle.profile.proofs.Lists.{all-at, all-of, any-of, below-of, both, fst-of, is-false, lt-or-le, or-left, or-right, snd-of, test}
+use Rattle.profile.proofs.Lists.{all-at, all-of, any-of, below-of, fst-of, is-false, lt-or-le, or-left, or-right, snd-of, test}
 use Rattle.profile.proofs.Sets.{bit-below, not-in-none, some-bit}
 
 -- ---- the lowest
@@ -112,14 +112,13 @@ bit-from-at n S = (
 none-of : {A : Type 0} (p : A → Bool) {a : A} {l : List A} → any p l ≡ false → Mem a l → T (p a) → ⊥
 none-of p e m t = rw e at (any-of p m t)
 
--- masks of which 2, 4 and 5 hold of none: independent letters are below k, different, and independent the other way round
+-- masks of which 2 and 4 hold of none: letters that may be exchanged are below k and different
 pub record Relation (k : ℕ) (masks : List ℕ) : Type 0 where
   pub least : 1 ≤ k
   pub most : k ≤ 16
   pub long : length masks ≡ k
   pub inside : (i j : ℕ) → T (independent masks i j) → (i < k) × (j < k)
   pub own : (i : ℕ) → T (independent masks i i) → ⊥
-  pub symmetric : (i j : ℕ) → T (independent masks i j) → T (independent masks j i)
 
 -- neither test holds
 neither : (x y : Bool) → (x || y) ≡ false → (x ≡ false) × (y ≡ false)
@@ -132,27 +131,17 @@ letters-in-range k masks e =
     let m = neither (ltb 16 k) (not (eqb (length masks) k)) (n .1) in
     (ltb-false k 1 (n .0), ltb-false 16 k (m .0), eqb-true (length masks) k (not-false (eqb (length masks) k) (m .1)))
 
-relation-of : (k : ℕ) (masks : List ℕ) → letters-out-of-range k masks ≡ false → mask-bit k masks ≡ false → asymmetric masks ≡ false → Relation k masks
-relation-of k masks e₂ e₄ e₅ = let n = letters-in-range k masks e₂ in record {
+relation-of : (k : ℕ) (masks : List ℕ) → letters-out-of-range k masks ≡ false → mask-bit k masks ≡ false → Relation k masks
+relation-of k masks e₂ e₄ = let n = letters-in-range k masks e₂ in record {
   least = n .0;
   most = n .1;
   long = n .2;
   inside = λ i j t. let i< = place i j t in (rw (n .2) at i<, second i j t i<);
   own = λ i t. none-of bad e₄ (below-of (length masks) i (place i i t)) (or-right (bit-from k (getD masks i 0)) (independent masks i i) t);
-  symmetric = λ i j t. ⊎-elim (λ u. u)
-      (λ u.
-      let i< = place i j t in
-      let j< : j < length masks = omega (arith, second i j t i<, n .2) in
-      absurd (none-of (λ i. any (one-way i) (below (length masks))) e₅ (below-of (length masks) i i<)
-      (any-of (one-way i) (below-of (length masks) j j<) (both (independent masks i j) (not (independent masks j i)) t u))))
-      (test (independent masks j i));
 }
   where
     bad : ℕ → Bool
     bad i = bit-from k (getD masks i 0) || independent masks i i
-
-    one-way : ℕ → ℕ → Bool
-    one-way i j = independent masks i j && not (independent masks j i)
 
     place : (i j : ℕ) → T (independent masks i j) → i < length masks
     place i j t = ⊎-elim (λ h. h) (λ h. absurd (not-in-none j (rw (List·getD-eq-default masks 0 {n = i} h) at t))) (lt-or-le i (length masks))
@@ -166,9 +155,9 @@ relation-of k masks e₂ e₄ e₅ = let n = letters-in-range k masks e₂ in re
 pub relation-at : (k : ℕ) (masks : List ℕ) → lowest (relation-refusals k masks) ≡ none → Relation k masks
 relation-at k masks e =
     let h = lowest-none (relation-refusals k masks) .0 e in
-    relation-of k masks (h _ (List·Memᴰ·head refl)) (h _ (List·Memᴰ·tail (List·Memᴰ·head refl))) (h _ (List·Memᴰ·tail (List·Memᴰ·tail (List·Memᴰ·head refl))))
+    relation-of k masks (h _ (List·Memᴰ·head refl)) (h _ (List·Memᴰ·tail (List·Memᴰ·head refl)))
 
--- a profile of which 2, 4, 5 and 6 hold of none
+-- a profile of which 2, 4 and 6 hold of none
 pub record GoodProfile (p : Profile) : Type 0 where
   pub relation : Relation (p .k) (p .masks)
   pub states : (1 ≤ p .s) × (p .s ≤ 32)
@@ -185,9 +174,9 @@ profile-at p e =
     let n₂ = neither (ltb (p .s) 1) (ltb 32 (p .s) || (leb (p .s) (p .start) || not lens)) (n₁ .1) in
     let n₃ = neither (ltb 32 (p .s)) (leb (p .s) (p .start) || not lens) (n₂ .1) in
     let n₄ = neither (leb (p .s) (p .start)) (not lens) (n₃ .1) in
-    let f = neither (bit-from (p .s) (p .finals)) (any (bit-from (p .s)) (p .moves)) (h _ (List·Memᴰ·tail (List·Memᴰ·tail (List·Memᴰ·tail (List·Memᴰ·head refl))))) in
+    let f = neither (bit-from (p .s) (p .finals)) (any (bit-from (p .s)) (p .moves)) (h _ (List·Memᴰ·tail (List·Memᴰ·tail (List·Memᴰ·head refl)))) in
     record {
-      relation = relation-of (p .k) (p .masks) (n₁ .0) (h _ (List·Memᴰ·tail (List·Memᴰ·head refl))) (h _ (List·Memᴰ·tail (List·Memᴰ·tail (List·Memᴰ·head refl))));
+      relation = relation-of (p .k) (p .masks) (n₁ .0) (h _ (List·Memᴰ·tail (List·Memᴰ·head refl)));
       states = (ltb-false (p .s) 1 (n₂ .0), ltb-false 32 (p .s) (n₃ .0));
       starts = leb-false (p .s) (p .start) (n₄ .0);
       long = eqb-true (length (p .moves)) (p .s * p .k) (not-false lens (n₄ .1));

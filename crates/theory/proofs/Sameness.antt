@@ -9,12 +9,12 @@ use native.Mathlib.Omega.{arith}
 use lib.Dec.{T, T-not, not-T, eqb, ltb, eqb→eq, eqb-refl, ltb→lt}
 use Rattle.profile.specs.Lists.{Mem, all, below, equal?, filter}
 use Rattle.profile.specs.Orders.{Same, mutual?, project, same?}
-use Rattle.profile.specs.Traces.{Reachable, exchange, insertions, itself, letters-below}
+use Rattle.profile.specs.Traces.{Reachable, Symmetric, exchange, insertions, itself, letters-below}
 use Rattle.profile.proofs.Lists.{all-at, all-of, below-of, both, either, equal-test, filter-agree, filter-append, filter-no, filter-none, filter-yes, fst-of, is-false, lt-or-le, or-left, or-right, snd-of, test}
 use Rattle.profile.proofs.Traces.{Order, Pick, done, first, insert-cases, inserts-of, later, next, order-of-reach, reach-cons, reach-of-pick, reach-sym, reach-trans}
 
 -- R is symmetric and relates no letter to itself
-module _ (R : ℕ → ℕ → Bool) (sy : (a b : ℕ) → T (R a b) → T (R b a)) (ir : (a : ℕ) → T (R a a) → ⊥) where
+module _ (R : ℕ → ℕ → Bool) (sy : Symmetric R) (ir : (a : ℕ) → T (R a a) → ⊥) where
   in? : ℕ → ℕ → ℕ → Bool
   in? x y e = eqb e x || eqb e y
 

@@ -29,13 +29,28 @@ pub fn below(seed: usize, i: usize, n: usize) -> usize {
     rest(seed_of(seed, i) >> 20, n)
 }
 
-// Bit j of the mask of letter i: the same for the pair the other way round, set in `part` of 8 cases.
-fn related(seed: usize, part: usize, i: usize, j: usize) -> u16 {
-    if i == j {
-        return 0;
+// The number by which it is drawn whether i before j may be exchanged; that of j before i too where the masks are to be symmetric.
+fn pair_of(symmetric: bool, i: usize, j: usize) -> usize {
+    if symmetric & (j < i) {
+        (j << 4) | i
+    } else {
+        (i << 4) | j
     }
-    let pair = if i < j { (i << 4) | j } else { (j << 4) | i };
-    if below(seed, pair, 8) < part {
+}
+
+// Letter i before j may be exchanged, in `part` of 8 cases. Masks are symmetric in one of four seeds; in the others each direction of a pair is drawn by
+// itself, and of letters 0 and 1 one direction is set and the other is not.
+fn may_pass(seed: usize, part: usize, i: usize, j: usize) -> bool {
+    let symmetric = below(seed, 998, 4) == 0;
+    if !symmetric & (i < 2) & (j < 2) {
+        return below(seed, 997, 2) == i;
+    }
+    below(seed, pair_of(symmetric, i, j), 8) < part
+}
+
+// Bit j of the mask of letter i.
+fn related(seed: usize, part: usize, i: usize, j: usize) -> u16 {
+    if (i != j) & may_pass(seed, part, i, j) {
         one16(j)
     } else {
         0
@@ -50,7 +65,7 @@ fn mask_of(seed: usize, k: usize, part: usize, i: usize) -> u16 {
     mask
 }
 
-// Masks of k letters, of which about `part` of 8 pairs are independent.
+// Masks of k letters, of which about `part` of 8 pairs may be exchanged.
 pub fn put_masks(seed: usize, k: usize, part: usize, masks: &mut [u16]) {
     for i in 0..k {
         put16(masks, i, mask_of(seed, k, part, i));

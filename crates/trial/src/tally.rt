@@ -59,6 +59,11 @@ pub const EVENT: usize = 23;
 
 pub const EDGE: usize = 24;
 
+// Logs under masks that are not symmetric, and pairs of logs of which only one is reachable from the other.
+pub const ONE_WAY_LOGS: usize = 25;
+
+pub const ONE_WAY_PAIRS: usize = 26;
+
 // Refusals that came as expected: eleven counters for each call.
 const REFUSED: usize = 32;
 

@@ -87,21 +87,6 @@ fn bad_mask(file: &[u8]) -> bool {
     false
 }
 
-// 5, of letters i and j.
-fn one_way(file: &[u8], i: usize, j: usize) -> bool {
-    bit(mask(file, i), j) & !bit(mask(file, j), i)
-}
-
-fn asymmetric(file: &[u8]) -> bool {
-    let k = field(file, 0);
-    for p in 0..times(k, k) {
-        if one_way(file, trial::cells::quotient(p, k), trial::cells::rest(p, k)) {
-            return true;
-        }
-    }
-    false
-}
-
 // 6.
 fn bad_set(file: &[u8]) -> bool {
     let s = field(file, 1);
@@ -126,13 +111,10 @@ fn bad_place(file: &[u8]) -> usize {
     n
 }
 
-// 4 to 8; 0 is none.
+// 4, 6 and 8; 0 is none.
 fn content_refusal(file: &[u8]) -> usize {
     if bad_mask(file) {
         return 4;
-    }
-    if asymmetric(file) {
-        return 5;
     }
     if bad_set(file) {
         return 6;

@@ -3,12 +3,14 @@ use crate::judging::compare_build;
 use crate::judging::compare_judge;
 use crate::judging::refuse_build;
 use crate::judging::refuse_judge;
+use crate::listing::one_way;
 use crate::orders::compare_orders;
 use crate::prefixes::prefix_count;
 use profile::Shape;
 use trial::cells::minus;
 use trial::cells::plus;
 use trial::records::record_at;
+use trial::tally;
 use trial::tally::Tally;
 
 // Build and judge, with a table of `size` numbers, which is enough or not.
@@ -38,6 +40,15 @@ fn refuse_short(shape: Shape, masks: &[u16], moves: &[u32], log: &[u8], t: Tally
     refuse_judge(shape, masks, moves, log, 9, minus(log.len(), 1), 800, t)
 }
 
+// Counts a log under one-way masks.
+fn count_masks(masks: &[u16], t: Tally) -> Tally {
+    if one_way(masks) {
+        tally::count(t, tally::ONE_WAY_LOGS)
+    } else {
+        t
+    }
+}
+
 // Compares all calls on one log; `extra` varies how much longer or shorter than needed the lent buffers are.
 pub fn compare_log(
     shape: Shape,
@@ -54,5 +65,5 @@ pub fn compare_log(
     let built = compare_table(shape, masks, moves, log, room, long, t);
     let full = compare_table(shape, masks, moves, log, room, short, built);
     let refused = refuse_short(shape, masks, moves, log, full);
-    compare_orders(shape.k, masks, log, room, refused)
+    compare_orders(shape.k, masks, log, room, count_masks(masks, refused))
 }

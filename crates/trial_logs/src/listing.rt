@@ -1,5 +1,5 @@
-// The listing of the logs reachable from a log: exchanges of neighbouring independent letters, tried on every listed log until nothing new
-// appears. A listed log is a row of eight bytes; the commutation test is this crate's own.
+// The listing of the logs reachable from a log: exchanges of neighbouring letters, tried on every listed log until nothing new appears; and of the logs
+// from which it is reachable. A listed log is a row of eight bytes; the mask test is this crate's own.
 use trial::cells::at8;
 use trial::cells::at16;
 use trial::cells::bit;
@@ -7,14 +7,17 @@ use trial::cells::byte;
 use trial::cells::copy8;
 use trial::cells::equal8;
 use trial::cells::minus;
+use trial::cells::one16;
 use trial::cells::part8;
+use trial::cells::part16;
 use trial::cells::plus;
 use trial::cells::put8;
+use trial::cells::put16;
 
 // Rows of a listing, the last of which is left for an exchange that is tried.
 pub const MOST: usize = 2048;
 
-// Letters i and j are independent: bit j of mask i is set.
+// Letter i directly followed by j may become j followed by i: bit j of mask i is set.
 pub fn commute(masks: &[u16], i: usize, j: usize) -> bool {
     bit(at16(masks, i) as usize, j)
 }
@@ -111,6 +114,41 @@ pub fn list(masks: &[u16], log: &[u8], rows: &mut [u8]) -> usize {
     copy8(log, rows);
     let count = close_listing(masks, rows, log.len());
     if count < MOST { count } else { 0 }
+}
+
+// The mask of letter j with bit i set where bit j of mask i is.
+fn turned_mask(masks: &[u16], j: usize) -> u16 {
+    let mut mask = 0;
+    for i in 0..masks.len() {
+        if commute(masks, i, j) {
+            mask = mask | one16(i);
+        }
+    }
+    mask
+}
+
+// The masks turned round, by which exchanges are undone.
+fn turn_masks(masks: &[u16], turned: &mut [u16]) {
+    for j in 0..masks.len() {
+        put16(turned, j, turned_mask(masks, j));
+    }
+}
+
+// Some pair may be exchanged one way and not the other.
+pub fn one_way(masks: &[u16]) -> bool {
+    for j in 0..masks.len() {
+        if turned_mask(masks, j) != at16(masks, j) {
+            return true;
+        }
+    }
+    false
+}
+
+// Lists the logs from which the log is reachable.
+pub fn list_back(masks: &[u16], log: &[u8], rows: &mut [u8]) -> usize {
+    let mut turned = [0u16; 16];
+    turn_masks(masks, &mut turned);
+    list(part16(&turned, masks.len()), log, rows)
 }
 
 // Log a comes before log b: at the first place where they differ its letter is smaller.

@@ -1,6 +1,7 @@
 // Same and first order against the listing.
 use crate::listing::earliest;
 use crate::listing::list;
+use crate::listing::list_back;
 use crate::listing::listed;
 use crate::listing::row;
 use trial::answers::is_refusal;
@@ -16,13 +17,13 @@ use trial::cells::untouched8;
 use trial::tally;
 use trial::tally::Tally;
 
-// The second log is in the listing of the first.
-fn one_if_listed(rows: &[u8], count: usize, first: &[u8], second: &[u8]) -> usize {
-    if (first.len() == second.len()) & listed(rows, count, second) {
-        1
-    } else {
-        0
-    }
+// The second log is in a listing of the first.
+fn in_listing(rows: &[u8], count: usize, first: &[u8], second: &[u8]) -> bool {
+    (first.len() == second.len()) & listed(rows, count, second)
+}
+
+fn one_if(yes: bool) -> usize {
+    if yes { 1 } else { 0 }
 }
 
 // The comparison says the verdict.
@@ -35,35 +36,47 @@ fn compared_right(k: usize, masks: &[u16], first: &[u8], second: &[u8], verdict:
     )
 }
 
-// Compares two logs, both ways round; the rows are the listing of the first.
+// Compares two logs, both ways round: the same where the second is reachable from the first and the first from the second.
 fn compare_pair(
     k: usize,
     masks: &[u16],
-    rows: &[u8],
-    count: usize,
     first: &[u8],
     second: &[u8],
+    forth: bool,
+    back: bool,
     t: Tally,
 ) -> Tally {
-    let verdict = one_if_listed(rows, count, first, second);
+    let verdict = one_if(forth & back);
     let right = compared_right(k, masks, first, second, verdict)
         & compared_right(k, masks, second, first, verdict);
     let counted = tally::count(tally::expect(t, tally::SAME, right), tally::PAIRS);
-    tally::count_many(counted, tally::SAME_PAIRS, verdict)
+    let one_way = tally::count_many(counted, tally::ONE_WAY_PAIRS, one_if(forth != back));
+    tally::count_many(one_way, tally::SAME_PAIRS, verdict)
 }
 
-// Compares the log with each of the listed ones: all are the same.
+// Compares the log with each of those reachable from it; `back` has those from which it is reachable.
 fn compare_listed(
     k: usize,
     masks: &[u16],
     rows: &[u8],
     count: usize,
+    back: &[u8],
+    back_count: usize,
     log: &[u8],
     t: Tally,
 ) -> Tally {
     let mut u = t;
     for r in 0..count {
-        u = compare_pair(k, masks, rows, count, log, row(rows, r, log.len()), u);
+        let other = row(rows, r, log.len());
+        u = compare_pair(
+            k,
+            masks,
+            log,
+            other,
+            true,
+            listed(back, back_count, other),
+            u,
+        );
     }
     u
 }
@@ -99,24 +112,36 @@ fn refuse_first(k: usize, masks: &[u16], log: &[u8], t: Tally) -> Tally {
     tally::refused(t, tally::FIRST, right, tally::BY_FIRST, 9)
 }
 
-// Compares the first order of a log, and the log with all that are the same.
+// Compares the first order of a log, and the log with all that are reachable from it.
 pub fn compare_orders(k: usize, masks: &[u16], log: &[u8], room: usize, t: Tally) -> Tally {
     let mut rows = [0u8; 16384];
+    let mut back = [0u8; 16384];
     let n = log.len();
     let count = list(masks, log, &mut rows);
+    let back_count = list_back(masks, log, &mut back);
     let order = row(&rows, earliest(&rows, count, n), n);
     let first = compare_first(k, masks, log, order, room, t);
     refuse_first(
         k,
         masks,
         log,
-        compare_listed(k, masks, &rows, count, log, first),
+        compare_listed(k, masks, &rows, count, &back, back_count, log, first),
     )
 }
 
 // Compares a log with another one.
 pub fn compare_with(k: usize, masks: &[u16], log: &[u8], other: &[u8], t: Tally) -> Tally {
     let mut rows = [0u8; 16384];
+    let mut back = [0u8; 16384];
     let count = list(masks, log, &mut rows);
-    compare_pair(k, masks, &rows, count, log, other, t)
+    let back_count = list_back(masks, log, &mut back);
+    compare_pair(
+        k,
+        masks,
+        log,
+        other,
+        in_listing(&rows, count, log, other),
+        in_listing(&back, back_count, log, other),
+        t,
+    )
 }

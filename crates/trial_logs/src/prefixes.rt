@@ -1,5 +1,5 @@
-// Prefixes by the marking rule: "whenever an event is marked, every earlier event with the same letter or a dependent letter is marked too".
-// Marks are the bits of a number, a bit for each event. A set that keeps the rule has the first so-many occurrences of each letter.
+// Prefixes by the marking rule: whenever an event is marked, every earlier event with the same letter is, and "an earlier event must be marked unless its
+// letter may be moved past by the marked one". Marks are the bits of a number, a bit for each event. A set that keeps the rule has the first so-many occurrences of each letter.
 use crate::listing::commute;
 use trial::cells::at8;
 use trial::cells::bit;
@@ -19,7 +19,7 @@ fn occurrences(log: &[u8], end: usize, letter: usize) -> usize {
     sum
 }
 
-// Events i and j have the same letter or dependent letters.
+// Event j may not be moved ahead of the earlier event i: they have the same letter, or bit y of mask x is not set.
 fn held(masks: &[u16], log: &[u8], i: usize, j: usize) -> bool {
     let x = at8(log, i);
     let y = at8(log, j);

@@ -183,15 +183,15 @@ fn square_right(answer: Answer, buffer: &[u8], numbers: &[u32]) -> bool {
         & square_records(table_part(numbers))
 }
 
-// Alt on 127 times b and then 127 times a.
-fn square(t: Tally) -> Tally {
+// Alt on 127 times b and then 127 times a, where b may be moved past.
+fn square(masks: &[u16], t: Tally) -> Tally {
     let mut log = [0u8; 254];
     let mut buffer = [GUARD8; 264];
     let mut numbers = [GUARD32; 98320];
     put_run(&mut log, 0, 127, 1);
     let answer = judge_in(
         alt(),
-        &[2u16, 1],
+        masks,
         &[2u32, 0, 0, 1],
         &log,
         254,
@@ -219,30 +219,35 @@ fn compare_long(
     tally::refused_edge(t, right, tally::BY_SAME, number)
 }
 
-// 128 times b and then 127 times a, whose first order is 127 times a and then 128 times b; and 256 letters, which are refused.
-fn order_long(log: &[u8], first: &[u8], number: usize, t: Tally) -> Tally {
+// The first order of a log, or its refusal by the number.
+fn order_long(masks: &[u16], log: &[u8], first: &[u8], number: usize, t: Tally) -> Tally {
     let mut buffer = [GUARD8; 264];
-    let answer = first_order_in(2, &[2u16, 1], log, log.len(), &mut buffer);
+    let answer = first_order_in(2, masks, log, log.len(), &mut buffer);
     let right = is_refusal(answer, number, 0, 0) & line_order(number, &buffer, first);
     tally::refused_edge(t, right, tally::BY_FIRST, number)
 }
 
-// The two are the same where a and b are independent, and not where they are not, nor without the last letter.
+// The two are the same where a and b are independent both ways, and not where they are so one way or not at all, nor without the last letter.
 fn same_long(log: &[u8], first: &[u8], t: Tally) -> Tally {
     let masks = [2u16, 1];
     let same = compare_long(&masks, log, first, 0, 0, 0, 1, t);
-    let apart = compare_long(&[0u16, 0], log, first, 0, 0, 0, 0, same);
+    let one_way = compare_long(&[0u16, 1], log, first, 0, 0, 0, 0, same);
+    let apart = compare_long(&[0u16, 0], log, first, 0, 0, 0, 0, one_way);
     compare_long(&masks, log, part8(first, 0, 254), 0, 0, 0, 0, apart)
 }
 
+// 128 times b and then 127 times a, whose first order is 127 times a and then 128 times b where b may be moved past, and itself where only a may; and
+// 256 letters, which are refused.
 fn long_orders(t: Tally) -> Tally {
     let mut log = [0u8; 256];
     let mut first = [0u8; 255];
     put_run(&mut log, 0, 128, 1);
     put_run(&mut first, 127, 128, 1);
     let one = part8(&log, 0, 255);
-    let ordered = order_long(&log, &first, 7, order_long(one, &first, 0, t));
-    same_long(one, &first, ordered)
+    let both = order_long(&[2u16, 1], one, &first, 0, t);
+    let past = order_long(&[0u16, 1], one, &first, 0, both);
+    let stays = order_long(&[2u16, 0], one, one, 0, past);
+    same_long(one, &first, order_long(&[2u16, 1], &log, &first, 7, stays))
 }
 
 // 256 letters in the first log, in the second, or in both. A bad letter of the first goes before 256 letters of the second.
@@ -258,5 +263,6 @@ fn long_pairs(t: Tally) -> Tally {
 }
 
 pub fn long_logs(t: Tally) -> Tally {
-    long_pairs(long_orders(square(lines(t))))
+    let squares = square(&[0u16, 1], square(&[2u16, 1], lines(t)));
+    long_pairs(long_orders(squares))
 }

@@ -1,7 +1,8 @@
 // Every combination of the refusals that a call can give: the lowest is given, and every buffer stays.
 //
-// Bit i of a combination is a damage that is refused by 2, 4, 5, 6, 7, 8, 9 or 10. The variant chooses its form. The call without a damage is that of
-// case M8: three letters, a and b, b and c independent, the log cab, six prefixes.
+// Bit i of a combination is a damage that is refused by 2, 4, 6, 7, 8, 9 or 10, but for bit 2: a pair that may be exchanged one way only, which nothing
+// refuses. The variant chooses its form. The call without a damage is that of case M8: three letters, a and b, b and c independent, the log cab, six
+// prefixes.
 use profile::Shape;
 use trial::answers::Answer;
 use trial::answers::is_refusal;
@@ -38,7 +39,6 @@ fn number_of(i: usize) -> usize {
     match i {
         0 => 2,
         1 => 4,
-        2 => 5,
         3 => 6,
         4 => 7,
         5 => 8,
@@ -166,12 +166,12 @@ fn mask_bit(variant: usize, i: usize) -> u16 {
     }
 }
 
-// 5: a bit of mask i that is set one way, or taken away.
+// A bit of mask i that makes a pair one-way: one of a before c, b before a, b before c, of which cab has none, so that its prefixes stay six.
 fn one_way_bit(variant: usize, i: usize) -> u16 {
     match (variant % 3) * 4 + i % 4 {
         0 => 4,
         5 => 1,
-        10 => 1,
+        9 => 4,
         _ => 0,
     }
 }
@@ -293,7 +293,7 @@ fn close(right: bool, call: usize, number: usize, t: Tally) -> Tally {
     )
 }
 
-// The judge knows all of them.
+// The judge knows all that are refused.
 fn judge_with(
     damages: usize,
     variant: usize,
@@ -307,7 +307,7 @@ fn judge_with(
     let shape = damaged_shape(damages, variant);
     let room = room_for(damages, variant, log.len());
     let size = table_size(damages, variant);
-    let number = lowest(damages, 255);
+    let number = lowest(damages, 251);
     let answer = judge_in(
         shape,
         masks,
@@ -335,7 +335,7 @@ fn build_with(
     let mut numbers = [GUARD32; 64];
     let shape = damaged_shape(damages, variant);
     let size = table_size(damages, variant);
-    let number = lowest(damages, 191);
+    let number = lowest(damages, 187);
     let answer = build_in(shape, masks, moves, log, size, &mut numbers);
     let right = refused_right(answer, number, variant, &buffer, &numbers, size);
     close(right, tally::BY_BUILD, number, t)
@@ -343,7 +343,7 @@ fn build_with(
 
 // What the first order does not know: s, start, moves, the final set, the table.
 fn known_to_order(variant: usize) -> usize {
-    if variant < SEEN { 119 } else { 118 }
+    if variant < SEEN { 115 } else { 114 }
 }
 
 fn first_order_with(damages: usize, variant: usize, masks: &[u16], log: &[u8], t: Tally) -> Tally {
@@ -370,7 +370,7 @@ fn write_with(
     let numbers = [GUARD32; 1];
     let shape = damaged_shape(damages, variant);
     let room = room_for(damages, variant, plus(58, log.len()));
-    let number = lowest(damages, 127);
+    let number = lowest(damages, 123);
     let answer = write_in(shape, masks, moves, log, room, &mut buffer);
     let right = refused_right(answer, number, variant, &buffer, &numbers, 0);
     close(right, tally::BY_WRITE, number, t)
@@ -425,9 +425,6 @@ fn same_number(damages: usize) -> usize {
     if bit(damages, 1) {
         return 4;
     }
-    if bit(damages, 2) {
-        return 5;
-    }
     if bit(damages, 3) {
         return 7;
     }
@@ -441,7 +438,7 @@ fn same_number(damages: usize) -> usize {
 }
 
 fn same_log(damages: usize) -> usize {
-    if damages & 7 != 0 {
+    if damages & 3 != 0 {
         return 0;
     }
     if damages & 24 != 0 {

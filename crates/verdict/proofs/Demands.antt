@@ -1,20 +1,20 @@
 -- Demands 1 and 3 as theorems about what `judge` promises: `Promise p w order order′ table table′ r` is what holds of a call with profile p and log w that
 -- was lent `order` and `table`, whatever these held, left `order′` and `table′`, and answered r.
-use mathlib.Core.Path.{_≡_, refl, sym, _∙_, ap, subst}
+use mathlib.Core.Path.{_≡_, refl, sym, _∙_, ap, subst, subst₂}
 use mathlib.Core.Logic.{_⊎_, inl, inr, _↔_, _≢_}
 use mathlib.Core.List.{List}
 use mathlib.Core.Option.{Option, none, some, Option·none-ne-some, Option·some-ne-none, Option·some-injective}
-use Prim.Native.Nat.{ℕ}
+use Prim.Native.Nat.{ℕ, _≤_}
 use native.Mathlib.Omega.{arith}
 use lib.ListN.{length, take, drop}
 use lib.Seq.{drop-at, take-at}
-use Rattle.profile.specs.Traces.{independent}
+use Rattle.profile.specs.Traces.{Reachable, independent}
 use Rattle.profile.specs.Automata.{Profile}
-use Rattle.profile.specs.Orders.{Earlier, Same}
+use Rattle.profile.specs.Orders.{Earlier, NoLater, Same}
 use Rattle.profile.specs.Refusals.{judge-refusal}
 use Rattle.profile.specs.declared.Refusal.{Refusal}
 use Rattle.profile.specs.declared.Refusal.the-variants.{FullTable}
-use Rattle.theory.proofs.Demands.{Witness, looks-of, no-order, order-earliest, order-of, prefixes-of, same-answer}
+use Rattle.theory.proofs.Demands.{Witness, looks-of, no-order, order-earliest, order-of, order-reach, prefixes-of, prefixes-reach, same-answer}
 use Rattle.verdict.specs.Verdict.{Counted, Promise, refused-by, verdict-number}
 use Rattle.verdict.specs.declared.Judged.{Judged}
 use Rattle.verdict.specs.declared.Judged.the-variants.{NoOrder, Order, Refused}
@@ -31,6 +31,11 @@ abbrev pub told-looks : Judged → Option ℕ
 told-looks (Refused r) = none
 told-looks (NoOrder P n) = some n
 told-looks (Order P n) = some n
+
+-- the order's bytes, as many as the log has
+order-bytes : (p : Profile) (w order order′ table table′ : List ℕ) (P n : ℕ) (h : Promise p w order order′ table table′ (Order P n)) → take (length w) order′ ≡ h .told .0
+order-bytes p w order order′ table table′ P n h =
+    ap (take (length w)) (h .told .2) ∙ take-at (h .told .0) (drop (length w) order) (length w) (order-length p w (h .told .1))
 
 -- the two verdicts are different
 zero-one : _≡_ {A = Option ℕ} (some 0) (some 1) → ⊥
@@ -76,7 +81,7 @@ module _ (p : Profile) (w order order′ table table′ : List ℕ) (unrefused :
   order-exactly (Order P n) h e =
       let v = h .told .0 in
       let l = order-length p w (h .told .1) in
-      let q : take (length w) order′ ≡ v = ap (take (length w)) (h .told .2) ∙ take-at v (drop (length w) order) (length w) l in
+      let q = order-bytes p w order order′ table table′ P n h in
       let x = order-earliest p w (h .told .1) in (
         subst (Witness p w) (sym q) (x .0),
         (λ u a ne. subst (λ z. Earlier z u) (sym q) (x .1 u a (λ i. ne (i ∙ sym q)))),
@@ -110,6 +115,36 @@ module _ (p : Profile) (v w : List ℕ) (order₁ order₁′ table₁ table₁�
     where
       bytes : take (length v) order₁′ ≡ take (length w) order₂′
       bytes =
-          ap (take (length v)) (g .told .2) ∙ take-at (g .told .0) (drop (length v) order₁) (length v) (order-length p v (g .told .1))
-          ∙ Option·some-injective (g .told .0) (h .told .0) (sym (g .told .1) ∙ answers .0 ∙ h .told .1)
-          ∙ sym (ap (take (length w)) (h .told .2) ∙ take-at (h .told .0) (drop (length w) order₂) (length w) (order-length p w (h .told .1)))
+          order-bytes p v order₁ order₁′ table₁ table₁′ P n g ∙ Option·some-injective (g .told .0) (h .told .0) (sym (g .told .1) ∙ answers .0 ∙ h .told .1)
+          ∙ sym (order-bytes p w order₂ order₂′ table₂ table₂′ Q m h)
+
+-- "If log v is reachable from log w and v has an accepted order, then w has one that is no later in letter order": of two calls that are not refused,
+-- whatever buffers each was lent. P of v is at most P of w
+module _ (p : Profile) (v w : List ℕ) (order₁ order₁′ table₁ table₁′ order₂ order₂′ table₂ table₂′ : List ℕ)
+    (first : judge-refusal p v (length order₁) (length table₁) ≡ none) (second : judge-refusal p w (length order₂) (length table₂) ≡ none)
+    (reach : Reachable (independent (p .masks)) w v) where
+  pub judged-reach : (i j : Judged) → Promise p v order₁ order₁′ table₁ table₁′ i → Promise p w order₂ order₂′ table₂ table₂′ j → verdict-number i ≡ some 1
+      → (verdict-number j ≡ some 1) × NoLater (take (length w) order₂′) (take (length v) order₁′)
+  judged-reach (Refused r) j g h e = absurd (Option·none-ne-some 1 e)
+  judged-reach (NoOrder P n) j g h e = absurd (zero-one e)
+  judged-reach (Order P n) (Refused r) g h e = absurd (Option·some-ne-none r (h .refused ∙ second))
+  judged-reach (Order P n) (NoOrder Q m) g h e = absurd (Option·none-ne-some _ (sym (h .told .0) ∙ order-reach p v w reach (g .told .1) .1))
+  judged-reach (Order P n) (Order Q m) g h e =
+      let x = order-reach p v w reach (g .told .1) in
+      let a = order-bytes p v order₁ order₁′ table₁ table₁′ P n g in
+      let b = order-bytes p w order₂ order₂′ table₂ table₂′ Q m h ∙ Option·some-injective (h .told .0) (x .0) (sym (h .told .1) ∙ x .1) in
+      (refl, subst₂ NoLater (sym b) (sym a) (x .2))
+
+  pub counted-reach : (i j : Judged) → Promise p v order₁ order₁′ table₁ table₁′ i → Promise p w order₂ order₂′ table₂ table₂′ j
+      → (P Q : ℕ) → told-prefixes i ≡ some P → told-prefixes j ≡ some Q → P ≤ Q
+  counted-reach i j g h P Q d e = omega (
+    arith,
+    count p v order₁ order₁′ table₁ table₁′ i g P d,
+    count p w order₂ order₂′ table₂ table₂′ j h Q e,
+    prefixes-reach p v w (admitted p v order₁ table₁ first) reach,
+  )
+    where
+      count : (p : Profile) (w order order′ table table′ : List ℕ) (i : Judged) → Promise p w order order′ table table′ i → (P : ℕ) → told-prefixes i ≡ some P → P ≡ prefixes-of p w
+      count p w order order′ table table′ (Refused r) g P d = absurd (Option·none-ne-some P d)
+      count p w order order′ table table′ (NoOrder Q n) g P d = sym (Option·some-injective Q P d) ∙ g .told .2 .prefixes
+      count p w order order′ table table′ (Order Q n) g P d = sym (Option·some-injective Q P d) ∙ g .told .3 .prefixes

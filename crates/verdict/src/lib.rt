@@ -62,7 +62,7 @@ fn put_verdict(
     true
 }
 
-// The verdict of a log, with its order, P and looks; refused by 2, 4 to 10.
+// The verdict of a log, with its order, P and looks; refused by 2, 4 and 6 to 10.
 pub fn judge(
     shape: Shape,
     masks: &[u16],

@@ -5,16 +5,19 @@ use Rattle.trial_logs.proofs.orders.compare_listed.Statement.{statement
 use Rattle.trial_logs.proofs.orders.compare_listed.Tie as tie
 
 abbrev Inv-loop : tie.InvT-loop
-Inv-loop k masks rows count log u₀ r₀ u r = 0 ≤ 0
+Inv-loop k masks rows count back back-count log u₀ r₀ u r = 0 ≤ 0
 
 abbrev μ-loop : tie.MeasureT-loop
-μ-loop k masks rows count log u₀ r₀ u r = count - r
+μ-loop k masks rows count back back-count log u₀ r₀ u r = count - r
 
 loop-holds : tie.Need-loop-holds Inv-loop μ-loop
 loop-holds c = search needs
 
 row-requires : tie.Need-row-requires Inv-loop μ-loop
 row-requires c κs = search needs
+
+listed-requires : tie.Need-listed-requires Inv-loop μ-loop
+listed-requires c κs = search needs
 
 compare-pair-requires : tie.Need-compare-pair-requires Inv-loop μ-loop
 compare-pair-requires c κs = search needs
@@ -39,6 +42,7 @@ compare-listed-spec =
     μ-loop
     loop-holds
     row-requires
+    listed-requires
     compare-pair-requires
     add-r
     loop-less
