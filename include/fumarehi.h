@@ -4,7 +4,7 @@
  * this list, which is not by number throughout: 11, 12 and 13 stand where they are checked.
  *
  *    1  file under 16 bytes
- *    2  k, s or start out of range; trailer bytes 10 and 11 not zero; masks_len is not k, or moves_len is not s * k
+ *    2  k, s or start out of range; trailer bytes 10 and 11 not zero; masks_len is not k, or moves_len is not s * k; counts_len is not 4
  *   11  the text of typed courses breaks their rules or uses a letter from k on; the place in the text is told, from 0
  *   12  brackets of the text go deeper than 16
  *   13  more than 31 letters are typed
@@ -17,9 +17,9 @@
  *    9  an output buffer is shorter than what it must receive
  *   10  the records of all prefixes do not fit the work table
  *
- * Each call writes every element of 'told'. Element 0 is the refusal's place: 0 but for refusals 8 and 11, and 0 where nothing is refused. After
- * a refusal the other elements are 0 (fumarehi_same also tells the log). Each array lent as a buffer is unchanged after a refusal, but for the work
- * table after refusal 10, whose content is then free.
+ * Each call writes every element of 'told'. Element 0 is the refusal's place (fumarehi_find tells none): 0 but for refusals 8 and 11, and 0 where
+ * nothing is refused. After a refusal the other elements are 0 (fumarehi_same also tells the log). Each array lent as a buffer is unchanged after a
+ * refusal, but for the work table after refusal 10, whose content is then free.
  *
  * Arguments. A slice is a pointer and its length in elements. No argument is out of bounds for these functions: they answer for all numbers and all
  * lengths. What the caller owes, since nothing here can test it:
@@ -74,9 +74,10 @@ uint32_t fumarehi_judge(size_t k, size_t s, size_t start, uint32_t finals,
                         uint64_t told[4]);
 
 /* Builds the prefix table of a log. told: place, P, looks; both as of fumarehi_judge.
- * A record is six numbers, one record for each prefix by rising total count: numbers 0 to 3 have the counts, 8 bits each, letter i in bits
- * 8 * (i mod 4) and up of number i div 4; number 4 is the set of states that an order of the prefix leads to from the start; number 5 is the
- * set of states from which an order of the rest leads to a final state. Numbers past record P - 1 stay.
+ * A record is six numbers, one record for each prefix by rising total count, and within one total by the counts, the count of letter 0 first, the
+ * smaller first: numbers 0 to 3 have the counts, 8 bits each, letter i in bits 8 * (i mod 4) and up of number i div 4; number 4 is the set of states
+ * that an order of the prefix leads to from the start; number 5 is the set of states from which an order of the rest leads to a final state. Numbers
+ * past record P - 1 stay.
  * Refused by 2, 4, 6 to 8 and 10. */
 uint32_t fumarehi_table(size_t k, size_t s, size_t start, uint32_t finals,
                         const uint16_t *masks, size_t masks_len,
@@ -84,6 +85,15 @@ uint32_t fumarehi_table(size_t k, size_t s, size_t start, uint32_t finals,
                         const uint8_t *log, size_t log_len,
                         uint32_t *table, size_t table_len,
                         uint64_t told[3]);
+
+/* Searches records for counts: numbers 0 to 3 of a record. told: found, number (and no place).
+ * The records are those of 'table', a rest below six unused: lend the first 6 * P numbers of a table after an answer, or the part of it that has the
+ * records of one total. Found is 1 and number is the record that has the counts, from 0 in what was lent; or found is 0, exactly when none has, and
+ * number says how many records stand before their place. For records in another order than that of fumarehi_table the two say nothing.
+ * Refused by 2, if counts_len is not 4; found and number are then 0. */
+uint32_t fumarehi_find(const uint32_t *table, size_t table_len,
+                       const uint32_t *counts, size_t counts_len,
+                       uint64_t told[2]);
 
 /* Compares two logs. told: place, log, same.
  * Same is 1 exactly when exchanges lead from each log to the other, each way. Refused by 2 and 4, then by 7 and 8 of the first log, then by 7 and 8 of the

@@ -244,18 +244,49 @@ static void tabled(const struct worked *c)
     expect(answer == 10 && !told[0] && !told[1] && !told[2], "%s: a short table answers %u", c->mark, (unsigned)answer);
 }
 
-/* M9's records: the empty prefix, a and b in either order, ab. */
+/* M9's records: the empty prefix, b, a, ab. */
 static void sets_of_m9(void)
 {
-    static const uint32_t empty[6] = {0, 0, 0, 0, 1, 1}, a[6] = {1, 0, 0, 0, 2, 2}, b[6] = {256, 0, 0, 0, 0, 0}, ab[6] = {257, 0, 0, 0, 1, 1};
+    static const uint32_t records[24] = {0, 0, 0, 0, 1, 1, 256, 0, 0, 0, 0, 0, 1, 0, 0, 0, 2, 2, 257, 0, 0, 0, 1, 1};
     const uint8_t log[] = {1, 0};
     uint32_t table[24];
     uint64_t told[3];
-    size_t record = sizeof empty;
     fumarehi_table(2, 2, 0, 1, alt.masks, 2, alt.moves, 4, log, 2, table, 24, told);
-    int a_first = !memcmp(table + 6, a, record) && !memcmp(table + 12, b, record);
-    int b_first = !memcmp(table + 6, b, record) && !memcmp(table + 12, a, record);
-    expect(!memcmp(table, empty, record) && (a_first || b_first) && !memcmp(table + 18, ab, record), "M9: the records");
+    expect(!memcmp(table, records, sizeof records), "M9: the records");
+}
+
+/* The search among 'len' numbers tells found and number. */
+static void told_of(const uint32_t *table, size_t len, uint32_t first, uint64_t found, uint64_t number)
+{
+    const uint32_t counts[4] = {first, 0, 0, 0};
+    uint64_t told[2] = {7, 7};
+    uint32_t answer = fumarehi_find(table, len, counts, 4, told);
+    expect(answer == 0 && told[0] == found && told[1] == number, "find %u in %zu numbers: %u, %u, %u", (unsigned)first, len, (unsigned)answer,
+           (unsigned)told[0], (unsigned)told[1]);
+}
+
+/* M9's prefixes are found where they stand, in the whole table and in the part of one total; other counts have their place. */
+static void searched(void)
+{
+    static const uint32_t first[4] = {0, 256, 1, 257}, none[8] = {0};
+    const uint8_t log[] = {1, 0};
+    uint32_t table[24];
+    uint64_t told[3];
+    fumarehi_table(2, 2, 0, 1, alt.masks, 2, alt.moves, 4, log, 2, table, 24, told);
+    for (uint64_t r = 0; r < 4; r++)
+        told_of(table, 24, first[r], 1, r);
+    told_of(table, 24, 512, 0, 3);
+    told_of(table, 24, 2, 0, 4);
+    told_of(table, 24, 65536, 0, 1);
+    told_of(table + 6, 12, 1, 1, 1);
+    told_of(table + 6, 17, 257, 0, 2);
+    told_of(table + 6, 12, 0, 0, 0);
+    told_of(table, 0, 0, 0, 0);
+    for (size_t len = 0; len < 8; len++) {
+        told[0] = told[1] = 7;
+        uint32_t answer = fumarehi_find(table, 24, none, len, told);
+        expect(answer == (len == 4 ? 0 : 2) && told[0] == (len == 4) && told[1] == 0, "find with %zu numbers of counts: %u", len, (unsigned)answer);
+    }
 }
 
 /* Of all words as long as the log, those listed are the same as it and have the first of them as first order; no other is the same. */
@@ -413,6 +444,7 @@ static void worked_cases(void)
         tabled(&cases[i]);
     }
     sets_of_m9();
+    searched();
     reached(&all_of_four, "abcbad", m7, 4, "abcabd");
     reached(&all_of_three, "cab", m8, 3, "bca");
     one_way_pair();

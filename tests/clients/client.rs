@@ -5,7 +5,7 @@
 
 mod fumarehi;
 
-use fumarehi::{Profile, Refusal, Refused, Relation};
+use fumarehi::{Found, Profile, Refusal, Refused, Relation};
 use std::process::ExitCode;
 
 /// Counts comparisons, and says which fail.
@@ -172,6 +172,29 @@ fn refused_buffers(compared: &mut Compared) {
     compared.expect(fumarehi::table(&ALT, BA, &mut table[..24]).is_ok_and(|table| table.prefixes == 4 && table.looks == 4), "table: a table of 24");
 }
 
+/// Each record of a table is found by its counts, other counts have their place, and the search has no more than one refusal.
+fn searches(compared: &mut Compared) {
+    let mut table = TABLE;
+    let prefixes = fumarehi::table(&ALT, &[1, 1, 0, 0], &mut table).map_or(0, |table| table.prefixes as usize);
+    let records = &table[..6 * prefixes];
+    for (at, record) in records.chunks(6).enumerate() {
+        compared.expect(fumarehi::find(records, &record[..4]) == Ok(Found::At(at)), &format!("find: record {at} of M2"));
+    }
+    let counts: Vec<u32> = records.chunks(6).map(|record| record[0]).collect();
+    compared.expect(counts == [0, 256, 1, 512, 257, 2, 513, 258, 514], &format!("the order of M2's records: {counts:?}"));
+    for (first, at) in [(3 << 8, 6), (3, 8), (1 << 16, 1), (3 | 3 << 8, 9)] {
+        compared.expect(fumarehi::find(records, &[first, 0, 0, 0]) == Ok(Found::Absent(at)), &format!("find: counts {first} of M2"));
+    }
+    let ones = &records[18..36];
+    compared.expect(fumarehi::find(ones, &[257, 0, 0, 0]) == Ok(Found::At(1)), "find: ab among the prefixes of two events");
+    compared.expect(fumarehi::find(ones, &[513, 0, 0, 0]) == Ok(Found::Absent(3)), "find: a larger total");
+    compared.expect(fumarehi::find(&[], &[0; 4]) == Ok(Found::Absent(0)), "find: no records");
+    let refused = Refused { refusal: Refusal::OutOfRange, place: 0, log: 0 };
+    for len in [0, 3, 5] {
+        compared.expect(fumarehi::find(records, &[0; 5][..len]) == Err(refused), &format!("find: {len} numbers of counts"));
+    }
+}
+
 fn refused_same(compared: &mut Compared) {
     let alt = Relation { k: 2, masks: &[2, 1] };
     let (long, bad) = ([0; 256], [0, 1, 2]);
@@ -283,6 +306,7 @@ fn main() -> ExitCode {
     paths.iter().for_each(|path| sample(&mut compared, path));
     refused_profiles(&mut compared);
     refused_buffers(&mut compared);
+    searches(&mut compared);
     refused_same(&mut compared);
     one_way(&mut compared);
     cut_files(&mut compared);

@@ -25,6 +25,11 @@ mod c {
             table: *mut u32, table_len: usize,
             told: *mut u64,
         ) -> u32;
+        pub fn fumarehi_find(
+            table: *const u32, table_len: usize,
+            counts: *const u32, counts_len: usize,
+            told: *mut u64,
+        ) -> u32;
         pub fn fumarehi_same(
             k: usize,
             masks: *const u16, masks_len: usize,
@@ -149,6 +154,13 @@ pub struct Table {
     pub looks: u64,
 }
 
+/// The record that has the counts, or how many records stand before their place.
+#[derive(Clone, Copy, Debug, PartialEq, Eq)]
+pub enum Found {
+    At(usize),
+    Absent(usize),
+}
+
 /// What a log file tells beside its masks and moves.
 #[derive(Clone, Copy, Debug, PartialEq, Eq)]
 pub struct Header {
@@ -214,6 +226,10 @@ pub mod numbers {
                 told.as_mut_ptr(),
             )
         }
+    }
+
+    pub fn find(table: &[u32], counts: &[u32], told: &mut [u64; 2]) -> u32 {
+        unsafe { c::fumarehi_find(table.as_ptr(), table.len(), counts.as_ptr(), counts.len(), told.as_mut_ptr()) }
     }
 
     pub fn same(r: &Relation, first: &[u8], second: &[u8], told: &mut [u64; 3]) -> u32 {
@@ -296,6 +312,14 @@ pub fn table(p: &Profile, log: &[u8], table: &mut [u32]) -> Result<Table, Refuse
     let mut told = [0; 3];
     let number = numbers::table(p, log, table, &mut told);
     answer(number, told[0], 0, || Table { prefixes: told[1], looks: told[2] })
+}
+
+/// Searches records in the table's order for the counts of a prefix, the first four numbers of a record.
+pub fn find(table: &[u32], counts: &[u32]) -> Result<Found, Refused> {
+    let mut told = [0; 2];
+    let number = numbers::find(table, counts, &mut told);
+    let [found, at] = told;
+    answer(number, 0, 0, || if found == 1 { Found::At(at as usize) } else { Found::Absent(at as usize) })
 }
 
 /// Whether exchanges lead from each log to the other.

@@ -499,7 +499,7 @@ fn file(random: &mut Random) -> Vec<u8> {
 
 // What was met.
 
-const FUNCTIONS: [(&str, &[usize]); 9] = [
+const FUNCTIONS: [(&str, &[usize]); 10] = [
     ("judge", &[2, 4, 6, 7, 8, 9, 10]),
     ("table", &[2, 4, 6, 7, 8, 10]),
     ("same", &[2, 4, 7, 8]),
@@ -509,11 +509,14 @@ const FUNCTIONS: [(&str, &[usize]); 9] = [
     ("write_file", &[2, 4, 6, 7, 8, 9]),
     ("next_event", &[]),
     ("expression", &[2, 9, 11, 12, 13]),
+    ("find", &[2]),
 ];
 
 #[derive(Default)]
 struct Seen {
     answers: [[u64; REFUSALS + 1]; FUNCTIONS.len()],
+    /// Searches that found nothing, that found a record, and those of records in another order.
+    finds: [u64; 3],
     verdicts: [u64; 2],
     /// Orders that are not the log, and of these those that are not its first order.
     orders: [u64; 2],
@@ -561,6 +564,8 @@ impl Seen {
         println!("verdict 1: {yes}, verdict 0: {no}; orders other than the log: {moved}, and than its first order: {chosen}");
         let ([differ, same], [_, first, second]) = (self.sames, self.refused_log);
         println!("same: {same}, not same: {differ}; refused for the first log: {first}, for the second: {second}");
+        let [absent, found, other] = self.finds;
+        println!("searches that found a record: {found}, and none: {absent}; of records in another order: {other}");
         println!("judged with one-way masks: {}, with symmetric ones: {}", self.one_way[1], self.one_way[0]);
         println!("prefixes compared: {}, at most {} of a log; events read: {}", self.records, self.most_prefixes, self.events);
         let [[no, yes], [no_reached, yes_reached]] = self.typed;
@@ -594,6 +599,9 @@ impl Seen {
         }
         if self.one_way[1] < self.one_way[0] {
             missing.push(format!("one-way masks are rare: {:?}", self.one_way));
+        }
+        if rare([self.finds[0], self.finds[1]]) || self.finds[2] == 0 {
+            missing.push(format!("an answer of find is rare: {:?}", self.finds));
         }
         if self.orders[1] == 0 || self.refused_log[1..].contains(&0) {
             missing.push("no order other than log and first order, or a log that same never named".into());
@@ -635,21 +643,14 @@ fn counts(k: usize, record: &[u32]) -> Result<Counts, String> {
     if counts[k..].iter().all(|&count| count == 0) { Ok(counts[..k].to_vec()) } else { Err(format!("counts from k on: {record:?}")) }
 }
 
-/// Every prefix once, by rising total, with its sets; all else stays.
+/// Every prefix in its place, with its sets; all else stays.
 fn agree_table(p: &Profile, table: &Lent<u32>, records: &Records) -> Checked {
     let len = 6 * records.len();
-    let mut met = Records::new();
-    let mut total = 0;
-    for record in table.now()[..len].chunks(6) {
-        let counts = counts(p.k, record)?;
-        let next = counts.iter().map(|&count| usize::from(count)).sum();
-        if next < total {
-            return Err(format!("total {next} stands after total {total}"));
-        }
-        total = next;
-        met.insert(counts, reference::Sets { forward: record[4], backward: record[5] });
+    let expected = reference::in_order(records);
+    for (at, (record, (prefix, sets))) in table.now()[..len].chunks(6).zip(expected).enumerate() {
+        agree("a record's place and counts", (at, &counts(p.k, record)?), (at, prefix))?;
+        agree("a record's sets", &reference::Sets { forward: record[4], backward: record[5] }, sets)?;
     }
-    agree("the set of records", &met, records)?;
     table.stays_from("table", len)
 }
 
@@ -746,6 +747,75 @@ fn check_table(random: &mut Random, seen: &mut Seen) -> Checked {
     agree_built(&p, &expected, (number, told), &table)
         .and_then(|()| agree_built(&p, &expected, wrapped, &again))
         .map_err(|what| format!("{what}\n  table {p:?} {log:?}, buffer {}", table.len()))
+}
+
+/// The first records of a table, or those of one total.
+fn records_part(random: &mut Random, table: Vec<u32>) -> Vec<u32> {
+    let total = |record: &[u32]| record[..4].iter().flat_map(|number| number.to_le_bytes()).map(u32::from).sum::<u32>();
+    match random.below(3) {
+        0 => table,
+        1 => table[..random.below(table.len() + 1)].to_vec(),
+        _ => {
+            let wanted = total(&table[6 * random.below(table.len() / 6)..]);
+            table.chunks(6).filter(|record| total(record) == wanted).flatten().copied().collect()
+        }
+    }
+}
+
+/// The counts of a record, or others, mostly near them.
+fn wanted(random: &mut Random, table: &[u32]) -> Vec<u32> {
+    let mut counts = table[6 * random.below(table.len() / 6)..][..4].to_vec();
+    let at = random.below(4);
+    let one = 1 << (8 * random.below(4));
+    match random.below(10) {
+        0..=4 => {}
+        5 | 6 => counts[at] = counts[at].wrapping_add(one),
+        7 => counts[at] = counts[at].wrapping_sub(one),
+        8 => counts[at] = random.next() as u32,
+        _ => resize(random, &mut counts),
+    }
+    counts
+}
+
+/// A search by numbers and by wrapper.
+fn found(table: &[u32], counts: &[u32]) -> [(u32, [u64; 2]); 2] {
+    let mut told = [UNTOLD; 2];
+    let number = numbers::find(table, counts, &mut told);
+    let wrapped = as_numbers(fumarehi::find(table, counts), |found| match found {
+        fumarehi::Found::At(at) => [1, at as u64],
+        fumarehi::Found::Absent(before) => [0, before as u64],
+    });
+    [(number, told), wrapped]
+}
+
+/// Searches a built table, a part of it, and sometimes records in another order, for which any answer will do.
+fn check_find(random: &mut Random, seen: &mut Seen) -> Checked {
+    let (p, log) = short_call(random);
+    let mut table = vec![0; 6 * 64 * 7];
+    let built = fumarehi::table(&lend(&p), &log, &mut table).map_err(|refused| format!("table of a valid call: {refused:?}"))?;
+    table.truncate(6 * built.prefixes as usize);
+    let counts = wanted(random, &table);
+    let mut part = records_part(random, table);
+    let other = random.one_in(8);
+    if other {
+        part.reverse();
+    }
+    let expected = reference::find(&part, &counts);
+    let [answer, wrapped] = found(&part, &counts);
+    seen.answer(9, expected.as_ref().err());
+    match (&expected, other) {
+        (Ok(_), true) => {
+            seen.finds[2] += 1;
+            agree("answer, and found is 0 or 1", (answer.0, answer.1[0] < 2, wrapped), (0, true, answer))
+        }
+        (Ok((present, at)), false) => {
+            seen.finds[*present as usize] += 1;
+            let told = (0, [*present as u64, *at as u64]);
+            agree("answer and told", answer, told).and_then(|()| agree("the wrapper's answer", wrapped, told))
+        }
+        (Err(refused), _) => agree_refused(answer, refused).and_then(|()| agree_refused(wrapped, refused)),
+    }
+    .map_err(|what| format!("{what}\n  find {counts:?} in {part:?}"))
 }
 
 /// A log to compare with the given one: the same, or reachable from it, or nearly.
@@ -1004,7 +1074,7 @@ fn check_listed(random: &mut Random, seen: &mut Seen) -> Checked {
 }
 
 fn check(random: &mut Random, seen: &mut Seen) -> Checked {
-    match random.below(110) {
+    match random.below(114) {
         0..=29 => check_judge(random, seen),
         30..=46 => check_table(random, seen),
         47..=58 => check_same(random, seen),
@@ -1013,7 +1083,8 @@ fn check(random: &mut Random, seen: &mut Seen) -> Checked {
         82..=89 => check_log_part(random, seen),
         90..=97 => check_write_file(random, seen),
         98..=99 => check_next_event(random, seen),
-        _ => check_expression(random, seen),
+        100..=109 => check_expression(random, seen),
+        _ => check_find(random, seen),
     }
 }
 

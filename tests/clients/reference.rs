@@ -333,6 +333,36 @@ impl Solved {
     }
 }
 
+// The order of records, and the search.
+
+fn total(counts: &[u8]) -> usize {
+    counts.iter().map(|&count| usize::from(count)).sum()
+}
+
+/// The records by rising total, within one total by their counts, letter 0 first.
+pub fn in_order(records: &Records) -> Vec<(&Counts, &Sets)> {
+    let mut ordered: Vec<_> = records.iter().collect();
+    ordered.sort_by_key(|(counts, _)| (total(counts), *counts));
+    ordered
+}
+
+/// Total and counts of the numbers of a record.
+fn ranked(numbers: &[u32]) -> (usize, Counts) {
+    let counts: Counts = numbers.iter().flat_map(|number| number.to_le_bytes()).collect();
+    (total(&counts), counts)
+}
+
+/// Refusal 2; or whether a record has the counts, and which; or how many stand before.
+pub fn find(table: &[u32], counts: &[u32]) -> Result<(bool, usize), Refused> {
+    if counts.len() != 4 {
+        return refuse(2);
+    }
+    let records: Vec<_> = table.chunks_exact(6).map(|record| ranked(&record[..4])).collect();
+    let wanted = ranked(counts);
+    let before = records.iter().filter(|record| **record < wanted).count();
+    Ok(records.iter().position(|record| *record == wanted).map_or((false, before), |at| (true, at)))
+}
+
 // Comparison and first order.
 
 /// The smallest letter whose next event nothing left holds back, until none is left.

@@ -1,12 +1,21 @@
 -- The answers of the library as numbers: the refusal's number, or 0, and what each call tells. Document 01, "A refusal gives its number and a place".
 use mathlib.Core.Path.{_≡_}
+use mathlib.Core.Bool.{cond}
+use mathlib.Core.Logic.{_≢_}
 use mathlib.Core.List.{List, [], _∷_}
 use Prim.Native.Nat.{ℕ}
+use lib.Dec.{eqb}
+use lib.ListN.{length}
 use Rattle.profile.specs.Automata.{Profile}
 use Rattle.profile.specs.Refusals.{refusal-number, refusal-place}
+use Rattle.profile.specs.Tables.{layout}
+use Rattle.profile.specs.declared.Refusal.the-variants.{OutOfRange}
 use Rattle.table.specs.Table as table
 use Rattle.table.specs.declared.Built.{Built}
 use Rattle.table.specs.declared.Built.the-variants.{Filled}
+use Rattle.search.specs.Search as search
+use Rattle.search.specs.declared.Found.{Found}
+use Rattle.search.specs.declared.Found.the-variants.{Absent}
 use Rattle.verdict.specs.Verdict as verdict
 use Rattle.verdict.specs.declared.Judged.{Judged}
 use Rattle.verdict.specs.declared.Judged.the-variants.{NoOrder, Order}
@@ -57,6 +66,18 @@ pub record Building (p : Profile) (w before after : List ℕ) (code : ℕ) (told
   pub promise : table.Promise p w before after answer
   pub code-is : code ≡ built-code answer
   pub told-is : told ≡ built-told answer
+
+-- the search: 1 and the record, or 0 and how many records stand before
+abbrev pub found-told : Found → List ℕ
+found-told (Found.At i) = 1 ∷ i ∷ []
+found-told (Absent n) = 0 ∷ n ∷ []
+
+-- the search's promise, of an answer given as numbers: counts in another number of numbers than a record has are refused by 2; what is told of records
+-- in another order than Paper 5's is free
+pub record Finding (t c : List ℕ) (code : ℕ) (told : List ℕ) : Type 0 where
+  pub code-is : code ≡ cond (eqb (length c) (layout .numbers)) 0 (refusal-number OutOfRange)
+  pub refused : length c ≢ layout .numbers → told ≡ 0 ∷ 0 ∷ []
+  pub found : length c ≡ layout .numbers → (f : Found) × (told ≡ found-told f) × (search.Ordered t → f ≡ search.found-in t c)
 
 -- same: the refusal's number; place, log, 1 for yes
 abbrev pub compared-code : Compared → ℕ

@@ -9,7 +9,7 @@ ghost use Rattle.logfile.specs.Files.{file-masks, file-moves, file-shape, fille
 ghost use Rattle.filewriter.specs.Written.{file-bytes, write-refusal, writing};
 ghost use Rattle.logreader.specs.Events.{event-of, place-behind};
 ghost use Rattle.expression.specs.Making.{made-buffer, making};
-ghost use Rattle.capi.specs.Numbers.{Building, Judging, compared-code, compared-told, event-number, located-code, located-told, made-code, made-told, ordered-code, ordered-told, reading-code, reading-told, writing-code, writing-told};
+ghost use Rattle.capi.specs.Numbers.{Building, Finding, Judging, compared-code, compared-told, event-number, located-code, located-told, made-code, made-told, ordered-code, ordered-told, reading-code, reading-told, writing-code, writing-told};
 use comparison::Compared;
 use expression::Made;
 use filewriter::Writing;
@@ -19,6 +19,7 @@ use logreader::Event;
 use order::Ordered;
 use profile::Refusal;
 use profile::Shape;
+use search::Found;
 use table::Built;
 use verdict::Judged;
 
@@ -97,6 +98,28 @@ pub extern "C" fn fumarehi_table(
         }
         Built::Filled { prefixes, looks } => {
             *told = [0, prefixes as u64, looks];
+            0
+        }
+    }
+}
+
+// The search for a prefix by its counts, among the records of a table or of a part of one.
+#[no_mangle]
+pub extern "C" fn fumarehi_find(table: &[u32], counts: &[u32], told: &mut [u64; 2]) -> u32
+    ensures { λ r. ⌜ Finding (now (table .entry)) (now (counts .entry)) r (now (told .exit)) ⌝ }
+{
+    if counts.len() != counts::NUMBERS {
+        *told = [0, 0];
+        return refusals::number(Refusal::OutOfRange);
+    }
+    let found = search::find(table, counts::from_numbers(counts));
+    match found {
+        Found::At(record) => {
+            *told = [1, record as u64];
+            0
+        }
+        Found::Absent(before) => {
+            *told = [0, before as u64];
             0
         }
     }

@@ -93,19 +93,19 @@ counts-in-packed L v le h = ext-getD 0 (counts-in L (packed L v)) (v ++ rest) (a
         ∙ sym (ap (λ j. getD (v ++ rest) j 0) (sym e) ∙ getD-append-add v rest (i - length v) 0
         ∙ getD-replicate (L .per * L .numbers - length v) (i - length v) 0 0 (omega arith))
 
+-- the same counts behind both do not count
+pub same-tail : (u v x : List ℕ) → length u ≡ length v → no-later? (u ++ x) (v ++ x) ≡ no-later? u v
+same-tail u v x e = no-later-append u v x x e ∙ ⊎-elim
+    (λ t. ap (λ p. cond p (no-later? x x) (no-later? u v)) (is-true (equal? u v) t) ∙ no-later-self x
+    ∙ subst (λ z. true ≡ no-later? u z) (equal-test u v .0 t) (sym (no-later-self u)))
+    (λ t. ap (λ p. cond p (no-later? x x) (no-later? u v)) (is-false (equal? u v) t)) (test (equal? u v))
+
 -- the order of packed counts is the order of counts
 pub before-packed : (L : Layout) (v w : List ℕ) → length v ≡ length w → length v ≤ L .per * L .numbers → Small L v → Small L w
     → before? L (packed L v) (packed L w) ≡ not (no-later? w v)
 before-packed L v w e le h k =
     ap not (ap₂ no-later? (counts-in-packed L w (omega arith) k) (counts-in-packed L v le h)
     ∙ ap (λ n. no-later? (w ++ zeros L (length w)) (v ++ zeros L n)) e ∙ same-tail w v (zeros L (length w)) (sym e))
-  where
-    -- the same counts behind both do not count
-    same-tail : (u v x : List ℕ) → length u ≡ length v → no-later? (u ++ x) (v ++ x) ≡ no-later? u v
-    same-tail u v x e = no-later-append u v x x e ∙ ⊎-elim
-        (λ t. ap (λ p. cond p (no-later? x x) (no-later? u v)) (is-true (equal? u v) t) ∙ no-later-self x
-        ∙ subst (λ z. true ≡ no-later? u z) (equal-test u v .0 t) (sym (no-later-self u)))
-        (λ t. ap (λ p. cond p (no-later? x x) (no-later? u v)) (is-false (equal? u v) t)) (test (equal? u v))
 
 -- ---- total
 

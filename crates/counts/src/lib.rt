@@ -4,6 +4,7 @@ ghost use mathlib.Core.Bool.{not, cond};
 ghost use mathlib.Core.List.{[]};
 ghost use Prim.Native.Nat.{_+_, _<_, _%_, _^_};
 ghost use lib.Dec.{eqb};
+ghost use lib.ListN.{length};
 ghost use Rattle.profile.specs.Lists.{equal?};
 ghost use Rattle.profile.specs.Orders.{no-later?};
 ghost use Rattle.profile.specs.Prefixes.{total};
@@ -19,6 +20,9 @@ const BOUND: u32 = 256;
 
 // The counts in one number.
 const PER: usize = 4;
+
+// How many numbers hold the counts of a record.
+pub const NUMBERS: usize = 4;
 
 // The numbers of counts of a record.
 pub struct Counts {
@@ -67,6 +71,19 @@ pub fn numbers(c: Counts) -> [u32; 4]
     ensures { λ r. ⌜ r ≡ words c ⌝ }
 {
     [c.w0, c.w1, c.w2, c.w3]
+}
+
+// The counts whose numbers stand in a row.
+pub fn from_numbers(t: &[u32]) -> Counts
+    requires { ⌜ length (now t) ≡ layout .numbers ⌝ }
+    ensures { λ r. ⌜ words r ≡ now (t .entry) ⌝ }
+{
+    Counts {
+        w0: t[0],
+        w1: t[1],
+        w2: t[2],
+        w3: t[3],
+    }
 }
 
 // The count of letter a in numbers that stand in a row.

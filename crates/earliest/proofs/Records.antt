@@ -15,12 +15,12 @@ use Rattle.profile.proofs.Lists.{all-of, filter-at, filter-of, mem-place}
 use Rattle.theory.proofs.Merge.{level-at, level-first, level-left}
 use Rattle.theory.proofs.Profiles.{distinct, lawful}
 use Rattle.theory.proofs.Judgement.{Chosen}
-use Rattle.theory.proofs.Tables.{holds-backward, holds-counts, holds-find, holds-prefix, holds-rises}
+use Rattle.theory.proofs.Tables.{Holds, holds-backward, holds-counts, holds-find, holds-prefix, holds-rises}
 use Rattle.counts.specs.Counts.{counts-in}
 use Rattle.counts.proofs.Packed.{Small, total-packed}
 use Rattle.records.specs.Records.{counts-at, last-at}
 use Rattle.earliest.specs.Earliest.{Table, record-count, total-at}
-use Rattle.records.specs.Drafts.{of-total}
+use Rattle.records.specs.Drafts.{in-order, of-total}
 
 -- ---- of a profile and a log
 
@@ -38,6 +38,10 @@ ChosenFrom p S w u R r = Chosen (independent (p .masks)) (λ a. a) (automaton p)
 -- letters that may be exchanged are different
 pub different : {p : Profile} {w t : List ℕ} → Table p w t → (a b : ℕ) → T (independent (p .masks) a b) → a ≢ b
 different {p} tab = distinct (p .masks) (tab .profile .relation .own)
+
+-- what the laws of such tables ask
+pub held : {p : Profile} {w t : List ℕ} (tab : Table p w t) → Holds layout (independent (p .masks)) (λ a. a) (automaton p) (p .k) w (tab .before) t
+held tab = record { letters = tab .log .letters; written = tab .holds }
 
 -- ---- small counts
 
@@ -67,13 +71,13 @@ module _ {p : Profile} {w t : List ℕ} (tab : Table p w t) where
 
   -- the prefix of record j
   abbrev pub prefix-at : ℕ → List ℕ
-  prefix-at j = getD (tab .holds .order) j []
+  prefix-at j = getD (in-order p w) j []
 
   pub record-of-total : (j : ℕ) → j < record-count p w → Mem (prefix-at j) (of-total p w (total (prefix-at j)))
-  record-of-total j h = filter-of (λ c. eqb (total c) (total (prefix-at j))) (holds-prefix (tab .holds) j h) (eqb-refl (total (prefix-at j)))
+  record-of-total j h = filter-of (λ c. eqb (total c) (total (prefix-at j))) (holds-prefix (held tab) j h) (eqb-refl (total (prefix-at j)))
 
   pub find-record : (n : ℕ) (v : List ℕ) → Mem v (of-total p w n) → (j : ℕ) × (j < record-count p w) × (prefix-at j ≡ v)
-  find-record n v m = holds-find (tab .holds) v (filter-at (λ c. eqb (total c) n) (prefixes (independent (p .masks)) (λ a. a) (p .k) w) m .0)
+  find-record n v m = holds-find (held tab) v (filter-at (λ c. eqb (total c) n) (prefixes (independent (p .masks)) (λ a. a) (p .k) w) m .0)
 
   module _ (j : ℕ) (h : j < record-count p w) where
     pub record-counts : counts-at t j ≡ packed layout (prefix-at j)
@@ -81,10 +85,10 @@ module _ {p : Profile} {w t : List ℕ} (tab : Table p w t) where
         ap₂ _∷_ (number 0 (omega arith)) (ap₂ _∷_ (number 1 (omega arith)) (ap₂ _∷_ (number 2 (omega arith)) (ap (λ n. n ∷ []) (number 3 (omega arith)))))
       where
         number : (i : ℕ) → i < layout .numbers → getD t (record-length layout * j + i) 0 ≡ getD (packed layout (prefix-at j)) i 0
-        number i l = holds-counts (tab .holds) j i h l
+        number i l = holds-counts (held tab) j i h l
 
     pub record-backward : last-at t j ≡ backward-of p w (at (prefix-at j))
-    record-backward = holds-backward (tab .holds) j h
+    record-backward = holds-backward (held tab) j h
 
     pub record-total : total-at t j ≡ total (prefix-at j)
     record-total =
@@ -106,5 +110,5 @@ module _ {p : Profile} {w t : List ℕ} (tab : Table p w t) where
       subst (Mem zeros) (sym (level-first (independent (p .masks)) (λ a. a) (different tab) (p .k) w (tab .log .letters))) (List·Memᴰ·head refl) in
       let n = find-record 0 zeros empty in
       let some : 0 < record-count p w = omega (arith, n .1) in
-      let z : total (prefix-at 0) ≡ 0 = omega (arith, holds-rises (tab .holds) 0 (n .0) (omega arith) (n .1), ap total (n .2), of-total-at 0 zeros empty .2) in
+      let z : total (prefix-at 0) ≡ 0 = omega (arith, holds-rises (held tab) 0 (n .0) (omega arith) (n .1), ap total (n .2), of-total-at 0 zeros empty .2) in
       (some, subst (λ i. Mem (prefix-at 0) (of-total p w i)) z (record-of-total 0 some))

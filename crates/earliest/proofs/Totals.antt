@@ -14,7 +14,7 @@ use Rattle.profile.specs.Lists.{Mem}
 use Rattle.profile.proofs.Lists.{lt-or-le}
 use Rattle.theory.proofs.Tables.{holds-once, holds-rises}
 use Rattle.earliest.specs.Earliest.{Table, record-count, end-of, total-at, total-end}
-use Rattle.earliest.proofs.Records.{first-record, of-total-at, only-empty, prefix-at, record-total, record-of-total}
+use Rattle.earliest.proofs.Records.{first-record, held, of-total-at, only-empty, prefix-at, record-of-total, record-total}
 use Rattle.records.specs.Drafts.{of-total}
 
 -- ---- the first place that fails a test
@@ -84,7 +84,7 @@ module _ {p : Profile} {w t : List ℕ} (tab : Table p w t) where
     over = λ j l h. ⊎-elim (λ lt. lt) (λ le.
         let e : total (prefix-at tab j) ≡ 0 = omega arith in
         let same = only-empty tab (prefix-at tab j) (subst (λ n. Mem (prefix-at tab j) (of-total p w n)) e (record-of-total tab j h)) in
-        absurd (omega (arith, holds-once (tab .holds) j 0 h (z .0) (same ∙ sym (only-empty tab (prefix-at tab 0) (z .1)))))) (lt-or-le 0 (total (prefix-at tab j)));
+        absurd (omega (arith, holds-once (held tab) j 0 h (z .0) (same ∙ sym (only-empty tab (prefix-at tab 0) (z .1)))))) (lt-or-le 0 (total (prefix-at tab j)));
   }
 
   -- the records of the next total begin where those of total n end
@@ -100,7 +100,7 @@ module _ {p : Profile} {w t : List ℕ} (tab : Table p w t) where
             omega arith) (lt-or-le j a);
         over = λ j l h.
             let at-end = b .over e (q .0) (omega arith) in
-            let rises = holds-rises (tab .holds) e j l h in
+            let rises = holds-rises (held tab) e j l h in
             let not-n : (total (prefix-at tab e) ≡ n → ⊥) = λ i. eqb-false (total-at t e) n (q .3 (omega (arith, b .inside))) (record-total tab e (omega arith) ∙ i) in
             ⊎-elim (λ lt. omega (arith, lt, rises)) (λ le. let i : total (prefix-at tab e) ≡ n = omega (arith, at-end, le) in absurd (not-n i))
             (lt-or-le n (total (prefix-at tab e)));

@@ -1,4 +1,5 @@
 -- Document 01, "The judge": the verdict and the order, as they are read from a table that holds the prefixes of the log.
+use mathlib.Core.Path.{_≡_}
 use mathlib.Core.Bool.{Bool, true, false, _&&_, cond}
 use mathlib.Core.List.{List, _++_}
 use mathlib.Core.Option.{Option, none, some}
@@ -9,7 +10,7 @@ use Rattle.profile.specs.Lists.{below, equal?, first-place}
 use Rattle.profile.specs.Traces.{independent}
 use Rattle.profile.specs.Automata.{Profile, automaton, meets}
 use Rattle.profile.specs.Prefixes.{prefix-count, total}
-use Rattle.profile.specs.Tables.{Holds, layout, record-length}
+use Rattle.profile.specs.Tables.{layout, record-length, table-of}
 use Rattle.theory.proofs.Refusals.{GoodLog, GoodProfile}
 pub use Rattle.theory.proofs.Demands.{order-of}
 use Rattle.counts.specs.Counts.{add-count, counts-in}
@@ -24,7 +25,7 @@ pub record Table (p : Profile) (w t : List ℕ) : Type 0 where
   pub profile : GoodProfile p
   pub log : GoodLog (p .k) w
   pub before : List ℕ
-  pub holds : Holds layout (independent (p .masks)) (λ a. a) (automaton p) (p .k) w before t
+  pub holds : t ≡ table-of layout (independent (p .masks)) (λ a. a) (automaton p) (p .k) w before
   pub room : record-length layout * record-count p w ≤ length t
 
 -- there is an order

@@ -8,12 +8,12 @@ use Prim.Native.Nat.{ℕ, _+_, _*_, _≤_, _<_}
 use native.Mathlib.Omega.{arith}
 use lib.ListN.{length, drop, length-append}
 use Rattle.profile.specs.Automata.{Profile, profile-of}
-use Rattle.profile.specs.Lists.{Rising, flat-map}
+use Rattle.profile.specs.Lists.{flat-map}
 use Rattle.profile.specs.Refusals.{log-refusals, lowest, profile-refusals, short-buffer}
 use Rattle.profile.specs.declared.Refusal.{Refusal}
 use Rattle.profile.specs.declared.Refusal.the-variants.{ShortBuffer}
 use Rattle.profile.specs.declared.Shape.{Shape}
-use Rattle.profile.proofs.Lists.{flat-map-length}
+use Rattle.profile.proofs.Lists.{Rising, flat-map-length}
 use Rattle.theory.proofs.Refusals.{GoodLog, GoodProfile, lowest-append}
 use Rattle.logfile.specs.Files.{filled}
 use Rattle.logfile.proofs.Answers.{content-rises, no-larger, numbers, room}

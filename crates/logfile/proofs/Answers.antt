@@ -8,12 +8,12 @@ use Prim.Native.Nat.{ℕ, _+_, _*_, _≤_, _<_}
 use native.Mathlib.Omega.{arith}
 use lib.Dec.{T, leb, leb→le}
 use lib.ListN.{length, drop}
-use Rattle.profile.specs.Lists.{Mem, Rising, all}
+use Rattle.profile.specs.Lists.{Mem, all}
 use Rattle.profile.specs.Refusals.{lowest, refusal-number, short-buffer}
 use Rattle.profile.specs.declared.Refusal.{Refusal}
 use Rattle.profile.specs.declared.Refusal.the-variants.{ShortBuffer}
 use Rattle.profile.specs.declared.Shape.{Shape}
-use Rattle.profile.proofs.Lists.{all-at}
+use Rattle.profile.proofs.Lists.{Rising, all-at}
 use Rattle.theory.proofs.Refusals.{lowest-append}
 use Rattle.logfile.specs.Files.{field, file-masks, file-moves, file-refusals, file-shape, filled, log-length, read-refusal, read-refusals, reading, section, short-buffers}
 use Rattle.logfile.specs.declared.Reading.{Reading}

@@ -12,7 +12,7 @@ use lib.Seq.{sets, drop-append-add, drop-cons, drop-drop, getD-append-add, sets-
 use Rattle.profile.specs.Lists.{Mem, below, filter, flat-map, range}
 use Rattle.profile.specs.Prefixes.{count, one}
 use Rattle.profile.specs.Traces.{letters-below}
-use Rattle.profile.proofs.Lists.{below-suc, filter-no, filter-none, filter-yes, flat-map-append, fst-of, is-false, is-true, lt-or-le, snd-of, test}
+use Rattle.profile.proofs.Lists.{below-suc, filter-no, filter-none, filter-yes, flat-map-append, fst-of, is-false, is-true, lt-or-le, snd-of, test, range-append}
 use Rattle.theory.proofs.Prefixes.{one-other, one-same}
 use Rattle.theory.proofs.Counting.{at-map, length-range}
 use Rattle.places.specs.Places.{place-start, place-table, places-from, places-of}
@@ -77,13 +77,6 @@ places-more w l k h =
     let e = place-table-more k w in
     fill-more t (places-of w k) l (length t) refl (omega arith)
     ∙ ap₂ (λ a n. a ++ drop n l) (sym (ap (λ m. place-table m w) (add-one k) ∙ place-table-suc k w)) (sym e)
-
-range-append : (a m n : ℕ) → range a (m + n) ≡ range a m ++ range (a + m) n
-range-append a zero n = let e : 0 + n ≡ n = omega arith in let d : a ≡ a + 0 = omega arith in ap (range a) e ∙ ap (λ b. range b n) d
-range-append a (suc m) n =
-    let e : suc m + n ≡ suc (m + n) = omega arith in
-    let d : suc a + m ≡ a + suc m = omega arith in
-    ap (range a) e ∙ ap (_∷_ a) (range-append (suc a) m n ∙ ap (λ b. range (suc a) m ++ range b n) d)
 
 -- the table is that of the letters below x, the places of x, and those of the letters above
 above : ℕ → List ℕ → ℕ → List ℕ

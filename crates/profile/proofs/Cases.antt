@@ -10,8 +10,9 @@ use lib.ListN.{replicate}
 use Rattle.profile.specs.Lists.{Mem, all, any, equal?}
 use Rattle.profile.specs.Traces.{Reachable, independent, orders}
 use Rattle.profile.specs.Automata.{Profile, automaton}
-use Rattle.profile.specs.Prefixes.{at, backward, forward, looks as looks-by, prefix-count}
+use Rattle.profile.specs.Prefixes.{at, backward, by-total, forward, looks as looks-by, prefix-count}
 use Rattle.profile.specs.Orders.{accepted-order}
+use Rattle.profile.specs.Tables.{layout, table-of}
 use Rattle.profile.proofs.Lists.{all-at, any-at, equal-test, fst-of, snd-of}
 use Rattle.profile.proofs.Traces.{reach-orders}
 
@@ -237,6 +238,25 @@ right-of r t =
             eqb→eq (backward-of r (e .0)) (e .2) (snd-of (eqb (forward-of r (e .0)) (e .1)) (eqb (backward-of r (e .0)) (e .2)) x),
           );
     }
+
+-- "case M9 now reads empty, b, a, ab" (document 02, Paper 5): its table in 26 numbers, a row for each record, counts in four numbers, then forward and
+-- backward; the last two numbers are as before
+pub M9-records : table-of layout (independent ab) (λ a. a) (automaton (alt ab)) 2 (1 ∷ 0 ∷ []) (replicate 26 7)
+    ≡ 0 ∷ 0 ∷ 0 ∷ 0 ∷ 1 ∷ 1
+    ∷ 256 ∷ 0 ∷ 0 ∷ 0 ∷ 0 ∷ 0
+    ∷ 1 ∷ 0 ∷ 0 ∷ 0 ∷ 2 ∷ 2
+    ∷ 257 ∷ 0 ∷ 0 ∷ 0 ∷ 1 ∷ 1
+    ∷ 7 ∷ 7 ∷ []
+M9-records = refl
+
+-- M2's prefixes in the order of their records: by total, then by the count of a
+pub M2-order : by-total (independent ab) (λ a. a) 2 (1 ∷ 1 ∷ 0 ∷ 0 ∷ [])
+    ≡ (0 ∷ 0 ∷ [])
+    ∷ (0 ∷ 1 ∷ []) ∷ (1 ∷ 0 ∷ [])
+    ∷ (0 ∷ 2 ∷ []) ∷ (1 ∷ 1 ∷ []) ∷ (2 ∷ 0 ∷ [])
+    ∷ (1 ∷ 2 ∷ []) ∷ (2 ∷ 1 ∷ [])
+    ∷ (2 ∷ 2 ∷ []) ∷ []
+M2-order = refl
 
 -- M1 to M9 and the further rows: verdict with its order, P, looks, exactly the reachable logs, and the sets
 pub cases : (r : Row) → Mem r (worked ++ further) → Right r

@@ -9,7 +9,7 @@ use native.Mathlib.Nat.{zero-add}
 use lib.ListN.{length, getD, length-append, List·getD-append}
 use lib.Seq.{getD-append-add}
 use lib.Dec.{T, not-T, eqb, eqb→eq, eqb-refl, ltb, ltb→lt, nltb→le}
-use Rattle.profile.specs.Lists.{Mem, NoDup, Rising, all, any, below, equal?, filter, flat-map, range}
+use Rattle.profile.specs.Lists.{Mem, all, any, below, equal?, filter, flat-map, range}
 
 -- ---- tests
 
@@ -144,6 +144,14 @@ range-of (suc n) a x h k = go (lt-or-le a x) (range-of n (suc a) x)
     go (inl l) f = List·Memᴰ·tail (f l (omega arith))
     go (inr l) f = let e : x ≡ a = omega arith in List·Memᴰ·head e
 
+-- the first m numbers, then the others
+pub range-append : (a m n : ℕ) → range a (m + n) ≡ range a m ++ range (a + m) n
+range-append a zero n = let e : 0 + n ≡ n = omega arith in let d : a ≡ a + 0 = omega arith in ap (range a) e ∙ ap (λ b. range b n) d
+range-append a (suc m) n =
+    let e : suc m + n ≡ suc (m + n) = omega arith in
+    let d : suc a + m ≡ a + suc m = omega arith in
+    ap (range a) e ∙ ap (_∷_ a) (range-append (suc a) m n ∙ ap (λ b. range (suc a) m ++ range b n) d)
+
 pub below-at : (k x : ℕ) → Mem x (below k) → x < k
 below-at k x m = omega (arith, range-at k 0 x m .1)
 
@@ -176,6 +184,11 @@ module _ {A : Type 0} where
 -- ---- lists without repeats
 
 module _ {A : Type 0} where
+  -- no element stands twice
+  abbrev pub NoDup : List A → Type 0
+  NoDup [] = Unit {0}
+  NoDup (a ∷ l) = (Mem a l → ⊥) × NoDup l
+
   -- l without the element at that place
   drop-at : {a : A} {l : List A} → Mem a l → List A
   drop-at (List·Memᴰ·head {xs = l} e) = l
@@ -295,13 +308,10 @@ module _ {A : Type 0} where
   nodup-place (a ∷ l) d n (suc i) zero h k e = absurd (n .0 (Memᴰ·cast (sym e) (mem-getD l i d (omega arith))))
   nodup-place (a ∷ l) d n (suc i) (suc j) h k e = ap suc (nodup-place l d (n .1) i j (omega arith) (omega arith) e)
 
--- in a rising list the number at a later place is no smaller
-pub rising-getD : (l : List ℕ) → Rising l → (i j : ℕ) → i ≤ j → j < length l → getD l i 0 ≤ getD l j 0
-rising-getD [] r i j h k = absurd (omega arith)
-rising-getD (n ∷ l) r zero zero h k = omega arith
-rising-getD (n ∷ l) r zero (suc j) h k = r .0 (getD l j 0) (mem-getD l j 0 (omega arith))
-rising-getD (n ∷ l) r (suc i) zero h k = absurd (omega arith)
-rising-getD (n ∷ l) r (suc i) (suc j) h k = rising-getD l (r .1) i j (omega arith) (omega arith)
+-- no number is above a later one
+abbrev pub Rising : List ℕ → Type 0
+Rising [] = Unit {0}
+Rising (n ∷ l) = ((m : ℕ) → Mem m l → n ≤ m) × Rising l
 
 -- where all lists f a have n elements
 module _ {A B : Type 0} (f : A → List B) (n : ℕ) (even : (a : A) → length (f a) ≡ n) where

@@ -1,16 +1,14 @@
 -- What the relations of document 01 say, taken apart, and a record's counts computed.
 use mathlib.Core.Path.{_≡_, refl}
 use mathlib.Core.Bool.{Bool, not}
-use mathlib.Core.List.{List, [], _∷_, _++_, map}
-use Prim.Native.Nat.{ℕ, _*_, _<_}
+use mathlib.Core.List.{List, [], _∷_, _++_}
+use Prim.Native.Nat.{ℕ, _<_}
 use lib.Dec.{T}
-use lib.ListN.{length, drop}
-use Rattle.profile.specs.Lists.{NoDup, Rising, flat-map}
 use Rattle.profile.specs.Traces.{Reachable, bit}
 use Rattle.profile.specs.Automata.{Accepted, Automaton}
-use Rattle.profile.specs.Prefixes.{IsPrefix, count, total}
+use Rattle.profile.specs.Prefixes.{IsPrefix, count}
 use Rattle.profile.specs.Orders.{NoLater, Same, smaller}
-use Rattle.profile.specs.Tables.{Holds, Layout, count-field, layout, packed, record-length, record-of}
+use Rattle.profile.specs.Tables.{count-field, layout, packed}
 
 -- "each is reachable from the other"
 pub same-back : (may : ℕ → ℕ → Bool) (v w : List ℕ) → Same may v w → Reachable may w v
@@ -28,17 +26,6 @@ accepted-final p = p .ends
 -- "the smaller letter is earlier"
 pub smaller-earlier : (a b : ℕ) (u v : List ℕ) → a < b → NoLater (a ∷ u) (b ∷ v)
 smaller-earlier a b u v h = smaller h
-
--- "Every prefix has one record, in rising order of total count …. Numbers past record P − 1 are not written"
-module _ {L : Layout} {may : ℕ → ℕ → Bool} {letter : ℕ → ℕ} {M : Automaton} {k : ℕ} {w before after : List ℕ} (h : Holds L may letter M k w before after) where
-  pub one-record : NoDup (h .order)
-  one-record = h .once
-
-  pub by-total : Rising (map total (h .order))
-  by-total = h .rises
-
-  pub rest-stays : after ≡ flat-map (record-of L may letter M w) (h .order) ++ drop (record-length L * length (h .order)) before
-  rest-stays = h .written
 
 -- "letter i has bits 8 × (i mod 4) and up of number i div 4", of letters 0, 3 and 4
 pub fields : (count-field layout (packed layout (1 ∷ 2 ∷ 3 ∷ 4 ∷ 5 ∷ [])) 0 ≡ 1) × (count-field layout (packed layout (1 ∷ 2 ∷ 3 ∷ 4 ∷ 5 ∷ [])) 3 ≡ 4)

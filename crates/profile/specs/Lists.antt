@@ -1,7 +1,7 @@
 -- Lists: the words that the other definitions use.
 use mathlib.Core.Bool.{Bool, true, false, _&&_, _||_}
 use mathlib.Core.List.{List, [], _∷_, _++_, List·Memᴰ}
-use Prim.Native.Nat.{ℕ, zero, suc, _≤_}
+use Prim.Native.Nat.{ℕ, zero, suc}
 use lib.Dec.{eqb}
 
 module _ {A : Type 0} where
@@ -29,11 +29,6 @@ module _ {A : Type 0} where
   first-place p [] = 0
   first-place p (a ∷ l) = elim (p a) [ true ↦ 0 | false ↦ suc (first-place p l) ]
 
-  -- no element stands twice
-  abbrev pub NoDup : List A → Type 0
-  NoDup [] = Unit {0}
-  NoDup (a ∷ l) = (Mem a l → ⊥) × NoDup l
-
 -- the lists f a, one after the other
 module _ {A B : Type 0} where
   abbrev pub flat-map : (A → List B) → List A → List B
@@ -54,8 +49,3 @@ equal? [] [] = true
 equal? [] (b ∷ v) = false
 equal? (a ∷ u) [] = false
 equal? (a ∷ u) (b ∷ v) = eqb a b && equal? u v
-
--- no number is above a later one
-abbrev pub Rising : List ℕ → Type 0
-Rising [] = Unit {0}
-Rising (n ∷ l) = ((m : ℕ) → Mem m l → n ≤ m) × Rising l

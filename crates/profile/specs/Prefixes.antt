@@ -85,6 +85,18 @@ abbrev pub total : List ℕ → ℕ
 total [] = 0
 total (n ∷ c) = n + total c
 
+-- the prefixes of total n; all prefixes "in rising order of total count". "Within one total, records now stand by their counts, the count of letter 0 first,
+-- the smaller first" (document 02, Paper 5): so `vectors` lists them
+abbrev pub level : (ℕ → ℕ → Bool) → (ℕ → ℕ) → ℕ → List ℕ → ℕ → List (List ℕ)
+level may letter k w n = filter (λ c. eqb (total c) n) (prefixes may letter k w)
+
+abbrev pub by-total : (ℕ → ℕ → Bool) → (ℕ → ℕ) → ℕ → List ℕ → List (List ℕ)
+by-total may letter k w = flat-map (level may letter k w) (below (suc (length w)))
+
+-- that order of counts: the letter order of the counts with their total before them
+abbrev pub ranked : List ℕ → List ℕ
+ranked c = total c ∷ c
+
 -- "forward": states to which some order of the marked events leads from the start
 abbrev pub forward : (ℕ → ℕ → Bool) → (ℕ → ℕ) → Automaton → List ℕ → (ℕ → ℕ) → ℕ
 forward may letter M w c = union (run M letter (M .start)) (orders may (marked letter w c))

@@ -1,13 +1,11 @@
--- Document 01, "Prefixes and their table": the record of a prefix, and what it is for a table to hold the prefixes of a log.
-use mathlib.Core.Path.{_≡_}
+-- Document 01, "Prefixes and their table": the record of a prefix, and the table of a log.
 use mathlib.Core.Bool.{Bool}
-use mathlib.Core.Logic.{_↔_}
 use mathlib.Core.List.{List, [], _∷_, _++_, map}
 use Prim.Native.Nat.{ℕ, _+_, _*_, _/_, _%_, _^_, min}
-use lib.ListN.{length, getD, take, drop}
-use Rattle.profile.specs.Lists.{Mem, NoDup, Rising, below, flat-map}
+use lib.ListN.{getD, take, drop}
+use Rattle.profile.specs.Lists.{below, flat-map}
 use Rattle.profile.specs.Automata.{Automaton}
-use Rattle.profile.specs.Prefixes.{at, backward, forward, prefixes, total}
+use Rattle.profile.specs.Prefixes.{at, backward, by-total, forward, prefix-count}
 
 -- how a record holds its counts: the bits of a count, the counts in one number, and how many numbers hold counts
 pub record Layout : Type 0 where
@@ -40,14 +38,11 @@ packed L c = map (λ j. pack (L .width) (take (L .per) (drop (j * L .per) c))) (
 abbrev pub record-of : Layout → (ℕ → ℕ → Bool) → (ℕ → ℕ) → Automaton → List ℕ → List ℕ → List ℕ
 record-of L may letter M w c = packed L c ++ (forward may letter M w (at c) ∷ backward may letter M w (at c) ∷ [])
 
--- "Every prefix has one record, in rising order of total count; the order within one total is free. Numbers past record P − 1 are not written":
--- the table `before` became `after`, and `order` is the order of its records
-pub record Holds (L : Layout) (may : ℕ → ℕ → Bool) (letter : ℕ → ℕ) (M : Automaton) (k : ℕ) (w before after : List ℕ) : Type 0 where
-  pub order : List (List ℕ)
-  pub once : NoDup order
-  pub every : (c : List ℕ) → Mem c order ↔ Mem c (prefixes may letter k w)
-  pub rises : Rising (map total order)
-  pub written : after ≡ flat-map (record-of L may letter M w) order ++ drop (record-length L * length order) before
+-- "Every prefix has one record, in rising order of total count"; "Within one total, records now stand by their counts" (document 02, Paper 5). "Numbers
+-- past record P − 1 are not written": what the table `before` becomes
+abbrev pub table-of : Layout → (ℕ → ℕ → Bool) → (ℕ → ℕ) → Automaton → ℕ → List ℕ → List ℕ → List ℕ
+table-of L may letter M k w before =
+    flat-map (record-of L may letter M w) (by-total may letter k w) ++ drop (record-length L * prefix-count may letter k w) before
 
 -- "a rest below six, and all numbers past the first 4,294,967,292, are unused": the records that a table of n numbers has place for
 abbrev pub capacity : Layout → ℕ → ℕ

@@ -4,9 +4,8 @@ use Prim.Native.Nat.{ℕ, _^_}
 use Rattle.profile.specs.Lists.{flat-map}
 use Rattle.profile.specs.Traces.{independent}
 use Rattle.profile.specs.Automata.{Profile, automaton, union}
-use Rattle.profile.specs.Prefixes.{additions, at, backward, forward}
+use Rattle.profile.specs.Prefixes.{additions, at, backward, by-total, forward, level}
 use Rattle.profile.specs.Tables.{layout, packed, record-of}
-use Rattle.theory.proofs.Levels.{by-total, level}
 
 -- a record with f and g of the counts behind them
 abbrev pub draft : (List ℕ → ℕ) → (List ℕ → ℕ) → List ℕ → List ℕ

@@ -7,11 +7,10 @@ ghost use Rattle.profile.specs.Tables.{layout, record-length};
 ghost use Rattle.counts.specs.Counts.{words};
 ghost use Rattle.records.specs.Records.{counts-at, forward-at, last-at, put-record, records-in};
 use counts::Counts;
+use counts::NUMBERS;
 
-// The numbers of a record, and those of its counts.
+// The numbers of a record.
 const RECORD: usize = 6;
-
-const NUMBERS: usize = 4;
 
 // How many records a part of the table has.
 pub fn records_in(t: &[u32]) -> usize

@@ -1,25 +1,21 @@
--- The records of all prefixes by rising total hold the prefixes; which refusal a table that is too small or large enough gets.
-use mathlib.Core.Path.{_≡_, refl, sym, _∙_, ap, subst}
+-- Which refusal a table that is too small or large enough gets, and the table that the two passes leave.
+use mathlib.Core.Path.{_≡_, refl, sym, _∙_, ap}
 use mathlib.Core.Bool.{Bool}
-use mathlib.Core.Logic.{⊎-elim}
-use mathlib.Core.List.{List, [], _∷_, _++_, map, append-assoc, List·Memᴰ·append-cases, List·Memᴰ·head, List·Memᴰ·not-nil, List·Memᴰ·tail, Memᴰ·of-map, map-append}
+use mathlib.Core.List.{List, [], _∷_, _++_, append-assoc}
 use mathlib.Core.Option.{none, some}
-use Prim.Native.Nat.{ℕ, zero, suc, _*_, _≤_, _<_}
+use Prim.Native.Nat.{ℕ, _*_, _≤_, _<_}
 use native.Mathlib.Omega.{arith}
 use borrow.Author.Tests.{lt-ltb, le-ltb}
-use lib.Dec.{eqb, eqb→eq}
 use lib.ListN.{length, drop}
 use lib.Seq.{drop-at}
-use Rattle.profile.specs.Lists.{Mem, Rising, flat-map, range}
 use Rattle.profile.specs.Traces.{independent}
-use Rattle.profile.specs.Automata.{Profile, automaton}
-use Rattle.profile.specs.Prefixes.{prefix-count, prefixes, total}
-use Rattle.profile.specs.Tables.{Holds, capacity, layout, record-length, record-of}
+use Rattle.profile.specs.Automata.{Profile}
+use Rattle.profile.specs.Prefixes.{prefix-count}
+use Rattle.profile.specs.Tables.{capacity, layout, record-length}
 use Rattle.profile.specs.Refusals.{full-table, log-refusals, lowest, profile-refusals}
 use Rattle.profile.specs.declared.Refusal.{Refusal}
 use Rattle.profile.specs.declared.Refusal.the-variants.{FullTable}
-use Rattle.profile.proofs.Lists.{filter-at}
-use Rattle.theory.proofs.Levels.{by-total, by-total-at, by-total-length, by-total-nodup, by-total-of, level}
+use Rattle.theory.proofs.Levels.{by-total-length}
 use Rattle.theory.proofs.Refusals.{log-at, lowest-append, lowest-first, profile-at}
 use Rattle.profile.proofs.Lists.{flat-map-length}
 use Rattle.forward.specs.Forward.{Forward}
@@ -33,69 +29,7 @@ use Rattle.records.specs.Drafts.{draft, drafted, filled, forward-set, in-order,
 pub behind-own : (a b l : List ℕ) (n : ℕ) → length a ≡ n → l ≡ a ++ b → l ≡ a ++ drop n l
 behind-own a b l n e q = q ∙ ap (λ r. a ++ r) (sym (ap (drop n) q ∙ drop-at a b n e))
 
--- ---- rising totals
-
--- two lists of rising numbers, the second no smaller than the first
-rising-append : (l r : List ℕ) → Rising l → Rising r → ((a b : ℕ) → Mem a l → Mem b r → a ≤ b) → Rising (l ++ r)
-rising-append [] r h k le = k
-rising-append (n ∷ l) r h k le = (
-  λ m i. ⊎-elim (h .0 m) (λ j. le n m (List·Memᴰ·head refl) j) (List·Memᴰ·append-cases l i),
-  rising-append l r (h .1) k (λ a b i j. le a b (List·Memᴰ·tail i) j),
-)
-
--- numbers that are all n
-rising-same : (n : ℕ) (l : List ℕ) → ((m : ℕ) → Mem m l → m ≡ n) → Rising l
-rising-same n [] h = tt
-rising-same n (a ∷ l) h =
-    ((λ m i. omega (arith, h a (List·Memᴰ·head refl), h m (List·Memᴰ·tail i))), rising-same n l (λ m i. h m (List·Memᴰ·tail i)))
-
-module _ (may : ℕ → ℕ → Bool) (letter : ℕ → ℕ) (k : ℕ) (w : List ℕ) where
-  -- what stands in level n has total n
-  level-total : (n m : ℕ) → Mem m (map total (level may letter k w n)) → m ≡ n
-  level-total n m i =
-      let c = Memᴰ·of-map total (level may letter k w n) i in
-      sym (c .2) ∙ eqb→eq (total (c .0)) n (filter-at (λ d. eqb (total d) n) (prefixes may letter k w) (c .1) .1)
-
-  levels-rise : (n a : ℕ) → Rising (map total (flat-map (level may letter k w) (range a n)))
-      × ((m : ℕ) → Mem m (map total (flat-map (level may letter k w) (range a n))) → a ≤ m)
-  levels-rise zero a = (tt, λ m i. absurd (List·Memᴰ·not-nil i))
-  levels-rise (suc n) a =
-      let l = level may letter k w a in
-      let r = flat-map (level may letter k w) (range (suc a) n) in
-      let ih = levels-rise n (suc a) in
-      let e = map-append total l r in (
-        rw e (rising-append (map total l) (map total r) (rising-same a (map total l) (level-total a)) (ih .0)
-            (λ x y i j. omega (arith, level-total a x i, ih .1 y j))),
-        λ m i. ⊎-elim (λ j. omega (arith, level-total a m j)) (λ j. omega (arith, ih .1 m j)) (List·Memᴰ·append-cases (map total l) (rw e at i)),
-      )
-
-  by-total-rises : Rising (map total (by-total may letter k w))
-  by-total-rises = levels-rise (suc (length w)) 0 .0
-
--- ---- the promise
-
-module _ (p : Profile) (w : List ℕ) (before : List ℕ) where
-  -- the number of prefixes
-  abbrev P : ℕ
-  P = prefix-count (independent (p .masks)) (λ a. a) (p .k) w
-
-  -- the table that the two passes leave
-  abbrev passed : List ℕ
-  passed = flat-map (record-of layout (independent (p .masks)) (λ a. a) (automaton p) w) (by-total (independent (p .masks)) (λ a. a) (p .k) w)
-      ++ drop (record-length layout * P) before
-
-  pub holds : {m room : ℕ} → Sound p w m room → (after : List ℕ) → after ≡ passed → Holds layout (independent (p .masks)) (λ a. a) (automaton p) (p .k) w before after
-  holds s after e = record {
-    order = by-total (independent (p .masks)) (λ a. a) (p .k) w;
-    once = by-total-nodup (independent (p .masks)) (λ a. a) (p .k) w;
-    every = λ c. (
-      by-total-at (independent (p .masks)) (λ a. a) (p .k) w c,
-      by-total-of (independent (p .masks)) (λ a. a) (p .k) w c (s .log .letters),
-    );
-    rises = by-total-rises (independent (p .masks)) (λ a. a) (p .k) w;
-    written = e ∙ ap (λ n. flat-map (record-of layout (independent (p .masks)) (λ a. a) (automaton p) w) (by-total (independent (p .masks)) (λ a. a) (p .k) w)
-        ++ drop (record-length layout * n) before) (sym (by-total-length (independent (p .masks)) (λ a. a) (p .k) w (s .log .letters)));
-  }
+-- ---- which refusal
 
 -- the condition of 10
 abbrev tenth : Profile → List ℕ → ℕ → List (Bool × Refusal)
@@ -142,7 +76,7 @@ module _ (p : Profile) (w before : List ℕ) {room : ℕ} (s : Sound p w (length
       table = (
         h .0,
         h .2,
-        holds p w before s last (e ∙ ap (λ t. filled p w (in-order p w) ++ t) (same ∙ ap (λ m. drop (record-length layout * m) before) (h .0))),
+        e ∙ ap (λ t. filled p w (in-order p w) ++ t) (same ∙ ap (λ m. drop (record-length layout * m) before) (h .0)),
       );
     }
       where

@@ -9,7 +9,7 @@ use lib.ListN.{length}
 use Rattle.profile.specs.Traces.{independent}
 use Rattle.profile.specs.Automata.{Profile, automaton}
 use Rattle.profile.specs.Prefixes.{looks, prefix-count}
-use Rattle.profile.specs.Tables.{Holds, capacity, layout}
+use Rattle.profile.specs.Tables.{capacity, layout, table-of}
 use Rattle.profile.specs.Refusals.{full-table, log-refusals, lowest, profile-refusals}
 use Rattle.theory.proofs.Refusals.{GoodLog, GoodProfile}
 use Rattle.profile.specs.declared.Refusal.{Refusal}
@@ -41,7 +41,7 @@ promised p w before after (Refused r) = r ≢ FullTable → after ≡ before
 promised p w before after (Filled P n) =
     (P ≡ prefix-count (independent (p .masks)) (λ a. a) (p .k) w)
     × (n ≡ looks (independent (p .masks)) (λ a. a) (p .k) w)
-    × Holds layout (independent (p .masks)) (λ a. a) (automaton p) (p .k) w before after
+    × (after ≡ table-of layout (independent (p .masks)) (λ a. a) (automaton p) (p .k) w before)
 
 -- which refusal is given, and what is promised of the table, after an answer r
 pub record Promise (p : Profile) (w before after : List ℕ) (r : Built) : Type 0 where

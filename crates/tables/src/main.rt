@@ -1,5 +1,5 @@
 // Prints the tables of worked cases: P and looks, then the table of sixty numbers, six to a line. A number that is not written stays 7; after
-// refusal 10 the table is free and is not printed.
+// refusal 10 the table is free and is not printed. M9's and M7's logs come twice, as two readers recorded them: their tables are printed the same.
 use libc::STDOUT_FILENO;
 use profile::Shape;
 use table::Built;
@@ -119,9 +119,11 @@ fn main() {
     alt(&empty);
     alt(&[1u8, 1, 0, 0]);
     alt(&[1u8, 0]);
+    alt(&[0u8, 1]);
     alt_by(&[0u16, 1], &[1u8, 0]);
     alt_by(&[2u16, 0], &[1u8, 0]);
     free(4, &[2u16, 1, 0, 0], &[0u8, 1, 2, 1, 0, 3]);
+    free(4, &[2u16, 1, 0, 0], &[1u8, 0, 2, 0, 1, 3]);
     free(3, &[2u16, 5, 2], &[2u8, 0, 1]);
     sixteen_letters();
     thirty_two_states();

@@ -12,7 +12,7 @@ use lib.Dec.{T}
 use lib.ListN.{length, length-map, List·getD-eq-default}
 use lib.Seq.{ext-getD}
 use Rattle.profile.specs.Automata.{Automaton}
-use Rattle.profile.specs.Lists.{Mem, NoDup, below}
+use Rattle.profile.specs.Lists.{Mem, below}
 use Rattle.profile.specs.Orders.{Same, accepted-order, first-order}
 use Rattle.profile.specs.Prefixes.{IsPrefix, at, count, forward, marked, prefix-count, prefixes}
 use Rattle.profile.specs.Source.{Congruent, InLanguage, InTrace, TracePrefix, cong-sym}
@@ -21,7 +21,7 @@ use Rattle.theory.proofs.Automata.{Lawful, forward-at, forward-of}
 use Rattle.theory.proofs.Counting.{at-map, count-above, length-range, prefix-count-of, prefixes-at, prefixes-nodup, prefixes-of}
 use Rattle.theory.proofs.Earliest.{first-same, same-first}
 use Rattle.theory.proofs.Judgement.{accepted-order-at, accepted-order-not}
-use Rattle.profile.proofs.Lists.{lt-or-le, map-nodup-on}
+use Rattle.profile.proofs.Lists.{NoDup, lt-or-le, map-nodup-on}
 use Rattle.theory.proofs.Prefixes.{count-of-prefix, count-order, prefix-of-takes, takes-of-prefix}
 use Rattle.profile.proofs.Traces.{Order, Takes, cong-of-reach, order-of-reach, order-trans, reach-of-cong, reach-of-order, reach-of-takes, reach-sym, reach-trans, takes-refl, takes-split}
 

@@ -11,11 +11,10 @@ use lib.ListN.{length}
 use Rattle.profile.specs.Automata.{Automaton, accepted?}
 use Rattle.profile.specs.Lists.{Mem, below, filter, flat-map}
 use Rattle.profile.specs.Orders.{NoLater, accepted-order, earliest, least}
-use Rattle.profile.specs.Prefixes.{IsPrefix, at, closed?, count, prefix-count, prefixes, total, vectors}
+use Rattle.profile.specs.Prefixes.{IsPrefix, at, by-total, closed?, count, prefix-count, prefixes, total, vectors}
 use Rattle.profile.specs.Traces.{Reachable, exchange, itself, letters-below, orders}
 use Rattle.theory.proofs.Counting.{prefix-count-reach, prefixes-at, prefixes-nodup, prefixes-of}
 use Rattle.theory.proofs.Earliest.{earliest-at, least-le, no-later-antisym}
-use Rattle.theory.proofs.Levels.{by-total}
 use Rattle.profile.proofs.Lists.{filter-agree, filter-at, filter-of, nodup-length}
 use Rattle.theory.proofs.Prefixes.{count-order, prefix-of-order, prefix-test}
 use Rattle.profile.proofs.Sets.{T-eq}

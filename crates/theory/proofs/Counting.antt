@@ -7,10 +7,10 @@ use Prim.Native.Nat.{ℕ, zero, suc, _+_, _≤_, _<_}
 use native.Mathlib.Omega.{arith}
 use lib.Dec.{T, ltb, ltb→lt}
 use lib.ListN.{length, List·getD-eq-default}
-use Rattle.profile.specs.Lists.{Mem, NoDup, below, range}
+use Rattle.profile.specs.Lists.{Mem, below, range}
 use Rattle.profile.specs.Prefixes.{IsPrefix, at, closed?, count, prefix-count, prefixes, vectors}
 use Rattle.profile.specs.Traces.{Reachable, letters-below}
-use Rattle.profile.proofs.Lists.{below-at, below-of, filter-at, filter-nodup, filter-of, flat-map-at, flat-map-nodup, flat-map-of, fst-of, lt-or-le, map-nodup, nodup-length, range-nodup, snd-of}
+use Rattle.profile.proofs.Lists.{NoDup, below-at, below-of, filter-at, filter-nodup, filter-of, flat-map-at, flat-map-nodup, flat-map-of, fst-of, lt-or-le, map-nodup, nodup-length, range-nodup, snd-of}
 use Rattle.theory.proofs.Prefixes.{one-cases, prefix-of-order, prefix-test}
 use Rattle.profile.proofs.Traces.{order-of-reach}
 

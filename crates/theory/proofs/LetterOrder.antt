@@ -1,11 +1,11 @@
 -- Letter order: what it compares, and that it is a total order with a test.
 use mathlib.Core.Path.{_≡_, refl, sym, ap, ap₂, subst, subst₂}
-use mathlib.Core.Bool.{_&&_}
+use mathlib.Core.Bool.{not, _&&_}
 use mathlib.Core.Logic.{_⊎_, inl, inr, ⊎-elim, _↔_, _≢_}
 use mathlib.Core.List.{List, [], _∷_, _++_, append-cancel-left, head-eq-of-cons-eq}
 use Prim.Native.Nat.{ℕ, _<_}
 use native.Mathlib.Omega.{arith}
-use lib.Dec.{T, T-not, eqb, ltb, eqb-refl, lt→ltb}
+use lib.Dec.{T, T-not, not-T, eqb, ltb, eqb-refl, lt→ltb}
 use lib.ListN.{length}
 use Rattle.profile.specs.Orders.{Earlier, NoLater, agrees, ends, no-later?, smaller}
 use Rattle.theory.proofs.Earliest.{ge-of-test, no-later-antisym, no-later-of-test, no-later-refl, no-later-trans}
@@ -54,10 +54,17 @@ no-later-test u v = (no-later-of-test u v, passes)
 pub no-later-total : (u v : List ℕ) → NoLater u v ⊎ NoLater v u
 no-later-total u v = ⊎-elim (λ t. inl (no-later-of-test u v t)) (λ t. inr (ge-of-test u v t)) (test (no-later? u v))
 
+-- earlier, by its test
+pub earlier-test : (u v : List ℕ) → T (not (no-later? v u)) ↔ Earlier u v
+earlier-test u v = (
+  λ t. (ge-of-test v u t, λ e. T-not (no-later? v u) t (no-later-test v u .1 (subst (NoLater v) (sym e) (no-later-refl v)))),
+  λ h. not-T (no-later? v u) (λ t. h .1 (no-later-antisym (h .0) (no-later-of-test v u t))),
+)
+
 -- what is no later is the same or earlier
 pub no-later-cases : {u v : List ℕ} → NoLater u v → (u ≡ v) ⊎ Earlier u v
 no-later-cases {u} {v} h = ⊎-elim (λ t. inl (no-later-antisym h (no-later-of-test v u t)))
-    (λ t. inr (h, λ e. T-not (no-later? v u) t (no-later-test v u .1 (subst (NoLater v) (sym e) (no-later-refl v))))) (test (no-later? v u))
+    (λ t. inr (earlier-test u v .0 t)) (test (no-later? v u))
 
 pub earlier-irrefl : (u : List ℕ) → Earlier u u → ⊥
 earlier-irrefl u h = h .1 refl

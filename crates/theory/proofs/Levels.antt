@@ -9,19 +9,12 @@ use native.Mathlib.Nat.{zero-add}
 use lib.Seq.{ext-getD, getD-set-same, getD-set-other, set-set, set-getD}
 use lib.Dec.{T, eqb, eqb→eq, eqb-refl, ltb, ltb→lt}
 use lib.ListN.{length, set, length-set}
-use Rattle.profile.specs.Lists.{Mem, NoDup, below, filter, flat-map, range}
+use Rattle.profile.specs.Lists.{Mem, below, filter, flat-map, range}
 use Rattle.profile.specs.Traces.{letters-below}
-use Rattle.profile.specs.Prefixes.{IsPrefix, addable?, at, count, marked, more, one, prefix-count, prefixes, total}
+use Rattle.profile.specs.Prefixes.{IsPrefix, addable?, at, by-total, count, level, marked, more, one, prefix-count, prefixes, total}
 use Rattle.theory.proofs.Counting.{at-map, length-range, prefix-count-of, prefixes-at, prefixes-nodup, prefixes-of}
-use Rattle.profile.proofs.Lists.{below-of, filter-at, filter-nodup, filter-of, flat-map-at, flat-map-nodup, flat-map-of, fst-of, lt-or-le, range-nodup, snd-of}
+use Rattle.profile.proofs.Lists.{NoDup, below-of, filter-at, filter-nodup, filter-of, flat-map-at, flat-map-nodup, flat-map-of, fst-of, lt-or-le, range-nodup, snd-of}
 use Rattle.theory.proofs.Prefixes.{addable-at, addable-of, all-of-pick, count-of-prefix, front-length, front-marks, front-of-prefix, one-cases, one-other, one-same, prefix-last}
-
--- the prefixes of one total, and all of them by rising total, within one total the smaller count of letter 0 first
-abbrev pub level : (ℕ → ℕ → Bool) → (ℕ → ℕ) → ℕ → List ℕ → ℕ → List (List ℕ)
-level may letter k w n = filter (λ c. eqb (total c) n) (prefixes may letter k w)
-
-abbrev pub by-total : (ℕ → ℕ → Bool) → (ℕ → ℕ) → ℕ → List ℕ → List (List ℕ)
-by-total may letter k w = flat-map (level may letter k w) (below (suc (length w)))
 
 -- ---- totals
 
@@ -63,7 +56,7 @@ total-count letter k (a ∷ u) h =
     )
 
 -- a list of k counts is what it has at each letter below k
-at-below : (c : List ℕ) → map (at c) (below (length c)) ≡ c
+pub at-below : (c : List ℕ) → map (at c) (below (length c)) ≡ c
 at-below c = ext-getD 0 (map (at c) (below (length c))) c (length-range (at c) (length c) 0)
     (λ i h. at-map (at c) (length c) 0 i (omega (arith, length-range (at c) (length c) 0)) ∙ ap (at c) (zero-add i))
 

@@ -23,6 +23,7 @@ pub mod Sameness
 pub mod Packing
 pub mod Tables
 pub mod Merge
+pub mod RecordOrder
 -- refusals, and what the demands ask
 pub mod Refusals
 pub mod Agreement

@@ -9,13 +9,13 @@ use native.Mathlib.Omega.{arith}
 use lib.Dec.{T, eqb, eqb-refl}
 use lib.ListN.{length, length-append, length-map, replicate}
 use Rattle.profile.specs.Automata.{Automaton}
-use Rattle.profile.specs.Lists.{Mem, NoDup, below, filter, flat-map}
-use Rattle.profile.specs.Prefixes.{IsPrefix, addable?, additions, at, looks, more, prefix-count, prefixes, total}
+use Rattle.profile.specs.Lists.{Mem, below, filter, flat-map}
+use Rattle.profile.specs.Prefixes.{IsPrefix, addable?, additions, at, by-total, looks, more, prefix-count, prefixes, total}
 use Rattle.profile.specs.Traces.{Reachable, letters-below}
 use Rattle.theory.proofs.Comparison.{back-over, over, prefixes-same}
 use Rattle.theory.proofs.Counting.{length-range, prefixes-at, prefixes-nodup, prefixes-of}
-use Rattle.theory.proofs.Levels.{bump, by-total, by-total-at, by-total-nodup, by-total-of, level-last}
-use Rattle.profile.proofs.Lists.{below-at, below-of, filter-agree, filter-at, filter-nodup, filter-of, flat-map-agree, flat-map-append, flat-map-at, flat-map-nodup, flat-map-of, map-nodup, nodup-length, range-nodup}
+use Rattle.theory.proofs.Levels.{bump, by-total-at, by-total-nodup, by-total-of, level-last}
+use Rattle.profile.proofs.Lists.{NoDup, below-at, below-of, filter-agree, filter-at, filter-nodup, filter-of, flat-map-agree, flat-map-append, flat-map-at, flat-map-nodup, flat-map-of, map-nodup, nodup-length, range-nodup}
 use Rattle.theory.proofs.Prefixes.{addable-at, addable-of}
 use Rattle.profile.proofs.Sets.{T-eq}
 

@@ -13,14 +13,14 @@ use Rattle.profile.specs.Lists.{Mem, below, equal?, filter, first-place, flat-m
 use Rattle.profile.specs.Orders.{Earlier, NoLater, agrees, ends, smaller}
 use Rattle.profile.specs.Traces.{letters-below}
 use Rattle.profile.specs.Automata.{Automaton, union}
-use Rattle.profile.specs.Prefixes.{IsPrefix, addable?, at, backward, closed?, count, forward, less, marked, more, prefixes, total, unmarked, vectors}
+use Rattle.profile.specs.Prefixes.{IsPrefix, addable?, at, backward, closed?, count, forward, less, level, marked, more, prefixes, total, unmarked, vectors}
 use Rattle.profile.proofs.Lists.{below-at, both, equal-test, filter-agree, filter-at, filter-of, fst-of, is-false, is-true, lt-or-le, mem-getD, mem-place, snd-of, test}
 use Rattle.theory.proofs.Earliest.{no-later-antisym, no-later-refl}
 use Rattle.theory.proofs.LetterOrder.{earlier-irrefl, earlier-trans}
 use Rattle.profile.proofs.Traces.{Pick, first}
 use Rattle.theory.proofs.Prefixes.{addable-of, all-of-pick, count-front, count-of-prefix, front-all, front-length, front-marked, front-none, front-of-prefix, more-of-pick, prefix-of-front, removable-at, removable-of, removable?}
 use Rattle.theory.proofs.Counting.{at-map, count-above, length-range, prefixes-at, prefixes-of}
-use Rattle.theory.proofs.Levels.{at-bump, bump, debump, level, level-last, level-next, total-prefix}
+use Rattle.theory.proofs.Levels.{at-bump, bump, debump, level-last, level-next, total-prefix}
 use Rattle.theory.proofs.Automata.{Lawful, backward-all, backward-eq, forward-eq, forward-none}
 use Rattle.profile.proofs.Sets.{T-eq, union-agree}
 
@@ -31,7 +31,7 @@ abbrev pub Sorted : List (List ℕ) → Type 0
 Sorted [] = Unit {0}
 Sorted (c ∷ l) = ((d : List ℕ) → Mem d l → Earlier c d) × Sorted l
 
-append-sorted : (l r : List (List ℕ)) → Sorted l → Sorted r → ((c d : List ℕ) → Mem c l → Mem d r → Earlier c d) → Sorted (l ++ r)
+pub append-sorted : (l r : List (List ℕ)) → Sorted l → Sorted r → ((c d : List ℕ) → Mem c l → Mem d r → Earlier c d) → Sorted (l ++ r)
 append-sorted [] r s t f = t
 append-sorted (c ∷ l) r s t f = (
   (λ d m. ⊎-elim (s .0 d) (f c d (List·Memᴰ·head refl)) (List·Memᴰ·append-cases l m)),

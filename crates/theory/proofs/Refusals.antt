@@ -11,14 +11,14 @@ use lib.Pow.{pow-pos, shr-shr}
 use lib.Dec.{T, not-T, eqb, eqb→eq, ltb, lt→ltb, leb, leb→le, nleb→lt}
 use borrow.Author.Tests.{ltb-false, leb-false, eqb-true, not-false}
 use lib.ListN.{length, getD, replicate, List·getD-eq-default}
-use Rattle.profile.specs.Lists.{Mem, Rising, all, any, below}
+use Rattle.profile.specs.Lists.{Mem, all, any, below}
 use Rattle.profile.specs.Traces.{bit, independent, letters-below}
 use Rattle.profile.specs.Automata.{Profile}
 use Rattle.profile.specs.Refusals.{admission-refusals, bit-from, first-order-refusals, judge-refusal, judge-refusals, letters-out-of-range, log-refusals, lowest, mask-bit, profile-refusals, refusal-number, relation-refusals, short-buffer}
 use Rattle.profile.specs.declared.Refusal.{Refusal}
 use Rattle.profile.specs.declared.Refusal.the-variants.{FullTable, ShortBuffer}
 use Rattle.profile.proofs.Cases.{free}
-use Rattle.profile.proofs.Lists.{all-at, all-of, any-of, below-of, fst-of, is-false, lt-or-le, or-left, or-right, snd-of, test}
+use Rattle.profile.proofs.Lists.{Rising, all-at, all-of, any-of, below-of, fst-of, is-false, lt-or-le, or-left, or-right, snd-of, test}
 use Rattle.profile.proofs.Sets.{bit-below, not-in-none, some-bit}
 
 -- ---- the lowest

@@ -1,18 +1,22 @@
 -- What a table that holds the prefixes of a log has in its numbers.
-use mathlib.Core.Path.{_≡_, sym, _∙_, ap, ap₂}
+use mathlib.Core.Path.{_≡_, sym, _∙_, ap, ap₂, subst}
 use mathlib.Core.Bool.{Bool}
-use mathlib.Core.List.{List, [], _∷_, map}
+use mathlib.Core.Logic.{⊎-elim}
+use mathlib.Core.List.{List, [], _∷_}
 use Prim.Native.Nat.{ℕ, _+_, _-_, _*_, _≤_, _<_}
 use native.Mathlib.Omega.{arith}
 use lib.Arith.{digits-lt}
-use lib.ListN.{length, getD, drop, length-append, length-map, List·getD-append, List·getD-map}
+use lib.Dec.{T}
+use lib.ListN.{length, getD, drop, length-append, List·getD-append}
 use lib.Seq.{getD-append-add, getD-drop}
 use Rattle.profile.specs.Lists.{Mem, flat-map}
 use Rattle.profile.specs.Automata.{Automaton}
-use Rattle.profile.specs.Prefixes.{at, backward, forward, prefix-count, prefixes, total}
-use Rattle.profile.specs.Tables.{Holds, Layout, packed, record-length, record-of}
-use Rattle.profile.proofs.Lists.{flat-map-getD, flat-map-length, mem-getD, mem-place, nodup-place, rising-getD}
-use Rattle.theory.proofs.Counting.{prefix-count-of}
+use Rattle.profile.specs.Prefixes.{at, backward, by-total, forward, prefix-count, prefixes, total}
+use Rattle.profile.specs.Tables.{Layout, packed, record-length, record-of, table-of}
+use Rattle.profile.proofs.Lists.{flat-map-getD, flat-map-length, lt-or-le, mem-getD, mem-place, nodup-place}
+use Rattle.profile.specs.Traces.{letters-below}
+use Rattle.theory.proofs.Levels.{by-total-at, by-total-length, by-total-nodup, by-total-of}
+use Rattle.theory.proofs.RecordOrder.{by-total-sorted, ranked-getD, ranked-total}
 use Rattle.theory.proofs.Packing.{packed-length}
 
 -- ---- the record of a prefix
@@ -33,64 +37,69 @@ module _ (L : Layout) (may : ℕ → ℕ → Bool) (letter : ℕ → ℕ) (M : A
 
 -- ---- a table that holds the prefixes
 
-module _ {L : Layout} {may : ℕ → ℕ → Bool} {letter : ℕ → ℕ} {M : Automaton} {k : ℕ} {w before after : List ℕ} (h : Holds L may letter M k w before after) where
-  pub holds-count : length (h .order) ≡ prefix-count may letter k w
-  holds-count = prefix-count-of may letter k w (h .order) (h .once) (λ c. h .every c .0) (λ c. h .every c .1)
+-- the table `before` became `after`, with the prefixes of a log of letters below k
+pub record Holds (L : Layout) (may : ℕ → ℕ → Bool) (letter : ℕ → ℕ) (M : Automaton) (k : ℕ) (w before after : List ℕ) : Type 0 where
+  pub letters : T (letters-below letter k w)
+  pub written : after ≡ table-of L may letter M k w before
 
-  records-length : length (flat-map (record-of L may letter M w) (h .order)) ≡ record-length L * prefix-count may letter k w
+module _ {L : Layout} {may : ℕ → ℕ → Bool} {letter : ℕ → ℕ} {M : Automaton} {k : ℕ} {w before after : List ℕ} (h : Holds L may letter M k w before after) where
+  pub holds-count : length (by-total may letter k w) ≡ prefix-count may letter k w
+  holds-count = by-total-length may letter k w (h .letters)
+
+  records-length : length (flat-map (record-of L may letter M w) (by-total may letter k w)) ≡ record-length L * prefix-count may letter k w
   records-length =
-      flat-map-length (record-of L may letter M w) (record-length L) (record-of-length L may letter M w) (h .order) ∙ ap (λ n. record-length L * n) holds-count
+      flat-map-length (record-of L may letter M w) (record-length L) (record-of-length L may letter M w) (by-total may letter k w) ∙ ap (λ n. record-length L * n) holds-count
 
   -- number j of record r is number j of the record of prefix r
   pub holds-number : (r j : ℕ) → r < prefix-count may letter k w → j < record-length L
-      → getD after (record-length L * r + j) 0 ≡ getD (record-of L may letter M w (getD (h .order) r [])) j 0
+      → getD after (record-length L * r + j) 0 ≡ getD (record-of L may letter M w (getD (by-total may letter k w) r [])) j 0
   holds-number r j hr hj =
-      let records = flat-map (record-of L may letter M w) (h .order) in
+      let records = flat-map (record-of L may letter M w) (by-total may letter k w) in
       ap (λ l. getD l (record-length L * r + j) 0) (h .written)
-      ∙ List·getD-append records (drop (record-length L * length (h .order)) before) 0 (record-length L * r + j) (omega (arith, records-length, digits-lt hr hj))
-      ∙ flat-map-getD (record-of L may letter M w) (record-length L) (record-of-length L may letter M w) (h .order) r j [] 0 (omega (arith, holds-count)) hj
+      ∙ List·getD-append records (drop (record-length L * prefix-count may letter k w) before) 0 (record-length L * r + j) (omega (arith, records-length, digits-lt hr hj))
+      ∙ flat-map-getD (record-of L may letter M w) (record-length L) (record-of-length L may letter M w) (by-total may letter k w) r j [] 0 (omega (arith, holds-count)) hj
 
   pub holds-counts : (r j : ℕ) → r < prefix-count may letter k w → j < L .numbers
-      → getD after (record-length L * r + j) 0 ≡ getD (packed L (getD (h .order) r [])) j 0
-  holds-counts r j hr hj = holds-number r j hr (omega arith) ∙ record-of-counts L may letter M w (getD (h .order) r []) j hj
+      → getD after (record-length L * r + j) 0 ≡ getD (packed L (getD (by-total may letter k w) r [])) j 0
+  holds-counts r j hr hj = holds-number r j hr (omega arith) ∙ record-of-counts L may letter M w (getD (by-total may letter k w) r []) j hj
 
   pub holds-forward : (r : ℕ) → r < prefix-count may letter k w
-      → getD after (record-length L * r + L .numbers) 0 ≡ forward may letter M w (at (getD (h .order) r []))
+      → getD after (record-length L * r + L .numbers) 0 ≡ forward may letter M w (at (getD (by-total may letter k w) r []))
   holds-forward r hr =
-      let c = getD (h .order) r [] in
+      let c = getD (by-total may letter k w) r [] in
       let e : L .numbers ≡ L .numbers + 0 = omega arith in
       holds-number r (L .numbers) hr (omega arith) ∙ ap (λ j. getD (record-of L may letter M w c) j 0) e ∙ record-of-behind L may letter M w c 0
 
   pub holds-backward : (r : ℕ) → r < prefix-count may letter k w
-      → getD after (record-length L * r + (L .numbers + 1)) 0 ≡ backward may letter M w (at (getD (h .order) r []))
-  holds-backward r hr = holds-number r (L .numbers + 1) hr (omega arith) ∙ record-of-behind L may letter M w (getD (h .order) r []) 1
+      → getD after (record-length L * r + (L .numbers + 1)) 0 ≡ backward may letter M w (at (getD (by-total may letter k w) r []))
+  holds-backward r hr = holds-number r (L .numbers + 1) hr (omega arith) ∙ record-of-behind L may letter M w (getD (by-total may letter k w) r []) 1
 
   -- numbers past the last record are as before
   pub holds-past : (i : ℕ) → record-length L * prefix-count may letter k w ≤ i → getD after i 0 ≡ getD before i 0
   holds-past i le =
-      let records = flat-map (record-of L may letter M w) (h .order) in
-      let rest = record-length L * length (h .order) in
+      let records = flat-map (record-of L may letter M w) (by-total may letter k w) in
+      let rest = record-length L * prefix-count may letter k w in
       let e : i ≡ length records + (i - length records) = omega (arith, records-length) in
-      let d : rest + (i - length records) ≡ i = omega (arith, records-length, ap (λ n. record-length L * n) holds-count) in
+      let d : rest + (i - length records) ≡ i = omega (arith, records-length) in
       ap₂ (λ l n. getD l n 0) (h .written) e ∙ getD-append-add records (drop rest before) (i - length records) 0
       ∙ getD-drop rest before (i - length records) 0 ∙ ap (λ n. getD before n 0) d
 
-  pub holds-rises : (i j : ℕ) → i ≤ j → j < prefix-count may letter k w → total (getD (h .order) i []) ≤ total (getD (h .order) j [])
-  holds-rises i j le lt = omega (
-    arith,
-    rising-getD (map total (h .order)) (h .rises) i j le (omega (arith, length-map (h .order) total, holds-count)),
-    List·getD-map total (h .order) i [],
-    List·getD-map total (h .order) j [],
-  )
+  pub holds-rises : (i j : ℕ) → i ≤ j → j < prefix-count may letter k w → total (getD (by-total may letter k w) i []) ≤ total (getD (by-total may letter k w) j [])
+  holds-rises i j le lt =
+      let l = by-total may letter k w in
+      ⊎-elim
+      (λ h. ranked-total (getD l i []) (getD l j []) (ranked-getD l (by-total-sorted may letter k w) i j h (omega (arith, holds-count))))
+      (λ g. let e : i ≡ j = omega arith in subst (λ r. total (getD l i []) ≤ total (getD l r [])) e (omega arith))
+      (lt-or-le i j)
 
   -- each place has a prefix, each prefix a place, and only one
-  pub holds-prefix : (r : ℕ) → r < prefix-count may letter k w → Mem (getD (h .order) r []) (prefixes may letter k w)
-  holds-prefix r lt = h .every (getD (h .order) r []) .0 (mem-getD (h .order) r [] (omega (arith, holds-count)))
+  pub holds-prefix : (r : ℕ) → r < prefix-count may letter k w → Mem (getD (by-total may letter k w) r []) (prefixes may letter k w)
+  holds-prefix r lt = by-total-at may letter k w (getD (by-total may letter k w) r []) (mem-getD (by-total may letter k w) r [] (omega (arith, holds-count)))
 
-  pub holds-find : (c : List ℕ) → Mem c (prefixes may letter k w) → (r : ℕ) × (r < prefix-count may letter k w) × (getD (h .order) r [] ≡ c)
+  pub holds-find : (c : List ℕ) → Mem c (prefixes may letter k w) → (r : ℕ) × (r < prefix-count may letter k w) × (getD (by-total may letter k w) r [] ≡ c)
   holds-find c m =
-      let p = mem-place [] (h .every c .1 m) in
+      let p = mem-place [] (by-total-of may letter k w c (h .letters) m) in
       let lt : p .0 < prefix-count may letter k w = omega (arith, p .1, holds-count) in (p .0, lt, p .2)
 
-  pub holds-once : (r r′ : ℕ) → r < prefix-count may letter k w → r′ < prefix-count may letter k w → getD (h .order) r [] ≡ getD (h .order) r′ [] → r ≡ r′
-  holds-once r r′ hr hr′ e = nodup-place (h .order) [] (h .once) r r′ (omega (arith, holds-count)) (omega (arith, holds-count)) e
+  pub holds-once : (r r′ : ℕ) → r < prefix-count may letter k w → r′ < prefix-count may letter k w → getD (by-total may letter k w) r [] ≡ getD (by-total may letter k w) r′ [] → r ≡ r′
+  holds-once r r′ hr hr′ e = nodup-place (by-total may letter k w) [] (by-total-nodup may letter k w) r r′ (omega (arith, holds-count)) (omega (arith, holds-count)) e

@@ -4,6 +4,9 @@ use crate::listing::row;
 use crate::paths::backward;
 use crate::paths::earliest_accepted;
 use crate::paths::forward;
+use crate::places::key_of;
+use crate::places::place_of;
+use crate::places::put_keys;
 use crate::prefixes::closed;
 use crate::prefixes::look_count;
 use crate::prefixes::marks_of;
@@ -22,7 +25,6 @@ use trial::calls::table_part;
 use trial::cells::GUARD8;
 use trial::cells::GUARD32;
 use trial::cells::holds8;
-use trial::cells::minus;
 use trial::cells::part8;
 use trial::cells::untouched8;
 use trial::cells::untouched32;
@@ -32,17 +34,6 @@ use trial::records::set_of;
 use trial::records::total_of;
 use trial::tally;
 use trial::tally::Tally;
-
-// An earlier record has the same marks as record r.
-fn repeated(log: &[u8], table: &[u32], r: usize) -> bool {
-    let marks = marks_of(log, table, r);
-    for t in 0..r {
-        if marks_of(log, table, t) == marks {
-            return true;
-        }
-    }
-    false
-}
 
 // The states to which some order of the marked events leads from the start.
 fn forward_of(shape: Shape, masks: &[u16], moves: &[u32], log: &[u8], marks: usize) -> u32 {
@@ -62,13 +53,19 @@ fn backward_of(shape: Shape, masks: &[u16], moves: &[u32], log: &[u8], marks: us
     backward(shape, moves, &rows, count, n)
 }
 
-// Record r counts its marked events and no others, they are a prefix that no earlier record is, and its total is not below that of the record before.
-fn counts_right(masks: &[u16], log: &[u8], table: &[u32], r: usize, marks: usize) -> bool {
-    let total = total_of(table, r);
-    (total == wide32(u64::count_ones(marks as u64)))
-        & (total_of(table, minus(r, 1)) <= total)
+// Record r counts its marked events and no others, and stands in the place that they have among all prefixes by their keys.
+fn counts_right(
+    masks: &[u16],
+    log: &[u8],
+    table: &[u32],
+    r: usize,
+    marks: usize,
+    keys: &[usize],
+    prefixes: usize,
+) -> bool {
+    (total_of(table, r) == wide32(u64::count_ones(marks as u64)))
         & closed(masks, log, marks)
-        & !repeated(log, table, r)
+        & (place_of(keys, prefixes, key_of(log, marks)) == r)
 }
 
 // The sets of record r.
@@ -85,7 +82,29 @@ fn sets_right(
         & (set_of(table, r, 5) == backward_of(shape, masks, moves, log, marks))
 }
 
-// The first `prefixes` records.
+// Each of the first `prefixes` records.
+fn each_right(
+    shape: Shape,
+    masks: &[u16],
+    moves: &[u32],
+    log: &[u8],
+    table: &[u32],
+    keys: &[usize],
+    prefixes: usize,
+) -> bool {
+    for r in 0..prefixes {
+        let marks = marks_of(log, table, r);
+        if !counts_right(masks, log, table, r, marks, keys, prefixes) {
+            return false;
+        }
+        if !sets_right(shape, masks, moves, log, table, r, marks) {
+            return false;
+        }
+    }
+    true
+}
+
+// The first `prefixes` records, which are those of all prefixes.
 fn records_right(
     shape: Shape,
     masks: &[u16],
@@ -94,16 +113,9 @@ fn records_right(
     table: &[u32],
     prefixes: usize,
 ) -> bool {
-    for r in 0..prefixes {
-        let marks = marks_of(log, table, r);
-        if !counts_right(masks, log, table, r, marks) {
-            return false;
-        }
-        if !sets_right(shape, masks, moves, log, table, r, marks) {
-            return false;
-        }
-    }
-    true
+    let mut keys = [0usize; 256];
+    let listed = put_keys(masks, log, &mut keys);
+    (listed == prefixes) & each_right(shape, masks, moves, log, table, &keys, prefixes)
 }
 
 // The answer of a call that is not refused, the records, and the numbers that are not written.

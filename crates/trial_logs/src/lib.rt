@@ -4,4 +4,5 @@ pub mod judging;
 pub mod listing;
 pub mod orders;
 pub mod paths;
+pub mod places;
 pub mod prefixes;

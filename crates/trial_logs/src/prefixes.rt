@@ -46,8 +46,8 @@ pub fn closed(masks: &[u16], log: &[u8], marks: usize) -> bool {
     true
 }
 
-// The marks are a prefix of the log, which has at most eight events.
-fn is_prefix(masks: &[u16], log: &[u8], marks: usize) -> bool {
+// The marks are events of the log, and a prefix; a log here has at most eight events.
+pub fn is_prefix(masks: &[u16], log: &[u8], marks: usize) -> bool {
     closed(masks, log, marks) & (marks >> (log.len() % 16) == 0)
 }
 

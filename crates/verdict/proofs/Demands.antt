@@ -2,18 +2,22 @@
 -- was lent `order` and `table`, whatever these held, left `order′` and `table′`, and answered r.
 use mathlib.Core.Path.{_≡_, refl, sym, _∙_, ap, subst, subst₂}
 use mathlib.Core.Logic.{_⊎_, inl, inr, _↔_, _≢_}
-use mathlib.Core.List.{List}
+use mathlib.Core.List.{List, []}
 use mathlib.Core.Option.{Option, none, some, Option·none-ne-some, Option·some-ne-none, Option·some-injective}
-use Prim.Native.Nat.{ℕ, _≤_}
+use Prim.Native.Nat.{ℕ, _+_, _*_, _≤_, _<_}
 use native.Mathlib.Omega.{arith}
-use lib.ListN.{length, take, drop}
+use lib.ListN.{length, getD, take, drop}
 use lib.Seq.{drop-at, take-at}
 use Rattle.profile.specs.Traces.{Reachable, independent}
-use Rattle.profile.specs.Automata.{Profile}
+use Rattle.profile.specs.Automata.{Profile, automaton}
+use Rattle.profile.specs.Tables.{layout, packed, record-length}
 use Rattle.profile.specs.Orders.{Earlier, NoLater, Same}
 use Rattle.profile.specs.Refusals.{judge-refusal}
 use Rattle.profile.specs.declared.Refusal.{Refusal}
 use Rattle.profile.specs.declared.Refusal.the-variants.{FullTable}
+use Rattle.theory.proofs.Comparison.{by-total-same}
+use Rattle.theory.proofs.Profiles.{distinct}
+use Rattle.theory.proofs.Tables.{Holds, holds-counts}
 use Rattle.theory.proofs.Demands.{Witness, looks-of, no-order, order-earliest, order-of, order-reach, prefixes-of, prefixes-reach, same-answer}
 use Rattle.verdict.specs.Verdict.{Counted, Promise, refused-by, verdict-number}
 use Rattle.verdict.specs.declared.Judged.{Judged}
@@ -117,6 +121,28 @@ module _ (p : Profile) (v w : List ℕ) (order₁ order₁′ table₁ table₁�
       bytes =
           order-bytes p v order₁ order₁′ table₁ table₁′ P n g ∙ Option·some-injective (g .told .0) (h .told .0) (sym (g .told .1) ∙ answers .0 ∙ h .told .1)
           ∙ sym (order-bytes p w order₂ order₂′ table₂ table₂′ Q m h)
+
+-- Paper 5: "Logs reachable from each other in both directions must, where both get a verdict, leave equal count fields, record by record"
+module _ (p : Profile) (v w : List ℕ) (order₁ order₁′ table₁ table₁′ order₂ order₂′ table₂ table₂′ : List ℕ)
+    (first : judge-refusal p v (length order₁) (length table₁) ≡ none) (second : judge-refusal p w (length order₂) (length table₂) ≡ none)
+    (same : Same (independent (p .masks)) v w) where
+  pub fields-same : (i j : Judged) → Promise p v order₁ order₁′ table₁ table₁′ i → Promise p w order₂ order₂′ table₂ table₂′ j
+      → (r n : ℕ) → r < prefixes-of p v → n < layout .numbers
+      → getD table₁′ (record-length layout * r + n) 0 ≡ getD table₂′ (record-length layout * r + n) 0
+  fields-same i j g h r n hr hn =
+      let a = admitted p v order₁ table₁ first in
+      let b = admitted p w order₂ table₂ second in
+      let q = same-answer p v w a b same in
+      holds-counts (held p v order₁ order₁′ table₁ table₁′ first i g) r n hr hn
+      ∙ ap (λ l. getD (packed layout (getD l r [])) n 0)
+      (by-total-same (λ a. a) (automaton p) (independent (p .masks)) (same .0) (same .1) (distinct (p .masks) (a .profile .relation .own)) (p .k) (a .log .letters) (b .log .letters))
+      ∙ sym (holds-counts (held p w order₂ order₂′ table₂ table₂′ second j h) r n (omega (arith, q .1)) hn)
+    where
+      held : (p : Profile) (w order order′ table table′ : List ℕ) → judge-refusal p w (length order) (length table) ≡ none → (i : Judged) → Promise p w order order′ table table′ i
+          → Holds layout (independent (p .masks)) (λ a. a) (automaton p) (p .k) w table table′
+      held p w order order′ table table′ e (Refused r) g = absurd (Option·some-ne-none r (g .refused ∙ e))
+      held p w order order′ table table′ e (NoOrder P n) g = record { letters = admitted p w order table e .log .letters; written = g .told .2 .table }
+      held p w order order′ table table′ e (Order P n) g = record { letters = admitted p w order table e .log .letters; written = g .told .3 .table }
 
 -- "If log v is reachable from log w and v has an accepted order, then w has one that is no later in letter order": of two calls that are not refused,
 -- whatever buffers each was lent. P of v is at most P of w

@@ -8,7 +8,7 @@ use lib.ListN.{length, drop}
 use Rattle.profile.specs.Traces.{independent}
 use Rattle.profile.specs.Automata.{Profile, automaton}
 use Rattle.profile.specs.Prefixes.{looks as looks-by, prefix-count}
-use Rattle.profile.specs.Tables.{Holds, layout}
+use Rattle.profile.specs.Tables.{layout, table-of}
 use Rattle.profile.specs.Orders.{accepted-order}
 use Rattle.profile.specs.Refusals.{judge-refusal}
 use Rattle.profile.specs.declared.Refusal.{Refusal}
@@ -32,7 +32,7 @@ verdict-number (Order P n) = some 1
 pub record Counted (p : Profile) (w before after : List ℕ) (P n : ℕ) : Type 0 where
   pub prefixes : P ≡ prefix-count (independent (p .masks)) (λ a. a) (p .k) w
   pub looks : n ≡ looks-by (independent (p .masks)) (λ a. a) (p .k) w
-  pub table : Holds layout (independent (p .masks)) (λ a. a) (automaton p) (p .k) w before after
+  pub table : after ≡ table-of layout (independent (p .masks)) (λ a. a) (automaton p) (p .k) w before
 
 -- "Verdict 1 comes with the order in the first bytes of the order buffer …; its other bytes stay. Verdict 0 means 'no order' and leaves that buffer
 -- unchanged." "Refusals leave every buffer unchanged; only after 10 is the work table's content free"

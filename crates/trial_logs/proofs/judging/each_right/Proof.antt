@@ -1,14 +1,14 @@
--- `trial_logs::judging::records_right` is safe and ends.
+-- `trial_logs::judging::each_right` is safe and ends.
 use borrow.Author.Needs.{needs}
 use Prim.Native.Nat.{_≤_, _-_}
-use Rattle.trial_logs.proofs.judging.records_right.Statement.{statement}
-use Rattle.trial_logs.proofs.judging.records_right.Tie as tie
+use Rattle.trial_logs.proofs.judging.each_right.Statement.{statement}
+use Rattle.trial_logs.proofs.judging.each_right.Tie as tie
 
 abbrev Inv-loop : tie.InvT-loop
-Inv-loop shape masks moves log table prefixes r₀ r = 0 ≤ 0
+Inv-loop shape masks moves log table keys prefixes r₀ r = 0 ≤ 0
 
 abbrev μ-loop : tie.MeasureT-loop
-μ-loop shape masks moves log table prefixes r₀ r = prefixes - r
+μ-loop shape masks moves log table keys prefixes r₀ r = prefixes - r
 
 loop-holds : tie.Need-loop-holds Inv-loop μ-loop
 loop-holds c = search needs
@@ -40,8 +40,8 @@ loop-again c = search needs
 returns-3 : tie.Need-returns-3 Inv-loop μ-loop
 returns-3 c = search needs
 
-pub records-right-spec : {M : Type 1} → statement M
-records-right-spec =
+pub each-right-spec : {M : Type 1} → statement M
+each-right-spec =
     tie.close
     (tie.spec
     Inv-loop

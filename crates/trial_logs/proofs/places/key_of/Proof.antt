@@ -1,0 +1,54 @@
+-- `trial_logs::places::key_of` is safe and ends.
+use borrow.Author.Needs.{needs}
+use Prim.Native.Nat.{_≤_, _-_}
+use Rattle.trial_logs.proofs.places.key_of.Statement.{statement}
+use Rattle.trial_logs.proofs.places.key_of.Tie as tie
+
+abbrev Inv-loop : tie.InvT-loop
+Inv-loop log marks key₀ i₀ i-end key i = 0 ≤ 0
+
+abbrev μ-loop : tie.MeasureT-loop
+μ-loop log marks key₀ i₀ i-end key i = i-end - i
+
+loop-holds : tie.Need-loop-holds Inv-loop μ-loop
+loop-holds c = search needs
+
+bit-requires : tie.Need-bit-requires Inv-loop μ-loop
+bit-requires c κs = search needs
+
+at8-requires : tie.Need-at8-requires Inv-loop μ-loop
+at8-requires c κs = search needs
+
+weight-requires : tie.Need-weight-requires Inv-loop μ-loop
+weight-requires c κs = search needs
+
+plus-requires : tie.Need-plus-requires Inv-loop μ-loop
+plus-requires c κs = search needs
+
+add-i : tie.Need-add-i Inv-loop μ-loop
+add-i c = search needs
+
+loop-less : tie.Need-loop-less Inv-loop μ-loop
+loop-less c = search needs
+
+loop-again : tie.Need-loop-again Inv-loop μ-loop
+loop-again c = search needs
+
+returns : tie.Need-returns Inv-loop μ-loop
+returns c = search needs
+
+pub key-of-spec : {M : Type 1} → statement M
+key-of-spec =
+    tie.close
+    (tie.spec
+    Inv-loop
+    μ-loop
+    loop-holds
+    bit-requires
+    at8-requires
+    weight-requires
+    plus-requires
+    add-i
+    loop-less
+    loop-again
+    returns)
