@@ -4,5 +4,7 @@ pub mod Words
 pub mod Order
 -- counts, packed: one more, equal, before, total
 pub mod Packed
+-- equality of numbers is equality of every letter's counts
+pub mod Equality
 -- one of four numbers changed, by tests of its place
 pub mod Choices

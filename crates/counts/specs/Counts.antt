@@ -2,8 +2,9 @@
 use mathlib.Core.Bool.{Bool, not}
 use mathlib.Core.List.{List, [], _∷_, map}
 use Prim.Native.Nat.{ℕ, _+_, _*_, _/_, _%_, _^_}
+use lib.Dec.{eqb}
 use lib.ListN.{getD, set}
-use Rattle.profile.specs.Lists.{below}
+use Rattle.profile.specs.Lists.{all, below}
 use Rattle.profile.specs.Orders.{no-later?}
 use Rattle.profile.specs.Tables.{Layout, count-field}
 use Rattle.counts.specs.declared.Counts.{Counts}
@@ -19,6 +20,10 @@ counts-in L t = map (count-field L t) (below (L .per * L .numbers))
 -- one more of letter a, in the numbers of counts; a number does not carry past its 32 bits
 abbrev pub add-count : Layout → List ℕ → ℕ → List ℕ
 add-count L t a = set t (a / L .per) ((getD t (a / L .per) 0 + 2 ^ (L .width * (a % L .per))) % 2 ^ 32)
+
+-- Paper 3: "'equal' exactly when every letter's two counts are equal"
+abbrev pub every-equal? : Layout → List ℕ → List ℕ → Bool
+every-equal? L t u = all (λ i. eqb (count-field L t i) (count-field L u i)) (below (L .per * L .numbers))
 
 -- the counts t stand before the counts u: letter 0 first, the smaller first
 abbrev pub before? : Layout → List ℕ → List ℕ → Bool

@@ -10,7 +10,7 @@ ghost use Rattle.profile.specs.Orders.{no-later?};
 ghost use Rattle.profile.specs.Prefixes.{total};
 ghost use Rattle.profile.specs.Tables.{layout, count-field, packed};
 ghost use Rattle.theory.proofs.Packing.{rank};
-ghost use Rattle.counts.specs.Counts.{words, counts-in, add-count, before?, word-count, word-counts};
+ghost use Rattle.counts.specs.Counts.{words, counts-in, add-count, before?, every-equal?, word-count, word-counts};
 
 // The bits of a count.
 const WIDTH: usize = 8;
@@ -109,9 +109,10 @@ pub fn one_more(c: Counts, a: usize) -> Counts
     }
 }
 
-// a and b have the same counts.
+// a and b have the same counts: their numbers are compared, and so every letter's two counts.
 pub fn same_counts(a: Counts, b: Counts) -> bool
     ensures { λ r. ⌜ r ≡ equal? (words a) (words b) ⌝ }
+    ensures { λ r. ⌜ r ≡ every-equal? layout (words a) (words b) ⌝ }
 {
     if a.w0 != b.w0 {
         return false;

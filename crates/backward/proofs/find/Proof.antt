@@ -26,7 +26,7 @@ abbrev μ-loop : tie.MeasureT-loop
 tested : (c : tie.After-same-counts Inv-loop μ-loop)
     → has (c .before .before .before .before .before .before .args .part .now) (c .before .before .before .before .before .before .args .c) (c .before .before .before .loop .j)
     ≡ c .same-counts .result
-tested c = sym (c .same-counts .ensures ∙ ap (λ u. equal? u (words (c .before .before .before .before .before .before .args .c))) (c .before .counts-at .ensures))
+tested c = sym (c .same-counts .ensures .0 ∙ ap (λ u. equal? u (words (c .before .before .before .before .before .before .args .c))) (c .before .counts-at .ensures))
 
 records-in-requires : tie.Need-records-in-requires Inv-loop μ-loop
 records-in-requires c κs = search needs

@@ -24,18 +24,18 @@ returns : tie.Need-returns
 returns c =
     let a = c .before .before .before .before .args in
     sym (letter-yes (a .i) (a .v) (a .w) (equal? (words (a .d)) (words (a .e))) (c .before .grown .result)
-    (sym (c .before .before .before .same-counts .ensures) ∙ c .before .before .if1 .taken) (c .before .grown .ensures) (c .if2 .taken))
+    (sym (c .before .before .before .same-counts .ensures .0) ∙ c .before .before .if1 .taken) (c .before .grown .ensures) (c .if2 .taken))
 
 returns-2 : tie.Need-returns-2
 returns-2 c =
     let a = c .before .before .before .before .args in
     sym (letter-past (a .i) (a .v) (a .w) (equal? (words (a .d)) (words (a .e))) (c .before .grown .result)
-    (sym (c .before .before .before .same-counts .ensures) ∙ c .before .before .if1 .taken) (c .before .grown .ensures) (c .if2 .left))
+    (sym (c .before .before .before .same-counts .ensures .0) ∙ c .before .before .if1 .taken) (c .before .grown .ensures) (c .if2 .left))
 
 returns-3 : tie.Need-returns-3
 returns-3 c =
     let a = c .before .before .args in
-    sym (ap (letter-in (a .i) (a .v) (a .w)) (sym (c .before .same-counts .ensures) ∙ c .if1 .left))
+    sym (ap (letter-in (a .i) (a .v) (a .w)) (sym (c .before .same-counts .ensures .0) ∙ c .if1 .left))
 
 pub letter-of-spec : {M : Type 1} → statement M
 letter-of-spec =

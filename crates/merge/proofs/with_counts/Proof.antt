@@ -62,7 +62,7 @@ returns c =
     let a = c .before .before .before .before .before .args in
     let q = c .before .before .before .best .given in
     let S = q .0 .1 .0 in
-    let m = put-same (words (a .c)) (words (q .0 .0)) S (a .x) (sym (c .before .same-counts .ensures) ∙ c .if1 .taken) in (
+    let m = put-same (words (a .c)) (words (q .0 .0)) S (a .x) (sym (c .before .same-counts .ensures .0) ∙ c .if1 .taken) in (
       m .0 ∙ sym (ap (λ o. better (least-words o) (some (words (a .c)))) (q .1)),
       ap (bitOr S) (shl-exact 1 (a .x) 32 (omega arith) (omega arith) ∙ one-mul (2 ^ a .x)) ∙ m .1
           ∙ sym (ap (λ o. joined (some (words (a .c))) (least-words o) (least-letters o) (a .x)) (q .1)),
@@ -89,7 +89,7 @@ returns-3 : tie.Need-returns-3
 returns-3 c =
     let a = c .before .before .before .before .before .before .before .args in
     let q = c .before .before .before .before .before .best .given in
-    let m = put-earlier (words (a .c)) (words (q .0 .0)) (q .0 .1 .0) (a .x) (sym (c .before .before .before .same-counts .ensures) ∙ c .before .before .if1 .left)
+    let m = put-earlier (words (a .c)) (words (q .0 .0)) (q .0 .1 .0) (a .x) (sym (c .before .before .before .same-counts .ensures .0) ∙ c .before .before .if1 .left)
     (sym (c .before .counts-before .ensures) ∙ c .if2 .taken) in (
       m .0 ∙ sym (ap (λ o. better (least-words o) (some (words (a .c)))) (q .1)),
       shl-exact 1 (a .x) 32 (omega arith) (omega arith) ∙ one-mul (2 ^ a .x) ∙ m .1
@@ -100,7 +100,7 @@ returns-4 : tie.Need-returns-4
 returns-4 c =
     let a = c .before .before .before .before .before .before .before .args in
     let q = c .before .before .before .before .before .best .given in
-    let m = put-later (words (a .c)) (words (q .0 .0)) (q .0 .1 .0) (a .x) (sym (c .before .before .before .same-counts .ensures) ∙ c .before .before .if1 .left)
+    let m = put-later (words (a .c)) (words (q .0 .0)) (q .0 .1 .0) (a .x) (sym (c .before .before .before .same-counts .ensures .0) ∙ c .before .before .if1 .left)
     (sym (c .before .counts-before .ensures) ∙ c .if2 .left) in (
       m .0 ∙ sym (ap (λ o. better (least-words o) (some (words (a .c)))) (q .1)),
       m .1 ∙ sym (ap (λ o. joined (some (words (a .c))) (least-words o) (least-letters o) (a .x)) (q .1)),

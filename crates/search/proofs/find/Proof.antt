@@ -25,14 +25,14 @@ returns c =
     let s = c .before .before .before .before .before .before .before .args in
     let at = c .before .before .before .before .before .place-of in
     λ o. found-here (s .t .now) (words (s .c)) o (at .result) (at .ensures o) (omega arith)
-    (sym (c .before .same-counts .ensures ∙ ap (λ v. equal? v (words (s .c))) (c .before .before .counts-at .ensures)) ∙ c .if2 .taken)
+    (sym (c .before .same-counts .ensures .0 ∙ ap (λ v. equal? v (words (s .c))) (c .before .before .counts-at .ensures)) ∙ c .if2 .taken)
 
 returns-2 : tie.Need-returns-2
 returns-2 c =
     let s = c .before .before .before .before .before .before .before .args in
     let at = c .before .before .before .before .before .place-of in
     λ o. found-nowhere (s .t .now) (words (s .c)) o (at .result) (at .ensures o)
-    (λ h. sym (c .before .same-counts .ensures ∙ ap (λ v. equal? v (words (s .c))) (c .before .before .counts-at .ensures)) ∙ c .if2 .left)
+    (λ h. sym (c .before .same-counts .ensures .0 ∙ ap (λ v. equal? v (words (s .c))) (c .before .before .counts-at .ensures)) ∙ c .if2 .left)
 
 returns-3 : tie.Need-returns-3
 returns-3 c =
