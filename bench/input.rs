@@ -14,6 +14,8 @@ pub struct Profile {
 #[derive(Clone, Copy, PartialEq)]
 pub enum Letters {
     Independent,
+    /// No two: a log reaches itself alone.
+    Dependent,
     /// All but each letter and the next one.
     Neighbours,
     /// All but the letters 4 i to 4 i + 3 with one another.
@@ -32,6 +34,7 @@ impl Letters {
     pub fn name(self) -> &'static str {
         match self {
             Letters::Independent => "independent",
+            Letters::Dependent => "dependent",
             Letters::Neighbours => "neighbours",
             Letters::Groups => "groups of 4",
             Letters::Random => "random",
@@ -72,6 +75,7 @@ impl Random {
 fn directions(letters: Letters, i: usize, j: usize, random: &mut Random) -> [bool; 2] {
     match letters {
         Letters::Independent => [true; 2],
+        Letters::Dependent => [false; 2],
         Letters::Neighbours => [i - j != 1; 2],
         Letters::Groups => [i / 4 != j / 4; 2],
         Letters::Random => [random.below(4) != 0; 2],
@@ -128,7 +132,7 @@ fn finals(row: Row) -> u32 {
 /// Letters in turn where all pairs are alike, so that P is the product of k equal numbers, or nearly, or its part that one direction leaves; else at random.
 fn log(row: Row, random: &mut Random) -> Vec<u8> {
     let letter = |i: usize| match row.letters {
-        Letters::Independent | Letters::Rising | Letters::Falling => i % row.k,
+        Letters::Independent | Letters::Dependent | Letters::Rising | Letters::Falling => i % row.k,
         _ => random.below(row.k),
     };
     (0..row.n).map(letter).map(|a| a as u8).collect()

@@ -1,7 +1,7 @@
 //! Every reachable log, each once and in letter order, by depth first search; the first that is accepted is the order.
 
 use crate::input::Profile;
-use crate::rules::{check, letters, one, Counts, Events, Refusal, Steps};
+use crate::rules::{check, letters, Counts, Events, Refusal, Steps};
 
 /// What is told: P is not, since a listing meets logs and not prefixes.
 pub struct Listed {
@@ -33,7 +33,7 @@ impl Listing<'_> {
             }
             self.log.push(a as u8);
             let states = self.steps.forward(states, a);
-            self.list(c + one(a), states);
+            self.list(c.more(a), states);
             self.log.pop();
         }
     }
@@ -60,7 +60,7 @@ pub fn judge(p: &Profile, log: &[u8], order: &mut [u8], limit: u64) -> Result<Op
         log: Vec::with_capacity(log.len()),
         order: &mut order[..log.len()],
     };
-    listing.list(0, 1 << p.start);
+    listing.list(Counts::NONE, 1 << p.start);
     let listed = Listed { verdict: listing.found, logs: listing.logs };
     Ok((listing.logs <= limit).then_some(listed))
 }

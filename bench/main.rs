@@ -11,7 +11,7 @@ mod picture;
 mod report;
 mod rules;
 
-use input::Letters::{Directed, Falling, Groups, Independent, Neighbours, Random, Rising};
+use input::Letters::{Dependent, Directed, Falling, Groups, Independent, Neighbours, Random, Rising};
 use input::{Letters, Row};
 use measure::{Measured, Tables};
 
@@ -25,7 +25,7 @@ const SWEEPS: usize = 3;
 /// that does not occur are cheaper. The second half has one-way relations.
 const LINES: &[(usize, Letters, usize, bool, &[usize])] = &[
     (2, Independent, 2, true, &[62, 255]),
-    (2, Independent, 8, true, &[12, 16, 20, 62, 128, 255]),
+    (2, Independent, 8, true, &[12, 16, 20, 62, 128, 255, 1000, 4000]),
     (2, Independent, 8, false, &[255]),
     (3, Independent, 8, true, &[9, 12, 30, 66, 141, 255]),
     (3, Independent, 32, true, &[30, 141, 255]),
@@ -33,10 +33,11 @@ const LINES: &[(usize, Letters, usize, bool, &[usize])] = &[
     (4, Independent, 8, true, &[8, 10, 20, 40, 68, 120, 176]),
     (4, Independent, 8, false, &[120]),
     (4, Independent, 32, true, &[40, 120]),
-    (4, Neighbours, 8, true, &[255]),
+    (4, Neighbours, 8, true, &[255, 1000, 4000]),
+    (4, Dependent, 8, true, &[255, 1000, 4000]),
     (8, Independent, 8, true, &[8, 12, 20, 28, 40]),
     (8, Independent, 32, true, &[20, 36]),
-    (8, Neighbours, 8, true, &[90, 255]),
+    (8, Neighbours, 8, true, &[90, 255, 1000, 4000]),
     (8, Random, 8, true, &[60, 120]),
     (8, Random, 8, false, &[120]),
     (8, Groups, 8, true, &[120, 255]),
@@ -45,9 +46,10 @@ const LINES: &[(usize, Letters, usize, bool, &[usize])] = &[
     (16, Groups, 8, true, &[48, 100]),
     (16, Random, 2, true, &[60]),
     (16, Random, 32, true, &[60]),
+    (16, Dependent, 32, true, &[4000]),
     (2, Rising, 32, true, &[255]),
-    (2, Rising, 8, true, &[20, 128, 255]),
-    (2, Falling, 32, true, &[20, 128, 255]),
+    (2, Rising, 8, true, &[20, 128, 255, 1000]),
+    (2, Falling, 32, true, &[20, 128, 255, 1000]),
     (2, Falling, 8, false, &[255]),
     (3, Rising, 8, true, &[30, 141, 255]),
     (3, Rising, 32, true, &[255]),

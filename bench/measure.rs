@@ -2,7 +2,7 @@
 //! work on the machine only ever adds to a time, and one that lasts for seconds meets no input in every sweep.
 
 use crate::input::{make, Profile, Row};
-use crate::rules::{Answer, Refusal};
+use crate::rules::{Answer, Refusal, COUNTS, RECORD};
 use crate::{clock, hashed, library, listing, merge};
 use std::time::{Duration, Instant};
 
@@ -26,7 +26,7 @@ pub struct Tables {
 impl Tables {
     pub fn new(records: usize) -> Tables {
         // Not zeros: memory of zeros is handed out untouched.
-        Tables { ours: vec![1; 6 * records], merge: vec![1; 6 * records] }
+        Tables { ours: vec![1; RECORD * records], merge: vec![1; RECORD * records] }
     }
 }
 
@@ -111,10 +111,10 @@ fn timed<T>(best: &mut f64, run: impl FnOnce() -> T) -> T {
     result
 }
 
-/// The records sorted by total count and counts: the order within a total is free. Asserts that the totals rise.
-fn sorted(table: &[u32]) -> Vec<[u32; 6]> {
-    let total = |r: &[u32; 6]| r[..4].iter().flat_map(|w| w.to_le_bytes()).map(u32::from).sum::<u32>();
-    let mut records = table.as_chunks::<6>().0.to_vec();
+/// The records sorted by total count and numbers: the Rust merge has another order within a total. Asserts that the totals rise.
+fn sorted(table: &[u32]) -> Vec<[u32; RECORD]> {
+    let total = |r: &[u32; RECORD]| r[..COUNTS].iter().map(|w| (w & 0xffff) + (w >> 16)).sum::<u32>();
+    let mut records = table.as_chunks::<RECORD>().0.to_vec();
     assert!(records.is_sorted_by_key(total), "totals rise");
     for level in records.chunk_by_mut(|a, b| total(a) == total(b)) {
         level.sort_unstable();
@@ -123,7 +123,7 @@ fn sorted(table: &[u32]) -> Vec<[u32; 6]> {
 }
 
 fn assert_same_tables(tables: &Tables, prefixes: usize) {
-    let used = 6 * prefixes;
+    let used = RECORD * prefixes;
     assert!(sorted(&tables.ours[..used]) == sorted(&tables.merge[..used]), "the tables have the same records");
 }
 

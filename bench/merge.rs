@@ -1,20 +1,21 @@
 //! The same algorithm in safe Rust: each total is a merge of the one before, with one cursor for each letter.
 
 use crate::input::Profile;
-use crate::rules::{check, letters, one, Answer, Counts, Events, Refusal, Steps};
+use crate::rules::{check, letters, Answer, Counts, Events, Refusal, Steps, COUNTS, RECORD};
 
-/// Four numbers of counts, the forward set, and the backward set; until this is known, the letters that can be added.
-type Record = [u32; 6];
+/// The numbers of the counts, the forward set, and the backward set; until this is known, the letters that can be added.
+type Record = [u32; RECORD];
 
-const FORWARD: usize = 4;
-const LAST: usize = 5;
+const FORWARD: usize = COUNTS;
+const LAST: usize = COUNTS + 1;
 
 fn counts(r: &Record) -> Counts {
-    u128::from(r[0]) | u128::from(r[1]) << 32 | u128::from(r[2]) << 64 | u128::from(r[3]) << 96
+    Counts::of(r.first_chunk().expect("a record has its counts first"))
 }
 
 fn record(c: Counts, forward: u32, last: u32) -> Record {
-    [c as u32, (c >> 32) as u32, (c >> 64) as u32, (c >> 96) as u32, forward, last]
+    let [w0, w1, w2, w3, w4, w5, w6, w7] = c.numbers();
+    [w0, w1, w2, w3, w4, w5, w6, w7, forward, last]
 }
 
 /// A letter's place in a total, and the counts that the record there gives by one more of the letter.
@@ -24,15 +25,12 @@ struct Cursor {
     gives: Counts,
 }
 
-/// Not the counts of any prefix: they total at most 255.
-const NOTHING: Counts = Counts::MAX;
-
 /// The first record from `from` on to which letter a can be added.
 fn seek(level: &[Record], from: usize, a: usize) -> Cursor {
     let found = level[from..].iter().position(|r| r[LAST] >> a & 1 == 1);
     match found {
-        Some(i) => Cursor { at: from + i, gives: counts(&level[from + i]) + one(a) },
-        None => Cursor { at: level.len(), gives: NOTHING },
+        Some(i) => Cursor { at: from + i, gives: counts(&level[from + i]).more(a) },
+        None => Cursor { at: level.len(), gives: Counts::NOTHING },
     }
 }
 
@@ -51,7 +49,7 @@ impl Merge<'_> {
         let (from, first) = (self.firsts[t], self.firsts[t + 1]);
         let (before, free) = self.table.split_at_mut(first);
         let level = &before[from..];
-        let mut cursors = [Cursor { at: 0, gives: NOTHING }; 16];
+        let mut cursors = [Cursor { at: 0, gives: Counts::NOTHING }; 16];
         let cursors = &mut cursors[..self.k];
         for (a, cursor) in cursors.iter_mut().enumerate() {
             *cursor = seek(level, 0, a);
@@ -59,8 +57,8 @@ impl Merge<'_> {
         let mut looks = 0;
         let mut put = 0;
         loop {
-            let least = cursors.iter().map(|c| c.gives).min().unwrap_or(NOTHING);
-            if least == NOTHING {
+            let least = cursors.iter().map(|c| c.gives).min().unwrap_or(Counts::NOTHING);
+            if least == Counts::NOTHING {
                 break;
             }
             let slot = free.get_mut(put)?;
@@ -89,7 +87,7 @@ impl Merge<'_> {
             let c = counts(r);
             let mut back = 0;
             for a in letters(r[LAST]) {
-                let wanted = c + one(a);
+                let wanted = c.more(a);
                 let at = &mut cursors[a & 15];
                 while counts(&next[*at]) != wanted {
                     *at += 1;
@@ -103,18 +101,21 @@ impl Merge<'_> {
     /// The smallest letter that leads from the states into the backward set of a record of the next total.
     fn choose(&self, t: usize, c: Counts, states: u32) -> usize {
         let level = &self.table[self.firsts[t + 1]..self.firsts[t + 2]];
-        let added = |r: &Record| (0..self.k).find(|&a| counts(r).wrapping_sub(c) == one(a));
+        let added = |r: &Record| {
+            let own = counts(r);
+            (0..self.k).find(|&a| own == c.more(a))
+        };
         let taken = |(a, r): &(usize, &Record)| self.steps.forward(states, *a) & r[LAST] != 0;
         let choices = level.iter().filter_map(|r| Some((added(r)?, r)));
         choices.filter(taken).map(|(a, _)| a).min().expect("the backward set of the prefix has a state reached")
     }
 
     fn earliest(&self, start: u32, order: &mut [u8]) {
-        let (mut c, mut states) = (0, start);
+        let (mut c, mut states) = (Counts::NONE, start);
         for (t, place) in order.iter_mut().enumerate() {
             let a = self.choose(t, c, states);
             *place = a as u8;
-            c += one(a);
+            c = c.more(a);
             states = self.steps.forward(states, a);
         }
     }
@@ -124,12 +125,12 @@ pub fn judge(p: &Profile, log: &[u8], order: &mut [u8], work: &mut [u32]) -> Res
     check(p, log, order)?;
     let full = Refusal { number: 10, place: 0 };
     let usable = work.len().min(4_294_967_292);
-    let (table, _) = work[..usable].as_chunks_mut::<6>();
+    let (table, _) = work[..usable].as_chunks_mut::<RECORD>();
     let events = Events::new(p, log);
     let Some(first) = table.first_mut() else { return Err(full) };
     let start = 1 << p.start;
-    let addable = events.addable(0);
-    *first = record(0, start, addable);
+    let addable = events.addable(Counts::NONE);
+    *first = record(Counts::NONE, start, addable);
     let mut looks = u64::from(addable.count_ones());
     let mut merge = Merge { steps: Steps::new(p), events, k: p.k, table, firsts: vec![0, 1] };
     for t in 0..log.len() {

@@ -7,8 +7,8 @@ const HASH_BOUND: f64 = 3.0;
 const FLAT_BOUND: f64 = 1.5;
 
 pub const HEAD: &str = "\
-|  # |  k |   n | letters     |  s | verdict |       P |  ours ms | ns per pair | ours/merge | hash/ours | listing/ours (logs) |
-|---:|---:|----:|-------------|---:|--------:|--------:|---------:|------------:|-----------:|----------:|--------------------:|";
+|  # |  k |    n | letters     |  s | verdict |       P |  ours ms | ns per pair | ours/merge | hash/ours | listing/ours (logs) |
+|---:|---:|-----:|-------------|---:|--------:|--------:|---------:|------------:|-----------:|----------:|--------------------:|";
 
 fn to_merge(m: &Measured) -> f64 {
     m.times.ours / m.times.merge
@@ -28,7 +28,7 @@ fn listing(m: &Measured) -> String {
 pub fn line(number: usize, m: &Measured) -> String {
     let row = &m.row;
     format!(
-        "| {number:2} | {:2} | {:3} | {:11} | {:2} | {:7} | {:7} | {:8.3} | {:11.1} | {:10.2} | {:9.2} | {:>19} |",
+        "| {number:2} | {:2} | {:4} | {:11} | {:2} | {:7} | {:7} | {:8.3} | {:11.1} | {:10.2} | {:9.2} | {:>19} |",
         row.k,
         row.n,
         row.letters.name(),

@@ -2,11 +2,54 @@
 
 use crate::input::Profile;
 
-/// Counts as one number, letter i in bits 8 i and up. To add a fixed letter keeps the order of these numbers.
-pub type Counts = u128;
+/// The numbers of a record, and those of them that have the counts.
+pub const RECORD: usize = 10;
+pub const COUNTS: usize = 8;
 
-pub const fn one(a: usize) -> Counts {
-    1 << (8 * a)
+/// The most letters of a log.
+const MOST: usize = 4000;
+
+/// Counts as one number of 256 bits, letter i in bits 16 i and up. To add a fixed letter keeps the order of these numbers.
+#[derive(Clone, Copy, PartialEq, Eq, PartialOrd, Ord, Hash)]
+pub struct Counts {
+    high: u128,
+    low: u128,
+}
+
+/// Four numbers from place `from` on as one.
+fn joined(numbers: &[u32; COUNTS], from: usize) -> u128 {
+    (0..4).fold(0, |joined, i| joined | u128::from(numbers[from + i]) << (32 * i))
+}
+
+impl Counts {
+    pub const NONE: Counts = Counts { high: 0, low: 0 };
+
+    /// Not the counts of any prefix: they total at most 4,000.
+    pub const NOTHING: Counts = Counts { high: u128::MAX, low: u128::MAX };
+
+    /// As a record has them: letter i in number i div 2, the even letter in the low half.
+    pub fn of(numbers: &[u32; COUNTS]) -> Counts {
+        Counts { high: joined(numbers, 4), low: joined(numbers, 0) }
+    }
+
+    pub fn numbers(self) -> [u32; COUNTS] {
+        std::array::from_fn(|i| if i < 4 { (self.low >> (32 * i)) as u32 } else { (self.high >> (32 * (i - 4))) as u32 })
+    }
+
+    /// The count of each letter.
+    fn each(self) -> [u16; 16] {
+        std::array::from_fn(|a| if a < 8 { (self.low >> (16 * a)) as u16 } else { (self.high >> (16 * (a - 8))) as u16 })
+    }
+
+    /// One more of letter a.
+    pub fn more(self, a: usize) -> Counts {
+        let one = 1 << (16 * (a & 7));
+        if a < 8 {
+            Counts { low: self.low + one, ..self }
+        } else {
+            Counts { high: self.high + one, ..self }
+        }
+    }
 }
 
 #[derive(Debug, PartialEq)]
@@ -38,7 +81,7 @@ pub fn check(p: &Profile, log: &[u8], order: &[u8]) -> Result<(), Refusal> {
     if p.moves.iter().chain([&p.finals]).any(|&set| u64::from(set) >> s != 0) {
         return refused(6);
     }
-    if log.len() > 255 {
+    if log.len() > MOST {
         return refused(7);
     }
     if let Some(place) = log.iter().position(|&a| usize::from(a) >= k) {
@@ -84,9 +127,9 @@ impl Steps {
 /// The places of each letter's events, for what can be added to a prefix without a scan of the log.
 pub struct Events {
     k: usize,
-    end: u8,
+    end: u16,
     /// The places of the events by letter, the log's length behind each letter's.
-    places: [u8; 272],
+    places: [u16; MOST + 16],
     starts: [usize; 16],
     /// The letters that each letter may not pass, itself aside.
     dependent: [u16; 16],
@@ -94,14 +137,14 @@ pub struct Events {
 
 impl Events {
     pub fn new(p: &Profile, log: &[u8]) -> Events {
-        let end = log.len() as u8;
-        let mut places = [end; 272];
+        let end = log.len() as u16;
+        let mut places = [end; MOST + 16];
         let mut starts = [0; 16];
         let mut at = 0;
         for a in 0..p.k {
             starts[a] = at;
             for (i, _) in log.iter().enumerate().filter(|(_, &b)| usize::from(b) == a) {
-                places[at] = i as u8;
+                places[at] = i as u16;
                 at += 1;
             }
             at += 1;
@@ -116,7 +159,7 @@ impl Events {
 
     /// The letters that can be added to a prefix: each has an event left, and those that it may not pass have theirs later.
     pub fn addable(&self, c: Counts) -> u32 {
-        let counts = c.to_le_bytes();
+        let counts = c.each();
         let mut next = [0; 16];
         for a in 0..self.k {
             next[a] = self.places[self.starts[a] + usize::from(counts[a])];
@@ -124,7 +167,7 @@ impl Events {
         (0..self.k).filter(|&a| self.comes_next(&next, a)).fold(0, |set, a| set | 1 << a)
     }
 
-    fn comes_next(&self, next: &[u8; 16], a: usize) -> bool {
+    fn comes_next(&self, next: &[u16; 16], a: usize) -> bool {
         let own = next[a];
         own < self.end && letters(self.dependent[a].into()).all(|b| own < next[b])
     }

@@ -14,7 +14,7 @@
 #include <stdlib.h>
 #include <string.h>
 
-enum { LETTERS = 16, MOVES = 512, EVENTS = 255, TEXT = 4096, WORK = 16380, FILE_BYTES = 2 * LETTERS + 4 * MOVES + EVENTS + 16 };
+enum { LETTERS = 16, MOVES = 512, EVENTS = 4000, TEXT = 4096, WORK = 16380, FILE_BYTES = 2 * LETTERS + 4 * MOVES + EVENTS + 16 };
 
 /* All that a profile needs; the library keeps none of it. */
 struct profile {
@@ -79,7 +79,7 @@ static void add_pairs(struct profile *p, const char *pairs)
 
 static int judge(const struct profile *p, const uint8_t *log, size_t len)
 {
-    static uint32_t work[WORK]; /* six numbers for each prefix; as many as the program 'judge' has */
+    static uint32_t work[WORK]; /* ten numbers for each prefix; as many as the program 'judge' has */
     uint8_t order[EVENTS];
     uint64_t told[4]; /* place, verdict, P, looks */
     uint32_t number = fumarehi_judge(p->k, p->s, p->start, p->finals, p->masks, p->k, p->moves, p->s * p->k, log, len, order, EVENTS, work, WORK, told);

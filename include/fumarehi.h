@@ -4,7 +4,7 @@
  * this list, which is not by number throughout: 11, 12 and 13 stand where they are checked.
  *
  *    1  file under 16 bytes
- *    2  k, s or start out of range; trailer bytes 10 and 11 not zero; masks_len is not k, or moves_len is not s * k; counts_len is not 4
+ *    2  k, s or start out of range; trailer byte 11 not zero; masks_len is not k, or moves_len is not s * k; counts_len is not 8
  *   11  the text of typed courses breaks their rules or uses a letter from k on; the place in the text is told, from 0
  *   12  brackets of the text go deeper than 16
  *   13  more than 31 letters are typed
@@ -12,7 +12,7 @@
  *    4  a mask has a bit from k on, or its own bit
  *    5  unused: masks need not be symmetric
  *    6  a move or the final set has a bit from s on
- *    7  the log has more than 255 letters
+ *    7  the log has more than 4,000 letters; in a file too, before 8 is looked for
  *    8  a letter of the log is k or more; its first place in the log is told, from 0
  *    9  an output buffer is shorter than what it must receive
  *   10  the records of all prefixes do not fit the work table
@@ -27,7 +27,7 @@
  *   - it points to as many elements as the length says, which stay allocated and, unless the type is const, are no other argument's, during the call;
  *   - no other thread writes them meanwhile.
  * The functions keep no pointer, use no global data, no heap and no file, and may be called by several threads at once. The most stack measured is
- * 11.6 KB in fumarehi_expression, 3.3 KB in the others.
+ * 11.6 KB in fumarehi_expression, 11.0 KB in the others.
  *
  * A profile is k letters (1 to 16), s states (1 to 32), the start state (below s), the set of final states (bit q for state q), k masks (bit j of mask i
  * is set where letter i directly followed by j may become j followed by i: an exchange; the other direction is bit i of mask j) and s * k moves (at
@@ -62,7 +62,7 @@ enum {
 /* Judges a log. told: place, verdict, P, looks.
  * Verdict 1: some log that exchanges of neighbouring letters reach from the given one is accepted; the first log_len bytes of 'order' are the earliest such
  * log in letter order, the others stay. Verdict 0: none is; 'order' stays. P is the number of prefixes of the log; the work table then holds a
- * record of six numbers for each (see fumarehi_table). Looks is the number of pairs of a prefix and a letter such that adding one of that letter
+ * record of ten numbers for each (see fumarehi_table). Looks is the number of pairs of a prefix and a letter such that adding one of that letter
  * gives a prefix again; it may exceed 32 bits. Logs that exchanges turn into each other have equal P and looks.
  * Refused by 2, 4 and 6 to 10; 9 if order_len is below log_len, also where the verdict would be 0. */
 uint32_t fumarehi_judge(size_t k, size_t s, size_t start, uint32_t finals,
@@ -74,10 +74,10 @@ uint32_t fumarehi_judge(size_t k, size_t s, size_t start, uint32_t finals,
                         uint64_t told[4]);
 
 /* Builds the prefix table of a log. told: place, P, looks; both as of fumarehi_judge.
- * A record is six numbers, one record for each prefix by rising total count, and within one total by the counts, the count of letter 0 first, the
- * smaller first: numbers 0 to 3 have the counts, 8 bits each, letter i in bits 8 * (i mod 4) and up of number i div 4; number 4 is the set of states
- * that an order of the prefix leads to from the start; number 5 is the set of states from which an order of the rest leads to a final state. Numbers
- * past record P - 1 stay.
+ * A record is ten numbers, one record for each prefix by rising total count, and within one total by the counts, the count of letter 0 first, the
+ * smaller first: numbers 0 to 7 have the counts, 16 bits each, letter i in number i div 2, the even letter in the low half; number 8 is the set of
+ * states that an order of the prefix leads to from the start; number 9 is the set of states from which an order of the rest leads to a final state.
+ * Numbers past record P - 1 stay.
  * Refused by 2, 4, 6 to 8 and 10. */
 uint32_t fumarehi_table(size_t k, size_t s, size_t start, uint32_t finals,
                         const uint16_t *masks, size_t masks_len,
@@ -86,11 +86,11 @@ uint32_t fumarehi_table(size_t k, size_t s, size_t start, uint32_t finals,
                         uint32_t *table, size_t table_len,
                         uint64_t told[3]);
 
-/* Searches records for counts: numbers 0 to 3 of a record. told: found, number (and no place).
- * The records are those of 'table', a rest below six unused: lend the first 6 * P numbers of a table after an answer, or the part of it that has the
+/* Searches records for counts: numbers 0 to 7 of a record. told: found, number (and no place).
+ * The records are those of 'table', a rest below ten unused: lend the first 10 * P numbers of a table after an answer, or the part of it that has the
  * records of one total. Found is 1 and number is the record that has the counts, from 0 in what was lent; or found is 0, exactly when none has, and
  * number says how many records stand before their place. For records in another order than that of fumarehi_table the two say nothing.
- * Refused by 2, if counts_len is not 4; found and number are then 0. */
+ * Refused by 2, if counts_len is not 8; found and number are then 0. */
 uint32_t fumarehi_find(const uint32_t *table, size_t table_len,
                        const uint32_t *counts, size_t counts_len,
                        uint64_t told[2]);
@@ -113,14 +113,14 @@ uint32_t fumarehi_first_order(size_t k,
                               uint64_t told[1]);
 
 /* Reads a log file. told: place, k, s, start, final set, log length.
- * Fills the first k masks and the first s * k moves; further elements stay. Refused by 1 to 4, 6, 8 and 9; 7 cannot be, as the length is one byte. */
+ * Fills the first k masks and the first s * k moves; further elements stay. Refused by 1 to 4 and 6 to 9. */
 uint32_t fumarehi_read_file(const uint8_t *file, size_t file_len,
                             uint16_t *masks, size_t masks_len,
                             uint32_t *moves, size_t moves_len,
                             uint64_t told[6]);
 
 /* Finds the log in a log file. told: place, offset, length.
- * The log is the part file[offset] to file[offset + length - 1]. Refused by 1 to 4, 6 and 8; the part is then empty. */
+ * The log is the part file[offset] to file[offset + length - 1]. Refused by 1 to 4 and 6 to 8; the part is then empty. */
 uint32_t fumarehi_log_part(const uint8_t *file, size_t file_len,
                            uint64_t told[3]);
 

@@ -33,7 +33,7 @@ __attribute__((format(printf, 2, 3))) static void expect(int holds, const char *
 
 /* ---- Samples ---- */
 
-enum { INPUT = 65536, TABLE = 16380, TEXT = 2048 };
+enum { INPUT = 65536, TABLE = 16380, MOST = 4000, TEXT = 16384 };
 
 static size_t load(const char *path, uint8_t *to, size_t room)
 {
@@ -61,7 +61,7 @@ static size_t report(const uint8_t *file, size_t file_len, char *text)
     static uint32_t table[TABLE];
     uint16_t masks[16];
     uint32_t moves[512];
-    uint8_t order[255];
+    uint8_t order[MOST];
     uint64_t head[6], part[3], told[4];
     if (file_len > INPUT)
         return (size_t)sprintf(text, "too long\n");
@@ -121,6 +121,9 @@ static void sample(const char *path)
 }
 
 /* ---- Document 01's cases ---- */
+
+/* Numbers of a record, and those of them that have the counts. */
+enum { RECORD = 10, COUNTS = 8 };
 
 struct profile {
     size_t k, s, start;
@@ -186,14 +189,14 @@ static size_t spell(const char *word, uint8_t *log)
 static void judged(const struct worked *c, const struct profile *p)
 {
     uint8_t log[16], order[16], expected[16];
-    uint32_t table[60];
+    uint32_t table[9 * RECORD];
     uint64_t told[4];
     size_t len = spell(c->log, log);
     memset(order, 0xA5, sizeof order);
     memset(expected, 0xA5, sizeof expected);
     spell(c->order, expected);
     uint32_t answer = fumarehi_judge(p->k, p->s, p->start, p->finals, p->masks, p->k, p->moves, p->s * p->k, log, len,
-                                     order, sizeof order, table, 60, told);
+                                     order, sizeof order, table, 9 * RECORD, told);
     expect(answer == 0 && told[0] == 0, "%s: judge answers %u", c->mark, (unsigned)answer);
     expect(told[1] == c->verdict && told[2] == c->prefixes, "%s: verdict %u, P %u", c->mark, (unsigned)told[1], (unsigned)told[2]);
     expect(told[3] == c->looks, "%s: looks %u", c->mark, (unsigned)told[3]);
@@ -232,9 +235,9 @@ static void tabled(const struct worked *c)
 {
     const struct profile *p = c->profile;
     uint8_t log[16];
-    uint32_t table[61];
+    uint32_t table[9 * RECORD + 1];
     uint64_t told[3];
-    size_t len = spell(c->log, log), needed = 6 * c->prefixes;
+    size_t len = spell(c->log, log), needed = RECORD * c->prefixes;
     memset(table, 0xA5, sizeof table);
     uint32_t answer = fumarehi_table(p->k, p->s, p->start, p->finals, p->masks, p->k, p->moves, p->s * p->k, log, len, table, needed, told);
     expect(answer == 0 && told[0] == 0 && told[1] == c->prefixes, "%s: table answers %u, P %u", c->mark, (unsigned)answer, (unsigned)told[1]);
@@ -247,45 +250,52 @@ static void tabled(const struct worked *c)
 /* M9's records: the empty prefix, b, a, ab. */
 static void sets_of_m9(void)
 {
-    static const uint32_t records[24] = {0, 0, 0, 0, 1, 1, 256, 0, 0, 0, 0, 0, 1, 0, 0, 0, 2, 2, 257, 0, 0, 0, 1, 1};
+    static const uint32_t records[4][RECORD] = {
+        {0, 0, 0, 0, 0, 0, 0, 0, 1, 1},
+        {65536, 0, 0, 0, 0, 0, 0, 0, 0, 0},
+        {1, 0, 0, 0, 0, 0, 0, 0, 2, 2},
+        {65537, 0, 0, 0, 0, 0, 0, 0, 1, 1},
+    };
     const uint8_t log[] = {1, 0};
-    uint32_t table[24];
+    uint32_t table[4 * RECORD];
     uint64_t told[3];
-    fumarehi_table(2, 2, 0, 1, alt.masks, 2, alt.moves, 4, log, 2, table, 24, told);
+    fumarehi_table(2, 2, 0, 1, alt.masks, 2, alt.moves, 4, log, 2, table, 4 * RECORD, told);
     expect(!memcmp(table, records, sizeof records), "M9: the records");
 }
 
-/* The search among 'len' numbers tells found and number. */
-static void told_of(const uint32_t *table, size_t len, uint32_t first, uint64_t found, uint64_t number)
+/* The search among 'len' numbers for the counts of a and b, and of c, tells found and number. */
+static void told_of(const uint32_t *table, size_t len, uint32_t ab, uint32_t c, uint64_t found, uint64_t number)
 {
-    const uint32_t counts[4] = {first, 0, 0, 0};
+    const uint32_t counts[COUNTS] = {ab, c};
     uint64_t told[2] = {7, 7};
-    uint32_t answer = fumarehi_find(table, len, counts, 4, told);
-    expect(answer == 0 && told[0] == found && told[1] == number, "find %u in %zu numbers: %u, %u, %u", (unsigned)first, len, (unsigned)answer,
-           (unsigned)told[0], (unsigned)told[1]);
+    uint32_t answer = fumarehi_find(table, len, counts, COUNTS, told);
+    expect(answer == 0 && told[0] == found && told[1] == number, "find %u, %u in %zu numbers: %u, %u, %u", (unsigned)ab, (unsigned)c, len,
+           (unsigned)answer, (unsigned)told[0], (unsigned)told[1]);
 }
 
 /* M9's prefixes are found where they stand, in the whole table and in the part of one total; other counts have their place. */
 static void searched(void)
 {
-    static const uint32_t first[4] = {0, 256, 1, 257}, none[8] = {0};
+    static const uint32_t first[4] = {0, 65536, 1, 65537}, none[12] = {0};
     const uint8_t log[] = {1, 0};
-    uint32_t table[24];
+    uint32_t table[4 * RECORD];
     uint64_t told[3];
-    fumarehi_table(2, 2, 0, 1, alt.masks, 2, alt.moves, 4, log, 2, table, 24, told);
+    fumarehi_table(2, 2, 0, 1, alt.masks, 2, alt.moves, 4, log, 2, table, 4 * RECORD, told);
     for (uint64_t r = 0; r < 4; r++)
-        told_of(table, 24, first[r], 1, r);
-    told_of(table, 24, 512, 0, 3);
-    told_of(table, 24, 2, 0, 4);
-    told_of(table, 24, 65536, 0, 1);
-    told_of(table + 6, 12, 1, 1, 1);
-    told_of(table + 6, 17, 257, 0, 2);
-    told_of(table + 6, 12, 0, 0, 0);
-    told_of(table, 0, 0, 0, 0);
-    for (size_t len = 0; len < 8; len++) {
+        told_of(table, 4 * RECORD, first[r], 0, 1, r);
+    told_of(table, 4 * RECORD, 131072, 0, 0, 3);
+    told_of(table, 4 * RECORD, 2, 0, 0, 4);
+    told_of(table, 4 * RECORD, 0, 1, 0, 1);
+    told_of(table, 4 * RECORD, 0, 4000, 0, 4);
+    told_of(table + RECORD, 2 * RECORD, 1, 0, 1, 1);
+    told_of(table + RECORD, 3 * RECORD - 1, 65537, 0, 0, 2);
+    told_of(table + RECORD, 2 * RECORD, 0, 0, 0, 0);
+    told_of(table, 0, 0, 0, 0, 0);
+    for (size_t len = 0; len < 12; len++) {
         told[0] = told[1] = 7;
-        uint32_t answer = fumarehi_find(table, 24, none, len, told);
-        expect(answer == (len == 4 ? 0 : 2) && told[0] == (len == 4) && told[1] == 0, "find with %zu numbers of counts: %u", len, (unsigned)answer);
+        uint32_t answer = fumarehi_find(table, 4 * RECORD, none, len, told);
+        expect(answer == (len == COUNTS ? 0 : 2) && told[0] == (len == COUNTS) && told[1] == 0, "find with %zu numbers of counts: %u", len,
+               (unsigned)answer);
     }
 }
 
@@ -330,18 +340,61 @@ static void one_way_pair(void)
     }
 }
 
+/* n times one letter: n + 1 records, the last of which counts n in the letter's half of its number; with one number less they do not fit. */
+static void length(uint8_t letter, size_t n)
+{
+    static uint8_t log[MOST], order[MOST];
+    static uint32_t table[RECORD * (MOST + 1)];
+    uint64_t told[4];
+    size_t needed = RECORD * (n + 1);
+    memset(log, letter, sizeof log);
+    uint32_t answer = fumarehi_judge(2, 2, 0, 1, alt.masks, 2, alt.moves, 4, log, n, order, n, table, needed, told);
+    expect(answer == 0 && told[2] == n + 1 && told[3] == n, "%zu letters: %u, P %u, looks %u", n, (unsigned)answer, (unsigned)told[2], (unsigned)told[3]);
+    expect(table[needed - RECORD] == (uint32_t)n << 16 * letter, "%zu letters: the last count", n);
+    answer = fumarehi_judge(2, 2, 0, 1, alt.masks, 2, alt.moves, 4, log, n, order, n, table, needed - 1, told);
+    expect(answer == 10 && told[2] == 0, "%zu letters in a short table: %u", n, (unsigned)answer);
+}
+
 static void lengths(void)
 {
-    static const uint8_t log[256] = {0};
-    static uint32_t table[6 * 256];
-    uint8_t order[256], ab[] = {0, 1, 1};
+    static const size_t admitted[] = {254, 255, 256, 257, MOST - 1, MOST};
+    static const uint8_t log[MOST + 1] = {0};
+    static uint32_t table[RECORD * (MOST + 2)];
+    static uint8_t order[MOST + 1];
+    uint8_t ab[] = {0, 1, 1};
     uint64_t told[4];
-    uint32_t answer = fumarehi_judge(2, 2, 0, 1, alt.masks, 2, alt.moves, 4, log, 255, order, 255, table, 6 * 256, told);
-    expect(answer == 0 && told[2] == 256 && told[3] == 255, "255 letters: %u, P %u, looks %u", (unsigned)answer, (unsigned)told[2], (unsigned)told[3]);
-    answer = fumarehi_judge(2, 2, 0, 1, alt.masks, 2, alt.moves, 4, log, 256, order, 256, table, 6 * 256, told);
-    expect(answer == 7 && told[2] == 0, "256 letters: %u", (unsigned)answer);
+    for (size_t i = 0; i < sizeof admitted / sizeof *admitted; i++) {
+        length(0, admitted[i]);
+        length(1, admitted[i]);
+    }
+    uint32_t answer = fumarehi_judge(2, 2, 0, 1, alt.masks, 2, alt.moves, 4, log, MOST + 1, order, MOST + 1, table, RECORD * (MOST + 2), told);
+    expect(answer == 7 && told[2] == 0, "4,001 letters: %u", (unsigned)answer);
     answer = fumarehi_same(2, alt.masks, 2, ab, 2, ab, 3, told);
     expect(answer == 0 && told[2] == 0, "ab and abb: %u, %u", (unsigned)answer, (unsigned)told[2]);
+}
+
+/* Counts of both letters past one byte. Alt on SIDE times b and then SIDE times a: any counts up to SIDE are a prefix, and the records stand by total and
+ * then by the count of a. */
+static void square(void)
+{
+    enum { SIDE = 300, RECORDS = (SIDE + 1) * (SIDE + 1) };
+    static uint8_t log[2 * SIDE], order[2 * SIDE];
+    static uint32_t table[RECORD * RECORDS];
+    uint64_t told[4], wrong = 0;
+    memset(log, 1, SIDE);
+    uint32_t answer = fumarehi_judge(2, 2, 0, 1, alt.masks, 2, alt.moves, 4, log, 2 * SIDE, order, 2 * SIDE, table, RECORD * RECORDS, told);
+    expect(answer == 0 && told[1] == 1 && told[2] == RECORDS && told[3] == 2 * SIDE * (SIDE + 1), "a square: %u, P %u, looks %u", (unsigned)answer,
+           (unsigned)told[2], (unsigned)told[3]);
+    const uint32_t *record = table;
+    for (uint32_t total = 0; total <= 2 * SIDE; total++)
+        for (uint32_t a = total > SIDE ? total - SIDE : 0; a <= SIDE && a <= total; a++, record += RECORD) {
+            uint32_t b = total - a, set = a == b ? 1 : a == b + 1 ? 2 : 0;
+            uint32_t expected[RECORD] = {a | b << 16, 0, 0, 0, 0, 0, 0, 0, set, set};
+            wrong += memcmp(record, expected, sizeof expected) != 0;
+        }
+    for (size_t i = 0; i < 2 * SIDE; i++)
+        wrong += order[i] != i % 2;
+    expect(wrong == 0 && record == table + RECORD * RECORDS, "a square: %u wrong", (unsigned)wrong);
 }
 
 static const uint8_t alt_file[40] = {
@@ -360,7 +413,7 @@ static const char *large_table(void)
     uint8_t order[2];
     uint64_t told[4];
     uint32_t answer = fumarehi_judge(2, 2, 0, 1, alt.masks, 2, alt.moves, 4, log, 2, order, 2, table, len, told);
-    expect(answer == 0 && told[1] == 1 && told[2] == 4 && table[24] == 0, "a large table: %u", (unsigned)answer);
+    expect(answer == 0 && told[1] == 1 && told[2] == 4 && table[4 * RECORD] == 0, "a large table: %u", (unsigned)answer);
     munmap(table, bytes);
     return "answered";
 }
@@ -449,6 +502,7 @@ static void worked_cases(void)
     reached(&all_of_three, "cab", m8, 3, "bca");
     one_way_pair();
     lengths();
+    square();
     for (size_t i = 0; i < sizeof texts / sizeof *texts; i++)
         texted(&texts[i]);
     long_text();
@@ -458,14 +512,17 @@ static void worked_cases(void)
 
 enum { AROUND = 8 };
 
+/* The file that is read: Alt's log at LOG_AT, zeros up to FRONT, so that a longer log fits, then Alt's masks, moves and trailer. */
+enum { LOG_AT = 16, FRONT = 4096, READ = FRONT + 40 };
+
 /* All arguments of all functions. Every buffer has AROUND guard elements before and after the part that is lent. */
 struct lent {
     size_t k, s, start, masks_len, moves_len, log_len, second_len, order_len, table_len, file_len, text_len;
     uint64_t told[1 + 6 + 1];
     uint32_t finals;
-    uint32_t moves[AROUND + 16 + AROUND], table[AROUND + 64 + AROUND];
+    uint32_t moves[AROUND + 16 + AROUND], table[AROUND + 100 + AROUND];
     uint16_t masks[AROUND + 8 + AROUND];
-    uint8_t log[AROUND + 256 + AROUND], second[AROUND + 256 + AROUND], order[AROUND + 256 + AROUND], file[AROUND + 64 + AROUND];
+    uint8_t log[AROUND + MOST + 1 + AROUND], second[AROUND + MOST + 1 + AROUND], order[AROUND + 16 + AROUND], file[AROUND + READ + 24 + AROUND];
     uint8_t text[AROUND + 96 + AROUND];
 };
 
@@ -526,6 +583,10 @@ static const struct function {
 
 enum { FUNCTIONS = sizeof functions / sizeof *functions };
 
+/* The trailer of the file that is read, and its masks and moves. */
+static uint8_t *trailer(struct lent *l) { return l->file + AROUND + FRONT + 24; }
+static uint8_t *in_file(struct lent *l, size_t at) { return l->file + AROUND + FRONT + at; }
+
 /* A call that is answered: Alt on bbaa, second log abab; the reader has a file and room to spare, the writer only room; Alt's courses are typed, with
  * room to spare for their moves. */
 static void answered_call(struct lent *l, unsigned function)
@@ -537,8 +598,8 @@ static void answered_call(struct lent *l, unsigned function)
     l->finals = 1;
     l->moves_len = l->log_len = l->second_len = 4;
     l->order_len = 6;
-    l->table_len = 64;
-    l->file_len = function == W ? 50 : 40;
+    l->table_len = 100;
+    l->file_len = function == W ? 50 : READ;
     memcpy(l->log + AROUND, bbaa, 4);
     memcpy(l->second + AROUND, abab, 4);
     memcpy(l->text + AROUND, "(ab)*", l->text_len = 5);
@@ -547,7 +608,11 @@ static void answered_call(struct lent *l, unsigned function)
     } else if (function & FILES) {
         l->masks_len = 5;
         l->moves_len = 7;
-        memcpy(l->file + AROUND, alt_file, sizeof alt_file);
+        memset(l->file + AROUND, 0, FRONT);
+        memcpy(l->file + AROUND + LOG_AT, bbaa, 4);
+        memcpy(l->file + AROUND + FRONT, alt_file, sizeof alt_file);
+        trailer(l)[8] = (READ - 16 - LOG_AT) % 256;
+        trailer(l)[9] = (READ - 16 - LOG_AT) / 256;
     } else {
         memcpy(l->masks + AROUND, alt.masks, 2 * sizeof *alt.masks);
         memcpy(l->moves + AROUND, alt.moves, 4 * sizeof *alt.moves);
@@ -565,7 +630,7 @@ static void answer(struct lent *l, const struct lent *after, unsigned function, 
     static const uint8_t abab[] = {0, 1, 0, 1}, aabb[] = {0, 0, 1, 1};
     static const uint32_t made[] = {2, 0, 0, 4, 2, 0};
     if (function & (J | T))
-        memcpy(l->table + AROUND, after->table + AROUND, 54 * sizeof *l->table);
+        memcpy(l->table + AROUND, after->table + AROUND, 9 * RECORD * sizeof *l->table);
     if (function == J && verdict)
         memcpy(l->order + AROUND, abab, 4);
     if (function == F)
@@ -584,7 +649,7 @@ static void answer(struct lent *l, const struct lent *after, unsigned function, 
     case S: tell(l, 3, (uint64_t[]){0, 0, 1}); break;
     case F: tell(l, 1, (uint64_t[]){0}); break;
     case R: tell(l, 6, (uint64_t[]){0, 2, 2, 0, 1, 4}); break;
-    case L: tell(l, 3, (uint64_t[]){0, 20, 4}); break;
+    case L: tell(l, 3, (uint64_t[]){0, LOG_AT, 4}); break;
     case W: tell(l, 2, (uint64_t[]){0, 40}); break;
     case E: tell(l, 4, (uint64_t[]){0, 3, 0, 5}); break;
     }
@@ -608,10 +673,6 @@ static void answered(size_t f, uint64_t verdict)
     expect(!memcmp(&l, &expected, sizeof l), "%s: told or a buffer", functions[f].name);
 }
 
-/* The trailer of the file, and its sections. */
-static uint8_t *trailer(struct lent *l) { return l->file + AROUND + 24; }
-static uint8_t *in_file(struct lent *l, size_t at) { return l->file + AROUND + at; }
-
 /* Sets bits of a mask, of a move and of the final set, for direct calls and in the file. */
 static void mask_bits(struct lent *l, size_t i, unsigned bits)
 {
@@ -634,7 +695,17 @@ static void type(struct lent *l, char byte, size_t count)
     l->text_len += count;
 }
 
-static void letter(struct lent *l, size_t at, uint8_t a) { l->log[AROUND + at] = *in_file(l, 20 + at) = a; }
+static void letter(struct lent *l, size_t at, uint8_t a) { l->log[AROUND + at] = l->file[AROUND + LOG_AT + at] = a; }
+
+/* 4,001 letters in the log, and 4,005 in the file. The bits that n has stay, so that it can be too large for its distance as well. */
+static void long_log(struct lent *l, uint8_t a)
+{
+    l->log_len = MOST + 1;
+    memset(l->log + AROUND, a, MOST + 1);
+    memset(l->file + AROUND + LOG_AT + 4, a, MOST + 1);
+    trailer(l)[3] |= 0xA1;
+    trailer(l)[10] |= 0x0F;
+}
 
 static void short_file(struct lent *l) { l->file_len = 15; }
 static void no_file(struct lent *l) { l->file_len = 0; }
@@ -652,26 +723,26 @@ static void masks_1(struct lent *l) { l->masks_len = 1; }
 static void masks_3(struct lent *l) { l->masks_len = 3; }
 static void moves_3(struct lent *l) { l->moves_len = 3; }
 static void moves_5(struct lent *l) { l->moves_len = 5; }
-static void byte_10(struct lent *l) { trailer(l)[10] = 1; }
+static void byte_10(struct lent *l) { trailer(l)[10] = 255; }
 static void byte_11(struct lent *l) { trailer(l)[11] = 128; }
 static void masks_near(struct lent *l) { trailer(l)[4] = 3; }
-static void masks_far(struct lent *l) { trailer(l)[4] = 25; }
+static void masks_far(struct lent *l) { trailer(l)[5] = (READ - 15) / 256 + 1; }
 static void moves_near(struct lent *l) { trailer(l)[6] = 15; }
-static void moves_far(struct lent *l) { trailer(l)[7] = 1; }
-static void log_near(struct lent *l) { trailer(l)[8] = 3; }
-static void log_far(struct lent *l) { trailer(l)[8] = 25; }
+static void moves_far(struct lent *l) { trailer(l)[7] = (READ - 15) / 256 + 1; }
+static void log_near(struct lent *l) { trailer(l)[8] = 3, trailer(l)[9] = 0; }
+static void log_far(struct lent *l) { trailer(l)[8] = (READ - 15) % 256, trailer(l)[9] = (READ - 15) / 256; }
 static void own_bit(struct lent *l) { mask_bits(l, 1, 2); }
 static void bit_k(struct lent *l) { mask_bits(l, 0, 4); }
 static void bit_15(struct lent *l) { mask_bits(l, 1, 0x8000); }
 static void move_s(struct lent *l) { move_bits(l, 0, 4); }
 static void move_31(struct lent *l) { move_bits(l, 3, 0x80000000); }
 static void final_s(struct lent *l) { l->finals |= 4, trailer(l)[12] |= 4; }
-static void log_256(struct lent *l) { l->log_len = 256, memset(l->log + AROUND, 0, 256); }
-static void log_bad_256(struct lent *l) { l->log_len = 256, memset(l->log + AROUND, 9, 256); }
+static void log_4001(struct lent *l) { long_log(l, 0); }
+static void log_bad_4001(struct lent *l) { long_log(l, 9); }
 static void letter_first(struct lent *l) { letter(l, 0, 2); }
 static void letter_last(struct lent *l) { letter(l, 3, 255); }
 static void letters_two(struct lent *l) { letter(l, 1, 16), letter(l, 2, 32); }
-static void second_256(struct lent *l) { l->second_len = 256, memset(l->second + AROUND, 0, 256); }
+static void second_4001(struct lent *l) { l->second_len = MOST + 1, memset(l->second + AROUND, 0, MOST + 1); }
 static void second_letter(struct lent *l) { l->second[AROUND + 2] = 2; }
 static void text_letter(struct lent *l) { l->text[AROUND + 2] = 'c'; }
 static void text_choice(struct lent *l) { l->text[AROUND] = '|'; }
@@ -684,8 +755,8 @@ static void moves_0(struct lent *l) { l->moves_len = 0; }
 static void order_3(struct lent *l) { l->order_len = 3; }
 static void order_0(struct lent *l) { l->order_len = 0; }
 static void file_39(struct lent *l) { l->file_len = 39; }
-static void table_53(struct lent *l) { l->table_len = 53; }
-static void table_5(struct lent *l) { l->table_len = 5; }
+static void table_89(struct lent *l) { l->table_len = 89; }
+static void table_9(struct lent *l) { l->table_len = 9; }
 static void table_0(struct lent *l) { l->table_len = 0; }
 
 /* By rank, the order in which refusals are given; the second log of fumarehi_same comes after the first. */
@@ -713,7 +784,6 @@ static const struct damage {
     {"three masks", RELATION, 2, 0, 0, 20, masks_3},
     {"three moves", PROFILE, 2, 0, 0, 20, moves_3},
     {"five moves", PROFILE, 2, 0, 0, 20, moves_5},
-    {"trailer byte 10", FILES, 2, 0, 0, 20, byte_10},
     {"trailer byte 11", FILES, 2, 0, 0, 20, byte_11},
     {"a letter k in the text", E, 11, 2, 0, 21, text_letter},
     {"an empty choice in the text", E, 11, 0, 0, 21, text_choice},
@@ -727,6 +797,7 @@ static const struct damage {
     {"moves too near", FILES, 3, 0, 0, 30, moves_near},
     {"moves too far", FILES, 3, 0, 0, 30, moves_far},
     {"log too near", FILES, 3, 0, 0, 30, log_near},
+    {"trailer byte 10 past the file", FILES, 3, 0, 0, 30, byte_10},
     {"log too far", FILES, 3, 0, 0, 30, log_far},
     {"a mask with its own bit", RELATION | FILES, 4, 0, 0, 40, own_bit},
     {"a mask with bit k", RELATION | FILES, 4, 0, 0, 40, bit_k},
@@ -734,12 +805,12 @@ static const struct damage {
     {"a move with bit s", PROFILE | FILES, 6, 0, 0, 60, move_s},
     {"a move with bit 31", PROFILE | FILES, 6, 0, 0, 60, move_31},
     {"a final set with bit s", PROFILE | FILES, 6, 0, 0, 60, final_s},
-    {"256 letters", RELATION, 7, 0, 1, 70, log_256},
-    {"256 bad letters", RELATION, 7, 0, 1, 70, log_bad_256},
+    {"4,001 letters", RELATION | FILES, 7, 0, 1, 70, log_4001},
+    {"4,001 bad letters", RELATION | FILES, 7, 0, 1, 70, log_bad_4001},
     {"letter k first", RELATION | FILES, 8, 0, 1, 80, letter_first},
     {"letter 255 last", RELATION | FILES, 8, 3, 1, 80, letter_last},
     {"two bad letters", RELATION | FILES, 8, 1, 1, 80, letters_two},
-    {"256 letters in the second log", S, 7, 0, 2, 81, second_256},
+    {"4,001 letters in the second log", S, 7, 0, 2, 81, second_4001},
     {"a bad letter in the second log", S, 8, 2, 2, 82, second_letter},
     {"an order buffer of 3", J | F, 9, 0, 0, 90, order_3},
     {"no order buffer", J | F, 9, 0, 0, 90, order_0},
@@ -749,8 +820,8 @@ static const struct damage {
     {"a move buffer of 3", R, 9, 0, 0, 90, moves_3},
     {"a buffer of 5 for typed courses", E, 9, 0, 0, 90, moves_5},
     {"no buffer for typed courses", E, 9, 0, 0, 90, moves_0},
-    {"a table of 53", J | T, 10, 0, 0, 100, table_53},
-    {"a table of 5", J | T, 10, 0, 0, 100, table_5},
+    {"a table of 89", J | T, 10, 0, 0, 100, table_89},
+    {"a table of 9", J | T, 10, 0, 0, 100, table_9},
     {"no table", J | T, 10, 0, 0, 100, table_0},
 };
 
@@ -785,8 +856,8 @@ static void refused_calls(size_t f)
                 refused(f, lower, higher);
 }
 
-/* The refusals of each function, as the header lists them, ':' for 10, ';' for 11 and so on; a file's log never has more than 255 letters. */
-static const char *const possible[FUNCTIONS] = {"246789:", "24678:", "2478", "24789", "1234689", "123468", "246789", "29;<="};
+/* The refusals of each function, as the header lists them, ':' for 10, ';' for 11 and so on. */
+static const char *const possible[FUNCTIONS] = {"246789:", "24678:", "2478", "24789", "12346789", "1234678", "246789", "29;<="};
 
 static void print_answers(void)
 {

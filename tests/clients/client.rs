@@ -79,7 +79,7 @@ fn held(compared: &mut Compared, name: &str, file: &[u8], read: &Read, order: Op
     compared.expect(file.as_ptr_range().contains(&read.log.as_ptr()), &format!("{name}: the log is no part of the file"));
     compared.expect(fumarehi::events(read.log).eq(read.log.iter().copied()), &format!("{name}: the events"));
 
-    let mut written = [0xa5; 4096];
+    let mut written = [0xa5; 6144];
     let len = fumarehi::write_file(&read.profile(), read.log, &mut written);
     let again = len.and_then(|len| self::read(&written[..len]).map(|again| (again.header, again.masks, again.moves, again.log.to_vec())));
     compared.expect(again == Ok((read.header, read.masks, read.moves, read.log.to_vec())), &format!("{name}: written and read back"));
@@ -125,7 +125,7 @@ fn refused_inputs() -> Vec<(Refused, Profile<'static>, Vec<u8>)> {
         (refused(Refusal::MaskBit, 0), Profile { masks: &[2, 5], ..ALT }, BA.to_vec()),
         (refused(Refusal::StateBit, 0), Profile { moves: &[2, 0, 0, 5], ..ALT }, BA.to_vec()),
         (refused(Refusal::StateBit, 0), Profile { finals: 1 << 31, ..ALT }, BA.to_vec()),
-        (refused(Refusal::LongLog, 0), ALT, vec![0; 256]),
+        (refused(Refusal::LongLog, 0), ALT, vec![0; 4001]),
         (refused(Refusal::BadLetter, 1), ALT, vec![1, 2, 0, 255]),
     ]
 }
@@ -166,38 +166,41 @@ fn refused_buffers(compared: &mut Compared) {
         compared.expect((masks, moves) == (MASKS, TABLE), &format!("buffers after {masks_len} masks, {moves_len} moves"));
     }
 
-    compared.expect(fumarehi::judge(&ALT, BA, &mut order, &mut table[..23]) == Err(full), "judge: a table of 23");
-    compared.expect(fumarehi::table(&ALT, BA, &mut table[..23]) == Err(full), "table: a table of 23");
-    compared.expect(order == ORDER && table[23..] == TABLE[23..], "buffers after a full table");
-    compared.expect(fumarehi::table(&ALT, BA, &mut table[..24]).is_ok_and(|table| table.prefixes == 4 && table.looks == 4), "table: a table of 24");
+    compared.expect(fumarehi::judge(&ALT, BA, &mut order, &mut table[..39]) == Err(full), "judge: a table of 39");
+    compared.expect(fumarehi::table(&ALT, BA, &mut table[..39]) == Err(full), "table: a table of 39");
+    compared.expect(order == ORDER && table[39..] == TABLE[39..], "buffers after a full table");
+    compared.expect(fumarehi::table(&ALT, BA, &mut table[..40]).is_ok_and(|table| table.prefixes == 4 && table.looks == 4), "table: a table of 40");
 }
 
 /// Each record of a table is found by its counts, other counts have their place, and the search has no more than one refusal.
 fn searches(compared: &mut Compared) {
     let mut table = TABLE;
     let prefixes = fumarehi::table(&ALT, &[1, 1, 0, 0], &mut table).map_or(0, |table| table.prefixes as usize);
-    let records = &table[..6 * prefixes];
-    for (at, record) in records.chunks(6).enumerate() {
-        compared.expect(fumarehi::find(records, &record[..4]) == Ok(Found::At(at)), &format!("find: record {at} of M2"));
+    let records = &table[..10 * prefixes];
+    for (at, record) in records.chunks(10).enumerate() {
+        compared.expect(fumarehi::find(records, &record[..8]) == Ok(Found::At(at)), &format!("find: record {at} of M2"));
     }
-    let counts: Vec<u32> = records.chunks(6).map(|record| record[0]).collect();
-    compared.expect(counts == [0, 256, 1, 512, 257, 2, 513, 258, 514], &format!("the order of M2's records: {counts:?}"));
-    for (first, at) in [(3 << 8, 6), (3, 8), (1 << 16, 1), (3 | 3 << 8, 9)] {
-        compared.expect(fumarehi::find(records, &[first, 0, 0, 0]) == Ok(Found::Absent(at)), &format!("find: counts {first} of M2"));
+    let counts: Vec<u32> = records.chunks(10).map(|record| record[0]).collect();
+    let of = |a: u32, b: u32| a | b << 16;
+    let order = [of(0, 0), of(0, 1), of(1, 0), of(0, 2), of(1, 1), of(2, 0), of(1, 2), of(2, 1), of(2, 2)];
+    compared.expect(counts == order, &format!("the order of M2's records: {counts:?}"));
+    for (ab, c, at) in [(of(0, 3), 0, 6), (of(3, 0), 0, 8), (0, 1, 1), (of(3, 3), 0, 9), (of(0, 4000), 0, 9)] {
+        let found = fumarehi::find(records, &[ab, c, 0, 0, 0, 0, 0, 0]);
+        compared.expect(found == Ok(Found::Absent(at)), &format!("find: counts {ab}, {c} of M2"));
     }
-    let ones = &records[18..36];
-    compared.expect(fumarehi::find(ones, &[257, 0, 0, 0]) == Ok(Found::At(1)), "find: ab among the prefixes of two events");
-    compared.expect(fumarehi::find(ones, &[513, 0, 0, 0]) == Ok(Found::Absent(3)), "find: a larger total");
-    compared.expect(fumarehi::find(&[], &[0; 4]) == Ok(Found::Absent(0)), "find: no records");
+    let twos = &records[30..60];
+    compared.expect(fumarehi::find(twos, &[of(1, 1), 0, 0, 0, 0, 0, 0, 0]) == Ok(Found::At(1)), "find: ab among the prefixes of two events");
+    compared.expect(fumarehi::find(twos, &[of(1, 2), 0, 0, 0, 0, 0, 0, 0]) == Ok(Found::Absent(3)), "find: a larger total");
+    compared.expect(fumarehi::find(&[], &[0; 8]) == Ok(Found::Absent(0)), "find: no records");
     let refused = Refused { refusal: Refusal::OutOfRange, place: 0, log: 0 };
-    for len in [0, 3, 5] {
-        compared.expect(fumarehi::find(records, &[0; 5][..len]) == Err(refused), &format!("find: {len} numbers of counts"));
+    for len in [0, 4, 7, 9] {
+        compared.expect(fumarehi::find(records, &[0; 9][..len]) == Err(refused), &format!("find: {len} numbers of counts"));
     }
 }
 
 fn refused_same(compared: &mut Compared) {
     let alt = Relation { k: 2, masks: &[2, 1] };
-    let (long, bad) = ([0; 256], [0, 1, 2]);
+    let (long, bad) = ([0; 4001], [0, 1, 2]);
     let refused = |refusal, place, log| Err(Refused { refusal, place, log });
     compared.expect(fumarehi::same(&alt, &long, &bad) == refused(Refusal::LongLog, 0, 1), "same: a long first log");
     compared.expect(fumarehi::same(&alt, &bad, &long) == refused(Refusal::BadLetter, 2, 1), "same: a bad letter in the first log");
@@ -209,7 +212,7 @@ fn refused_same(compared: &mut Compared) {
 fn one_way(compared: &mut Compared) {
     let ab: &[u8] = &[0, 1];
     for (masks, expected) in [(&[0, 1], Some(ab)), (&[2, 0], None)] {
-        let (relation, mut order, mut first, mut table) = (Relation { k: 2, masks }, [9; 2], [9; 2], [0; 24]);
+        let (relation, mut order, mut first, mut table) = (Relation { k: 2, masks }, [9; 2], [9; 2], [0; 40]);
         let verdict = fumarehi::judge(&Profile { masks, ..ALT }, BA, &mut order, &mut table);
         let prefixes = if expected.is_some() { 4 } else { 3 };
         compared.expect(verdict.is_ok_and(|v| (v.has_order, v.prefixes) == (expected.is_some(), prefixes)), &format!("{masks:?}: the verdict of ba"));
@@ -220,6 +223,35 @@ fn one_way(compared: &mut Compared) {
             compared.expect(fumarehi::same(&relation, first, second) == Ok(same), &format!("{masks:?}: {first:?} and {second:?}"));
         }
     }
+}
+
+/// A log of 4,000 letters in a file and out of it: both bytes of its length are written and read, and with one more letter it is refused.
+fn long_log(compared: &mut Compared) {
+    let log = vec![1; 4001];
+    let (mut file, mut order, mut table) = (vec![0; 5000], vec![0; 4000], vec![0; 40_010]);
+    for len in [255, 256, 257, 4000] {
+        let written = fumarehi::write_file(&ALT, &log[..len], &mut file);
+        compared.expect(written == Ok(36 + len), &format!("a file of {len} letters: {written:?}"));
+        let read = read(&file[..36 + len]);
+        let back = read.is_ok_and(|read| read.log == &log[..len] && read.header.log_len == len);
+        compared.expect(back, &format!("{len} letters read back"));
+        let verdict = fumarehi::judge(&ALT, &log[..len], &mut order, &mut table[..10 * (len + 1)]);
+        compared.expect(verdict.is_ok_and(|v| (v.has_order, v.prefixes, v.looks) == (false, len as u64 + 1, len as u64)), &format!("{len} letters judged"));
+        compared.expect(table[10 * len] == (len as u32) << 16, &format!("{len} letters counted"));
+    }
+    // A letter is put before the log; n and the distances are one more.
+    let mut longer = file[..36 + 4000].to_vec();
+    longer.insert(20, 0);
+    let trailer = longer.len() - 16;
+    longer[trailer + 3] = 0xa1;
+    for (byte, distance) in [(4, 4021u16), (6, 4017), (8, 4001)] {
+        longer[trailer + byte..][..2].copy_from_slice(&distance.to_le_bytes());
+    }
+    let refused = Refused { refusal: Refusal::LongLog, place: 0, log: 0 };
+    compared.expect(read(&longer).err() == Some(refused), "a file of 4,001 letters");
+    longer[20] = 9;
+    compared.expect(fumarehi::log_part(&longer) == Err(refused), "a file of 4,001 letters, one of them bad");
+    compared.expect(fumarehi::write_file(&ALT, &log, &mut file) == Err(refused), "4,001 letters to write");
 }
 
 /// The file cut short at every length: the trailer is never where it was.
@@ -244,7 +276,7 @@ fn judged_by(masks: &[u16], text: &str, log: &str) -> Result<Option<String>, Ref
     let courses = fumarehi::expression(masks.len(), text.as_bytes(), &mut moves)?;
     let log: Vec<u8> = log.bytes().map(|letter| letter - b'a').collect();
     let mut order = vec![0; log.len()];
-    let verdict = fumarehi::judge(&courses.profile(masks, &moves), &log, &mut order, &mut [0; 600])?;
+    let verdict = fumarehi::judge(&courses.profile(masks, &moves), &log, &mut order, &mut [0; 1000])?;
     Ok(verdict.has_order.then(|| order.iter().map(|letter| (b'a' + letter) as char).collect()))
 }
 
@@ -309,6 +341,7 @@ fn main() -> ExitCode {
     searches(&mut compared);
     refused_same(&mut compared);
     one_way(&mut compared);
+    long_log(&mut compared);
     cut_files(&mut compared);
     typed_courses(&mut compared);
     refused_texts(&mut compared);

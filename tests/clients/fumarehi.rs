@@ -314,7 +314,7 @@ pub fn table(p: &Profile, log: &[u8], table: &mut [u32]) -> Result<Table, Refuse
     answer(number, told[0], 0, || Table { prefixes: told[1], looks: told[2] })
 }
 
-/// Searches records in the table's order for the counts of a prefix, the first four numbers of a record.
+/// Searches records in the table's order for the counts of a prefix, the first eight numbers of a record.
 pub fn find(table: &[u32], counts: &[u32]) -> Result<Found, Refused> {
     let mut told = [0; 2];
     let number = numbers::find(table, counts, &mut told);

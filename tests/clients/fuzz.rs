@@ -11,7 +11,7 @@ mod reference;
 mod texts;
 
 use fumarehi::numbers;
-use reference::{Counts, Profile, Records, Refused, Solved};
+use reference::{Counts, Profile, Records, Refused, Solved, COUNTS, MOST, RECORD};
 use std::collections::BTreeSet;
 use std::fmt::Debug;
 use std::ops::Range;
@@ -150,13 +150,13 @@ fn buffer_len(random: &mut Random, needed: usize) -> usize {
 
 /// A length for a table: about the records of all prefixes where the call gets so far.
 fn table_len(random: &mut Random, solved: &Result<Solved, Refused>) -> usize {
-    let needed = solved.as_ref().map_or(12, |solved| 6 * solved.records.len());
+    let needed = solved.as_ref().map_or(2 * RECORD, |solved| RECORD * solved.records.len());
     match random.below(10) {
         0 => needed - 1,
         1 => random.below(needed),
         2..=4 => needed,
-        5 => needed + random.within(1..6),
-        _ => needed + random.within(6..60),
+        5 => needed + random.within(1..RECORD),
+        _ => needed + random.within(RECORD..10 * RECORD),
     }
 }
 
@@ -281,11 +281,11 @@ fn medium_call(random: &mut Random) -> (Profile, Vec<u8>) {
     (p, log)
 }
 
-/// Up to 255 letters, of which only a few, near one another, can be exchanged.
+/// Up to 4,000 letters, of which only a few, near one another, can be exchanged.
 fn long_call(random: &mut Random) -> (Profile, Vec<u8>) {
     let mut p = some_profile(random, 3);
     p.masks = random.pick(&[[2, 1, 0], [2, 0, 0], [0, 1, 0]]).to_vec();
-    let len = random.pick(&[100, 254, 255, 255]);
+    let len = random.pick(&[100, 254, 255, 255, 256, 256, 257, 300, 300, 511, 1000, MOST]);
     let log = (0..len).map(|_| random.pick(&[0, 1, 1, 2])).collect();
     (p, log)
 }
@@ -354,10 +354,10 @@ fn damage_states(random: &mut Random, p: &mut Profile) {
 
 fn damage_log(random: &mut Random, k: usize, log: &mut Vec<u8>) {
     if random.one_in(4) {
-        let len = random.pick(&[256, 256, 257, 300, 511, 512, 1000]);
+        let len = random.pick(&[MOST + 1, MOST + 1, MOST + 2, 4096, 4097, 5000, 8192]);
         *log = some_log(random, k.clamp(1, 16), len);
     }
-    if random.one_in(3) || log.len() < 256 {
+    if random.one_in(3) || log.len() <= MOST {
         if log.is_empty() {
             log.push(0);
         }
@@ -419,7 +419,8 @@ fn put_distance(trailer: &mut [u8], which: usize, distance: usize) {
 
 /// Size and distance of a section, as the trailer has them.
 fn section(trailer: &[u8], which: usize) -> (usize, usize) {
-    let [k, s, _, n] = [0, 1, 2, 3].map(|byte| trailer[byte] as usize);
+    let [k, s, low, high] = [0, 1, 3, 10].map(|byte| trailer[byte] as usize);
+    let n = low + 256 * high;
     let distance = u16::from_le_bytes([trailer[4 + 2 * which], trailer[5 + 2 * which]]);
     ([2 * k, 4 * s * k, n][which], distance.into())
 }
@@ -486,7 +487,8 @@ fn damage_file(random: &mut Random, file: &mut Vec<u8>) {
 fn file(random: &mut Random) -> Vec<u8> {
     let (p, mut log) = valid_call(random);
     if random.one_in(20) {
-        log = some_log(random, p.k, 255);
+        let len = random.pick(&[255, 256, 257, 1000, MOST, MOST + 1, MOST + 1, 5000]);
+        log = some_log(random, p.k, len);
     }
     let mut file = if random.one_in(3) { laid_out(random, &p, &log) } else { reference::file_of(&p, &log) };
     if random.one_in(2) {
@@ -504,8 +506,8 @@ const FUNCTIONS: [(&str, &[usize]); 10] = [
     ("table", &[2, 4, 6, 7, 8, 10]),
     ("same", &[2, 4, 7, 8]),
     ("first_order", &[2, 4, 7, 8, 9]),
-    ("read_file", &[1, 2, 3, 4, 6, 8, 9]),
-    ("log_part", &[1, 2, 3, 4, 6, 8]),
+    ("read_file", &[1, 2, 3, 4, 6, 7, 8, 9]),
+    ("log_part", &[1, 2, 3, 4, 6, 7, 8]),
     ("write_file", &[2, 4, 6, 7, 8, 9]),
     ("next_event", &[]),
     ("expression", &[2, 9, 11, 12, 13]),
@@ -523,6 +525,8 @@ struct Seen {
     sames: [u64; 2],
     /// Judged logs with symmetric masks, and with one-way ones.
     one_way: [u64; 2],
+    /// Judged logs of more than 255 letters, and those of 4,000.
+    long: [u64; 2],
     refused_log: [u64; 3],
     records: u64,
     most_prefixes: usize,
@@ -567,6 +571,7 @@ impl Seen {
         let [absent, found, other] = self.finds;
         println!("searches that found a record: {found}, and none: {absent}; of records in another order: {other}");
         println!("judged with one-way masks: {}, with symmetric ones: {}", self.one_way[1], self.one_way[0]);
+        println!("judged logs of more than 255 letters: {}, of {MOST}: {}", self.long[0], self.long[1]);
         println!("prefixes compared: {}, at most {} of a log; events read: {}", self.records, self.most_prefixes, self.events);
         let [[no, yes], [no_reached, yes_reached]] = self.typed;
         println!("typed courses: logs described {yes}, not {no}; with independent letters a described log reached {yes_reached}, none {no_reached}");
@@ -599,6 +604,9 @@ impl Seen {
         }
         if self.one_way[1] < self.one_way[0] {
             missing.push(format!("one-way masks are rare: {:?}", self.one_way));
+        }
+        if self.long.contains(&0) {
+            missing.push(format!("no long log was judged: {:?}", self.long));
         }
         if rare([self.finds[0], self.finds[1]]) || self.finds[2] == 0 {
             missing.push(format!("an answer of find is rare: {:?}", self.finds));
@@ -639,17 +647,17 @@ fn agree_refused<const N: usize>(answer: (u32, [u64; N]), refused: &Refused) -> 
 }
 
 fn counts(k: usize, record: &[u32]) -> Result<Counts, String> {
-    let counts: Counts = record[..4].iter().flat_map(|number| number.to_le_bytes()).collect();
+    let counts = reference::counts_in(record);
     if counts[k..].iter().all(|&count| count == 0) { Ok(counts[..k].to_vec()) } else { Err(format!("counts from k on: {record:?}")) }
 }
 
 /// Every prefix in its place, with its sets; all else stays.
 fn agree_table(p: &Profile, table: &Lent<u32>, records: &Records) -> Checked {
-    let len = 6 * records.len();
+    let len = RECORD * records.len();
     let expected = reference::in_order(records);
-    for (at, (record, (prefix, sets))) in table.now()[..len].chunks(6).zip(expected).enumerate() {
+    for (at, (record, (prefix, sets))) in table.now()[..len].chunks(RECORD).zip(expected).enumerate() {
         agree("a record's place and counts", (at, &counts(p.k, record)?), (at, prefix))?;
-        agree("a record's sets", &reference::Sets { forward: record[4], backward: record[5] }, sets)?;
+        agree("a record's sets", &reference::Sets { forward: record[COUNTS], backward: record[COUNTS + 1] }, sets)?;
     }
     table.stays_from("table", len)
 }
@@ -679,6 +687,8 @@ fn agree_judge(p: &Profile, expected: &Expected, answer: (u32, [u64; 4]), order:
 fn note_order(seen: &mut Seen, p: &Profile, log: &[u8], solved: &Solved) {
     seen.verdicts[solved.order.is_some() as usize] += 1;
     seen.one_way[reference::one_way(&p.masks) as usize] += 1;
+    seen.long[0] += (log.len() > 255) as u64;
+    seen.long[1] += (log.len() == MOST) as u64;
     seen.prefixes(solved.records.len());
     if let Some(order) = &solved.order {
         let first = reference::first_order(p.k, &p.masks, log, log.len());
@@ -690,7 +700,7 @@ fn note_order(seen: &mut Seen, p: &Profile, log: &[u8], solved: &Solved) {
 /// A log that exchanges lead to has no more prefixes, so that they fit the same table, and no earlier order.
 fn agree_reached(random: &mut Random, p: &Profile, log: &[u8], solved: &Solved) -> Checked {
     let reached = exchanged(random, &p.masks, log);
-    let (mut order, mut work) = (vec![0; log.len()], vec![0; 6 * solved.records.len()]);
+    let (mut order, mut work) = (vec![0; log.len()], vec![0; RECORD * solved.records.len()]);
     let verdict = fumarehi::judge(&lend(p), &reached, &mut order, &mut work).map_err(|refused| format!("{reached:?} is {refused:?}"))?;
     let earlier = verdict.has_order && solved.order.as_ref().is_none_or(|own| order < *own);
     agree("more prefixes or an earlier order", (verdict.prefixes > solved.records.len() as u64, earlier), (false, false))
@@ -751,22 +761,22 @@ fn check_table(random: &mut Random, seen: &mut Seen) -> Checked {
 
 /// The first records of a table, or those of one total.
 fn records_part(random: &mut Random, table: Vec<u32>) -> Vec<u32> {
-    let total = |record: &[u32]| record[..4].iter().flat_map(|number| number.to_le_bytes()).map(u32::from).sum::<u32>();
+    let total = |record: &[u32]| reference::ranked(record).0;
     match random.below(3) {
         0 => table,
         1 => table[..random.below(table.len() + 1)].to_vec(),
         _ => {
-            let wanted = total(&table[6 * random.below(table.len() / 6)..]);
-            table.chunks(6).filter(|record| total(record) == wanted).flatten().copied().collect()
+            let wanted = total(&table[RECORD * random.below(table.len() / RECORD)..]);
+            table.chunks(RECORD).filter(|record| total(record) == wanted).flatten().copied().collect()
         }
     }
 }
 
 /// The counts of a record, or others, mostly near them.
 fn wanted(random: &mut Random, table: &[u32]) -> Vec<u32> {
-    let mut counts = table[6 * random.below(table.len() / 6)..][..4].to_vec();
-    let at = random.below(4);
-    let one = 1 << (8 * random.below(4));
+    let mut counts = table[RECORD * random.below(table.len() / RECORD)..][..COUNTS].to_vec();
+    let at = random.below(COUNTS);
+    let one = 1 << (16 * random.below(2));
     match random.below(10) {
         0..=4 => {}
         5 | 6 => counts[at] = counts[at].wrapping_add(one),
@@ -791,9 +801,9 @@ fn found(table: &[u32], counts: &[u32]) -> [(u32, [u64; 2]); 2] {
 /// Searches a built table, a part of it, and sometimes records in another order, for which any answer will do.
 fn check_find(random: &mut Random, seen: &mut Seen) -> Checked {
     let (p, log) = short_call(random);
-    let mut table = vec![0; 6 * 64 * 7];
+    let mut table = vec![0; RECORD * 64];
     let built = fumarehi::table(&lend(&p), &log, &mut table).map_err(|refused| format!("table of a valid call: {refused:?}"))?;
-    table.truncate(6 * built.prefixes as usize);
+    table.truncate(RECORD * built.prefixes as usize);
     let counts = wanted(random, &table);
     let mut part = records_part(random, table);
     let other = random.one_in(8);
@@ -972,7 +982,7 @@ fn check_write_file(random: &mut Random, seen: &mut Seen) -> Checked {
 
 /// One step from any place, then the whole log from its start: bytes of all kinds, for a log reader checks nothing.
 fn check_next_event(random: &mut Random, seen: &mut Seen) -> Checked {
-    let len = random.pick(&[0, 1, 2, 5, 255, 256, 1000]);
+    let len = random.pick(&[0, 1, 2, 5, 255, 256, 1000, MOST, 5000]);
     let log = random.bytes(len);
     let from = random.pick(&[0, len / 2, len.saturating_sub(1), len, len + 1, 1 << 32, usize::MAX]);
     let mut at = from;
@@ -1033,7 +1043,7 @@ fn judges_typed(random: &mut Random, seen: &mut Seen, tree: &courses::Tree, made
     seen.typed[independent as usize][order.is_some() as usize] += 1;
     let p = Profile { masks, ..made.clone() };
     let mut found = vec![0; log.len()];
-    let verdict = fumarehi::judge(&lend(&p), &log, &mut found, &mut [0; 6 * 256]).map_err(|refused| format!("judge: {refused:?}"))?;
+    let verdict = fumarehi::judge(&lend(&p), &log, &mut found, &mut [0; RECORD * 256]).map_err(|refused| format!("judge: {refused:?}"))?;
     agree("the order of a log", (verdict.has_order.then_some(found), &p.masks, &log), (order, &p.masks, &log))
 }
 

@@ -1,4 +1,4 @@
-//! A second implementation of document 01, from its words and without regard for time.
+//! A second implementation of documents 01 and 02, from their words and without regard for time.
 //!
 //! Short logs are answered by listing: all logs that exchanges reach, and every choice of counts put to the marking rule. Longer logs are
 //! answered by recursion over prefixes; `solve` and the others take both ways for every short log, and stop if they differ.
@@ -7,6 +7,13 @@ use std::collections::{BTreeMap, BTreeSet};
 
 /// Logs up to this length are listed.
 pub const LISTED: usize = 6;
+
+/// The most letters of a log.
+pub const MOST: usize = 4000;
+
+/// The numbers of a record, and those of them that have the counts; then come the forward and the backward set.
+pub const RECORD: usize = 10;
+pub const COUNTS: usize = 8;
 
 #[derive(Clone, Copy, Debug, PartialEq, Eq)]
 pub struct Refused {
@@ -28,7 +35,7 @@ pub struct Profile {
 }
 
 /// A count for each letter.
-pub type Counts = Vec<u8>;
+pub type Counts = Vec<u16>;
 
 #[derive(Clone, Copy, Debug, PartialEq, Eq)]
 pub struct Sets {
@@ -86,7 +93,7 @@ fn profile(p: &Profile) -> Result<(), Refused> {
 }
 
 fn letters(k: usize, log: &[u8]) -> Result<(), Refused> {
-    if log.len() > 255 {
+    if log.len() > MOST {
         return refuse(7);
     }
     match log.iter().position(|&a| a as usize >= k) {
@@ -143,11 +150,11 @@ fn accepted_from(p: &Profile, q: usize, log: &[u8]) -> bool {
 // Prefixes.
 
 /// The first so-many occurrences of each letter.
-fn marked(log: &[u8], counts: &[u8]) -> Vec<bool> {
+fn marked(log: &[u8], counts: &[u16]) -> Vec<bool> {
     let mut left = counts.to_vec();
     let mut mark = |&a: &u8| {
         let taken = left[a as usize] > 0;
-        left[a as usize] -= taken as u8;
+        left[a as usize] -= taken as u16;
         taken
     };
     log.iter().map(&mut mark).collect()
@@ -164,14 +171,14 @@ fn counts_of(k: usize, log: &[u8]) -> Counts {
 }
 
 /// The marking rule as document 02 says it.
-fn is_prefix(masks: &[u16], log: &[u8], counts: &[u8]) -> bool {
+fn is_prefix(masks: &[u16], log: &[u8], counts: &[u16]) -> bool {
     let marks = marked(log, counts);
     let holds_back = |earlier: usize, later: usize| log[earlier] == log[later] || !independent(masks, log[earlier], log[later]);
     (0..log.len()).all(|later| !marks[later] || (0..later).all(|earlier| marks[earlier] || !holds_back(earlier, later)))
 }
 
 /// The marking rule in one pass: every marked event is of a letter that may pass all unmarked ones before it.
-fn is_prefix_at_once(masks: &[u16], log: &[u8], counts: &[u8]) -> bool {
+fn is_prefix_at_once(masks: &[u16], log: &[u8], counts: &[u16]) -> bool {
     let mut passing = u16::MAX;
     for (&a, mark) in log.iter().zip(marked(log, counts)) {
         if !mark {
@@ -184,13 +191,13 @@ fn is_prefix_at_once(masks: &[u16], log: &[u8], counts: &[u8]) -> bool {
 }
 
 /// Every choice of counts up to the given ones.
-fn choices(most: &[u8]) -> Vec<Counts> {
+fn choices(most: &[u16]) -> Vec<Counts> {
     most.iter().fold(vec![vec![]], |chosen, &most| {
         chosen.iter().flat_map(|counts: &Counts| (0..=most).map(move |n| [counts.as_slice(), &[n]].concat())).collect()
     })
 }
 
-fn sets_by_listing(p: &Profile, log: &[u8], counts: &[u8]) -> Sets {
+fn sets_by_listing(p: &Profile, log: &[u8], counts: &[u16]) -> Sets {
     let marks = marked(log, counts);
     let before = reachable(&p.masks, &events(log, &marks, true));
     let after = reachable(&p.masks, &events(log, &marks, false));
@@ -214,7 +221,7 @@ fn order_by_listing(p: &Profile, log: &[u8]) -> Option<Vec<u8>> {
 
 type Total = BTreeSet<Counts>;
 
-fn one_more(counts: &[u8], a: usize) -> Counts {
+fn one_more(counts: &[u16], a: usize) -> Counts {
     let mut more = counts.to_vec();
     more[a] += 1;
     more
@@ -233,8 +240,8 @@ fn totals(masks: &[u16], log: &[u8]) -> Vec<Total> {
 }
 
 /// The prefixes with one letter more, with that letter.
-fn longer<'a>(next: &'a Total, counts: &'a [u8]) -> impl Iterator<Item = (u8, Counts)> + 'a {
-    let more = (0..counts.len()).filter(|&a| counts[a] < 255).map(|a| (a as u8, one_more(counts, a)));
+fn longer<'a>(next: &'a Total, counts: &'a [u16]) -> impl Iterator<Item = (u8, Counts)> + 'a {
+    let more = (0..counts.len()).map(|a| (a as u8, one_more(counts, a)));
     more.filter(|(_, counts)| next.contains(counts))
 }
 
@@ -293,7 +300,7 @@ fn order_by_recursion(p: &Profile, totals: &[Total]) -> Option<Vec<u8>> {
 
 /// The pairs of a prefix and a letter such that adding one of that letter gives a prefix again.
 fn looks(k: usize, records: &Records) -> usize {
-    let again = |counts: &Counts, a: usize| counts[a] < 255 && records.contains_key(&one_more(counts, a));
+    let again = |counts: &Counts, a: usize| records.contains_key(&one_more(counts, a));
     records.keys().map(|counts| (0..k).filter(|&a| again(counts, a)).count()).sum()
 }
 
@@ -323,7 +330,7 @@ pub fn solve(p: &Profile, log: &[u8]) -> Result<Solved, Refused> {
 impl Solved {
     /// Refusal 10.
     pub fn table(&self, table_len: usize) -> Result<&Solved, Refused> {
-        if table_len.min(4_294_967_292) / 6 < self.records.len() { refuse(10) } else { Ok(self) }
+        if table_len.min(4_294_967_292) / RECORD < self.records.len() { refuse(10) } else { Ok(self) }
     }
 
     /// Refusals 9 and 10.
@@ -335,7 +342,7 @@ impl Solved {
 
 // The order of records, and the search.
 
-fn total(counts: &[u8]) -> usize {
+fn total(counts: &[u16]) -> usize {
     counts.iter().map(|&count| usize::from(count)).sum()
 }
 
@@ -346,18 +353,23 @@ pub fn in_order(records: &Records) -> Vec<(&Counts, &Sets)> {
     ordered
 }
 
-/// Total and counts of the numbers of a record.
-fn ranked(numbers: &[u32]) -> (usize, Counts) {
-    let counts: Counts = numbers.iter().flat_map(|number| number.to_le_bytes()).collect();
+/// The counts of a record: letter i in number i div 2, the even letter in the low half.
+pub fn counts_in(numbers: &[u32]) -> Counts {
+    numbers[..COUNTS].iter().flat_map(|&number| [number as u16, (number >> 16) as u16]).collect()
+}
+
+/// Total and counts of a record.
+pub fn ranked(numbers: &[u32]) -> (usize, Counts) {
+    let counts = counts_in(numbers);
     (total(&counts), counts)
 }
 
 /// Refusal 2; or whether a record has the counts, and which; or how many stand before.
 pub fn find(table: &[u32], counts: &[u32]) -> Result<(bool, usize), Refused> {
-    if counts.len() != 4 {
+    if counts.len() != COUNTS {
         return refuse(2);
     }
-    let records: Vec<_> = table.chunks_exact(6).map(|record| ranked(&record[..4])).collect();
+    let records: Vec<_> = table.chunks_exact(RECORD).map(ranked).collect();
     let wanted = ranked(counts);
     let before = records.iter().filter(|record| **record < wanted).count();
     Ok(records.iter().position(|record| *record == wanted).map_or((false, before), |at| (true, at)))
@@ -452,8 +464,9 @@ pub fn read(file: &[u8]) -> Result<File, Refused> {
     }
     let at = file.len() - 16;
     let trailer = &file[at..];
-    let [k, s, start, n] = [0, 1, 2, 3].map(|byte| trailer[byte] as usize);
-    if !(1..=16).contains(&k) || !(1..=32).contains(&s) || start >= s || trailer[10..12] != [0, 0] {
+    let [k, s, start, low, high] = [0, 1, 2, 3, 10].map(|byte| trailer[byte] as usize);
+    let n = low + 256 * high;
+    if !(1..=16).contains(&k) || !(1..=32).contains(&s) || start >= s || trailer[11] != 0 {
         return refuse(2);
     }
     let masks_at = section(&trailer[4..6], 2 * k, at)?;
@@ -483,7 +496,7 @@ pub fn file_of(p: &Profile, log: &[u8]) -> Vec<u8> {
     let distances = [masks.len() + moves.len() + log.len(), moves.len() + log.len(), log.len()];
     let mut trailer = vec![p.k as u8, p.s as u8, p.start as u8, log.len() as u8];
     distances.iter().for_each(|&distance| trailer.extend((distance as u16).to_le_bytes()));
-    trailer.extend([0, 0]);
+    trailer.extend([(log.len() >> 8) as u8, 0]);
     trailer.extend(p.finals.to_le_bytes());
     [masks, moves, log.to_vec(), trailer].concat()
 }

@@ -34,18 +34,20 @@ static size_t used(void (*call)(void))
 /* ---- Calls ---- */
 
 static uint16_t masks[16];
-static uint32_t moves[512], table[6 * 4096];
-static uint8_t log[255], order[255], file[4096], text[4096];
+enum { EVENTS = 4000, NUMBERS = 10 * 4400 }; /* the log has 4,251 prefixes */
+
+static uint32_t moves[512], table[NUMBERS];
+static uint8_t log[EVENTS], order[EVENTS], file[6144], text[4096];
 static size_t text_len, file_len;
 static uint64_t told[6];
 static uint32_t answer;
 
 static void nothing(void) {}
-static void judge(void) { answer = fumarehi_judge(16, 32, 0, 1, masks, 16, moves, 512, log, 255, order, 255, table, 6 * 4096, told); }
-static void build(void) { answer = fumarehi_table(16, 32, 0, 1, masks, 16, moves, 512, log, 255, table, 6 * 4096, told); }
-static void same(void) { answer = fumarehi_same(16, masks, 16, log, 255, log, 255, told); }
-static void first_order(void) { answer = fumarehi_first_order(16, masks, 16, log, 255, order, 255, told); }
-static void write_file(void) { answer = fumarehi_write_file(16, 32, 0, 1, masks, 16, moves, 512, log, 255, file, sizeof file, told); }
+static void judge(void) { answer = fumarehi_judge(16, 32, 0, 1, masks, 16, moves, 512, log, EVENTS, order, EVENTS, table, NUMBERS, told); }
+static void build(void) { answer = fumarehi_table(16, 32, 0, 1, masks, 16, moves, 512, log, EVENTS, table, NUMBERS, told); }
+static void same(void) { answer = fumarehi_same(16, masks, 16, log, EVENTS, log, EVENTS, told); }
+static void first_order(void) { answer = fumarehi_first_order(16, masks, 16, log, EVENTS, order, EVENTS, told); }
+static void write_file(void) { answer = fumarehi_write_file(16, 32, 0, 1, masks, 16, moves, 512, log, EVENTS, file, sizeof file, told); }
 static void read_file(void) { answer = fumarehi_read_file(file, file_len, masks, 16, moves, 512, told); }
 static void log_part(void) { answer = fumarehi_log_part(file, file_len, told); }
 static void expression(void) { answer = fumarehi_expression(16, text, text_len, moves, 512, told); }
@@ -81,7 +83,7 @@ static void print(const char *name, void (*call)(void))
 int main(void)
 {
     memset(moves, 0xFF, sizeof moves);
-    for (size_t i = 0; i < 255; i++)
+    for (size_t i = 0; i < EVENTS; i++)
         log[i] = (uint8_t)(i % 16);
     masks[0] = 2;
     masks[1] = 1;

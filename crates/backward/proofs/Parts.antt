@@ -89,7 +89,7 @@ module _ {p : Profile} {w : List ℕ} (good : GoodProfile p) (log : GoodLog (p .
   pub apart : (a b : ℕ) → T (independent (p .masks) a b) → a ≢ b
   apart = distinct (p .masks) (good .relation .own)
 
-  -- the counts of a prefix: one for each letter, and each below 256
+  -- the counts of a prefix: one for each letter, and each below 65,536
   pub counted : (n : ℕ) (c : List ℕ) → Mem c (of-total p w n) → (length c ≡ p .k) × (length c ≤ layout .per * layout .numbers) × Small layout c × (total c ≡ n)
   counted n c m =
       let l = level-at (independent (p .masks)) (λ a. a) (p .k) w n c (log .letters) m in

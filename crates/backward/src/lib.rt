@@ -16,15 +16,13 @@ use counts::one_more;
 use counts::same_counts;
 use counts::total_of;
 use profile::Shape;
+use records::RECORD;
 use records::counts_at;
 use records::last_at;
 use records::put_last;
 use records::records_in;
 use rows::backward_by;
 use rows::by_letter;
-
-// The numbers of a record.
-const RECORD: usize = 6;
 
 // The first record from record `from` on that has the counts c; where none has, the number of records, or `from` if that is more.
 fn find(part: &[u32], from: usize, c: Counts) -> usize

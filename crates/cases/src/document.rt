@@ -127,12 +127,12 @@ fn one_way_cases(t: Tally) -> Tally {
     )
 }
 
-// Alt on the log: of every table of up to 30 numbers those with its records are enough, and the rest stays.
+// Alt on the log: of every table of up to 50 numbers those with its records are enough, and the rest stays.
 fn table_lengths(log: &[u8], t: Tally) -> Tally {
     let masks = [2u16, 1];
     let moves = [2u32, 0, 0, 1];
     let mut u = t;
-    for size in 0..31 {
+    for size in 0..51 {
         u = tally::count(
             compare_table(alt(), &masks, &moves, log, log.len(), size, u),
             tally::EDGES,
@@ -141,7 +141,7 @@ fn table_lengths(log: &[u8], t: Tally) -> Tally {
     u
 }
 
-// On ba 23 numbers are refused and 24 are enough; on the empty log 6 are enough.
+// On ba 39 numbers are refused and 40 are enough; on the empty log 9 are refused and 10 are enough.
 pub fn all_cases(t: Tally) -> Tally {
     table_lengths(
         b"",

@@ -11,7 +11,7 @@ use Rattle.counts.specs.declared.Counts.{Counts}
 
 -- the numbers of counts of a record
 abbrev pub words : Counts → List ℕ
-words c = c .w0 ∷ c .w1 ∷ c .w2 ∷ c .w3 ∷ []
+words c = c .w0 ∷ c .w1 ∷ c .w2 ∷ c .w3 ∷ c .w4 ∷ c .w5 ∷ c .w6 ∷ c .w7 ∷ []
 
 -- the counts of all letters that numbers of counts hold
 abbrev pub counts-in : Layout → List ℕ → List ℕ

@@ -4,8 +4,8 @@ ghost use mathlib.Core.Bool.{not, cond};
 ghost use mathlib.Core.List.{[]};
 ghost use Prim.Native.Nat.{_+_, _<_, _%_, _^_};
 ghost use lib.Dec.{eqb};
-ghost use lib.ListN.{length};
-ghost use Rattle.profile.specs.Lists.{equal?};
+ghost use lib.ListN.{drop, length};
+ghost use Rattle.profile.specs.Lists.{equal?, flat-map};
 ghost use Rattle.profile.specs.Orders.{no-later?};
 ghost use Rattle.profile.specs.Prefixes.{total};
 ghost use Rattle.profile.specs.Tables.{layout, count-field, packed};
@@ -13,16 +13,16 @@ ghost use Rattle.theory.proofs.Packing.{rank};
 ghost use Rattle.counts.specs.Counts.{words, counts-in, add-count, before?, every-equal?, word-count, word-counts};
 
 // The bits of a count.
-const WIDTH: usize = 8;
+const WIDTH: usize = 16;
 
 // What a count stays below.
-const BOUND: u32 = 256;
+const BOUND: u32 = 65536;
 
 // The counts in one number.
-const PER: usize = 4;
+const PER: usize = 2;
 
 // How many numbers hold the counts of a record.
-pub const NUMBERS: usize = 4;
+pub const NUMBERS: usize = 8;
 
 // The numbers of counts of a record.
 pub struct Counts {
@@ -30,6 +30,10 @@ pub struct Counts {
     pub w1: u32,
     pub w2: u32,
     pub w3: u32,
+    pub w4: u32,
+    pub w5: u32,
+    pub w6: u32,
+    pub w7: u32,
 }
 
 // No event of any letter.
@@ -41,6 +45,10 @@ pub fn none_counted() -> Counts
         w1: 0,
         w2: 0,
         w3: 0,
+        w4: 0,
+        w5: 0,
+        w6: 0,
+        w7: 0,
     }
 }
 
@@ -67,10 +75,10 @@ fn count_in(w: u32, a: usize) -> u32
 }
 
 // The numbers of counts in a row, for a loop over the letters.
-pub fn numbers(c: Counts) -> [u32; 4]
+pub fn numbers(c: Counts) -> [u32; 8]
     ensures { λ r. ⌜ r ≡ words c ⌝ }
 {
-    [c.w0, c.w1, c.w2, c.w3]
+    [c.w0, c.w1, c.w2, c.w3, c.w4, c.w5, c.w6, c.w7]
 }
 
 // The counts whose numbers stand in a row.
@@ -83,11 +91,15 @@ pub fn from_numbers(t: &[u32]) -> Counts
         w1: t[1],
         w2: t[2],
         w3: t[3],
+        w4: t[4],
+        w5: t[5],
+        w6: t[6],
+        w7: t[7],
     }
 }
 
 // The count of letter a in numbers that stand in a row.
-pub fn count_of(t: &[u32; 4], a: usize) -> usize
+pub fn count_of(t: &[u32; 8], a: usize) -> usize
     requires { ⌜ a < 16 ⌝ }
     ensures { λ r. ⌜ r ≡ count-field layout (now (t .entry)) a ⌝ }
 {
@@ -106,6 +118,10 @@ pub fn one_more(c: Counts, a: usize) -> Counts
         w1: added(c.w1, i, 1, one),
         w2: added(c.w2, i, 2, one),
         w3: added(c.w3, i, 3, one),
+        w4: added(c.w4, i, 4, one),
+        w5: added(c.w5, i, 5, one),
+        w6: added(c.w6, i, 6, one),
+        w7: added(c.w7, i, 7, one),
     }
 }
 
@@ -117,20 +133,20 @@ pub fn same_counts(a: Counts, b: Counts) -> bool
     if a.w0 != b.w0 {
         return false;
     }
-    if a.w1 != b.w1 {
-        return false;
-    }
-    if a.w2 != b.w2 {
-        return false;
-    }
-    a.w3 == b.w3
+    (a.w1 == b.w1)
+        & (a.w2 == b.w2)
+        & (a.w3 == b.w3)
+        & (a.w4 == b.w4)
+        & (a.w5 == b.w5)
+        & (a.w6 == b.w6)
+        & (a.w7 == b.w7)
 }
 
 // The counts of the number w as the digits of one number, the first highest.
 fn reversed(w: u32) -> u32
     ensures { λ r. ⌜ r ≡ rank (2 ^ layout .width) (word-counts layout w) ⌝ }
 {
-    ((count_in(w, 0) * BOUND + count_in(w, 1)) * BOUND + count_in(w, 2)) * BOUND + count_in(w, 3)
+    count_in(w, 0) * BOUND + count_in(w, 1)
 }
 
 // The counts of the number v stand before those of w.
@@ -138,6 +154,22 @@ fn word_before(v: u32, w: u32) -> bool
     ensures { λ r. ⌜ r ≡ not (no-later? (word-counts layout w) (word-counts layout v)) ⌝ }
 {
     reversed(v) < reversed(w)
+}
+
+// The counts of the last four numbers of a stand before those of b.
+fn last_before(a: Counts, b: Counts) -> bool
+    ensures { λ r. ⌜ r ≡ not (no-later? (flat-map (word-counts layout) (drop 4 (words b))) (flat-map (word-counts layout) (drop 4 (words a)))) ⌝ }
+{
+    if a.w4 != b.w4 {
+        return word_before(a.w4, b.w4);
+    }
+    if a.w5 != b.w5 {
+        return word_before(a.w5, b.w5);
+    }
+    if a.w6 != b.w6 {
+        return word_before(a.w6, b.w6);
+    }
+    word_before(a.w7, b.w7)
 }
 
 // The counts a stand before the counts b: at the first letter whose counts differ a has the smaller.
@@ -153,7 +185,10 @@ pub fn counts_before(a: Counts, b: Counts) -> bool
     if a.w2 != b.w2 {
         return word_before(a.w2, b.w2);
     }
-    word_before(a.w3, b.w3)
+    if a.w3 != b.w3 {
+        return word_before(a.w3, b.w3);
+    }
+    last_before(a, b)
 }
 
 // The total count of the number w.
@@ -161,12 +196,19 @@ fn word_total(w: u32) -> usize
     ensures { λ r. ⌜ r ≡ total (word-counts layout w) ⌝ }
     ensures { λ r. ⌜ r < 2 ^ 32 ⌝ }
 {
-    (count_in(w, 0) + count_in(w, 1) + count_in(w, 2) + count_in(w, 3)) as usize
+    (count_in(w, 0) + count_in(w, 1)) as usize
 }
 
 // The total count.
 pub fn total_of(c: Counts) -> usize
     ensures { λ r. ⌜ r ≡ total (counts-in layout (words c)) ⌝ }
 {
-    word_total(c.w0) + word_total(c.w1) + word_total(c.w2) + word_total(c.w3)
+    word_total(c.w0)
+        + word_total(c.w1)
+        + word_total(c.w2)
+        + word_total(c.w3)
+        + word_total(c.w4)
+        + word_total(c.w5)
+        + word_total(c.w6)
+        + word_total(c.w7)
 }

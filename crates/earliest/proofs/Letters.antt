@@ -103,11 +103,9 @@ added-none t e h = added-not t t (λ x lt s.
 
 -- ---- the place that grows
 
--- by the tests of the four places
-pub places : (v w : ℕ) (b₀ b₁ b₂ b₃ : Bool) → grows? v w 0 ≡ b₀ → grows? v w 1 ≡ b₁ → grows? v w 2 ≡ b₂ → grows? v w 3 ≡ b₃
-    → grown-place v w ≡ first-place (λ b. b) (b₀ ∷ b₁ ∷ b₂ ∷ b₃ ∷ [])
-places v w b₀ b₁ b₂ b₃ e₀ e₁ e₂ e₃ =
-    ap₂ (λ b c. first-place (λ b. b) (b ∷ c ∷ grows? v w 2 ∷ grows? v w 3 ∷ [])) e₀ e₁ ∙ ap₂ (λ b c. first-place (λ b. b) (b₀ ∷ b₁ ∷ b ∷ c ∷ [])) e₂ e₃
+-- by the tests of the two places
+pub places : (v w : ℕ) (b₀ b₁ : Bool) → grows? v w 0 ≡ b₀ → grows? v w 1 ≡ b₁ → grown-place v w ≡ first-place (λ b. b) (b₀ ∷ b₁ ∷ [])
+places v w b₀ b₁ e₀ e₁ = ap₂ (λ b c. first-place (λ b. b) (b ∷ c ∷ [])) e₀ e₁
 
 -- the letter of number i, by the place that grows
 module _ (i v w : ℕ) where

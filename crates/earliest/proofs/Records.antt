@@ -82,7 +82,7 @@ module _ {p : Profile} {w t : List ℕ} (tab : Table p w t) where
   module _ (j : ℕ) (h : j < record-count p w) where
     pub record-counts : counts-at t j ≡ packed layout (prefix-at j)
     record-counts =
-        ap₂ _∷_ (number 0 (omega arith)) (ap₂ _∷_ (number 1 (omega arith)) (ap₂ _∷_ (number 2 (omega arith)) (ap (λ n. n ∷ []) (number 3 (omega arith)))))
+        ap₂ _∷_ (number 0 (omega arith)) (ap₂ _∷_ (number 1 (omega arith)) (ap₂ _∷_ (number 2 (omega arith)) (ap₂ _∷_ (number 3 (omega arith)) (ap₂ _∷_ (number 4 (omega arith)) (ap₂ _∷_ (number 5 (omega arith)) (ap₂ _∷_ (number 6 (omega arith)) (ap (λ n. n ∷ []) (number 7 (omega arith)))))))))
       where
         number : (i : ℕ) → i < layout .numbers → getD t (record-length layout * j + i) 0 ≡ getD (packed layout (prefix-at j)) i 0
         number i l = holds-counts (held tab) j i h l

@@ -40,7 +40,7 @@ with-order (some v) b = v ++ drop (length v) b
 
 -- ---- one letter of the order
 
--- the number of counts v with one more at place x is w; the place whose count is one more in w than in v, and 4 where there is none
+-- the number of counts v with one more at place x is w; the place whose count is one more in w than in v, and 2 where there is none
 abbrev pub grows? : ℕ → ℕ → ℕ → Bool
 grows? v w x = eqb ((v + 2 ^ (layout .width * x)) % 2 ^ 32) w
 

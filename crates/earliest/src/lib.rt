@@ -13,7 +13,7 @@ use counts::Counts;
 use profile::Shape;
 
 // The counts in one number, and the letters of a record.
-const PER: usize = 4;
+const PER: usize = 2;
 
 const LETTERS: usize = 16;
 
@@ -33,21 +33,15 @@ struct Choice {
     next: usize,
 }
 
-// The place of the count that is one more in the number w than in v; 4 where there is none.
+// The place of the count that is one more in the number w than in v; 2 where there is none.
 fn grown(v: u32, w: u32) -> usize
     ensures { λ r. ⌜ r ≡ grown-place v w ⌝ }
 {
     if std::num::wrapping_add_u32(v, 1) == w {
         return 0;
     }
-    if std::num::wrapping_add_u32(v, 256) == w {
-        return 1;
-    }
     if std::num::wrapping_add_u32(v, 65536) == w {
-        return 2;
-    }
-    if std::num::wrapping_add_u32(v, 16777216) == w {
-        return 3;
+        return 1;
     }
     PER
 }
@@ -86,6 +80,22 @@ fn added(c: Counts, e: Counts) -> usize
     if c.w3 != e.w3 {
         d.w3 = e.w3;
         return letter_of(3, c.w3, e.w3, d, e);
+    }
+    if c.w4 != e.w4 {
+        d.w4 = e.w4;
+        return letter_of(4, c.w4, e.w4, d, e);
+    }
+    if c.w5 != e.w5 {
+        d.w5 = e.w5;
+        return letter_of(5, c.w5, e.w5, d, e);
+    }
+    if c.w6 != e.w6 {
+        d.w6 = e.w6;
+        return letter_of(6, c.w6, e.w6, d, e);
+    }
+    if c.w7 != e.w7 {
+        d.w7 = e.w7;
+        return letter_of(7, c.w7, e.w7, d, e);
     }
     LETTERS
 }

@@ -53,7 +53,7 @@ pub fn comes_next(
     keepers: &[u32; 16],
     k: usize,
     n: usize,
-    next: &[u8],
+    next: &[u16],
     x: usize,
 ) -> bool
     requires { ⌜ (k ≤ 16) × (x < k) ⌝ }

@@ -1,10 +1,10 @@
 -- The log file that document 01 prints, and the edges of a file's refusals: one theorem over each list of rows.
 use mathlib.Core.Path.{_≡_, refl}
 use mathlib.Core.Bool.{Bool, _&&_}
-use mathlib.Core.List.{List, [], _∷_}
+use mathlib.Core.List.{List, [], _∷_, _++_}
 use Prim.Native.Nat.{ℕ}
 use lib.Dec.{T}
-use lib.ListN.{drop, set}
+use lib.ListN.{drop, replicate, set, take}
 use Rattle.profile.specs.Lists.{Mem, all, equal?}
 use Rattle.profile.proofs.Cases.{ab, alt}
 use Rattle.profile.proofs.Edges.{told}
@@ -26,6 +26,19 @@ pub alt-written : file-bytes (alt ab) bbaa ≡ alt-file
 unfolding alt-file bbaa
 alt-written = refl
 
+-- a file of Alt with another log and its trailer
+pub alt-with : List ℕ → List ℕ → List ℕ
+unfolding alt-file
+alt-with w t = take 20 alt-file ++ (w ++ t)
+
+-- 300 letters: 44 in trailer byte 3, 1 in byte 10
+abbrev pub trailer-300 : List ℕ
+trailer-300 = 2 ∷ 2 ∷ 0 ∷ 44 ∷ 64 ∷ 1 ∷ 60 ∷ 1 ∷ 44 ∷ 1 ∷ 1 ∷ 0 ∷ 1 ∷ 0 ∷ 0 ∷ 0 ∷ []
+
+pub long-written : file-bytes (alt ab) (replicate 300 0) ≡ alt-with (replicate 300 0) trailer-300
+unfolding alt-with alt-file
+long-written = refl
+
 pub record FileCase : Type 0 where
   pub file : List ℕ
   pub places : ℕ
@@ -38,7 +51,7 @@ case f a b r w = record { file = f; places = a; numbers = b; answer = r; part = 
 
 -- number and place of the refusal, nothing where there is none; and the log part
 pub files : List FileCase
-unfolding alt-file case bbaa
+unfolding alt-file alt-with case bbaa
 files =
     case alt-file 2 4 [] bbaa
     ∷ case alt-file 1 4 (9 ∷ 0 ∷ []) bbaa
@@ -50,7 +63,7 @@ files =
     ∷ case (set alt-file 24 0) 2 4 (2 ∷ 0 ∷ []) []
     ∷ case (set alt-file 25 33) 2 4 (2 ∷ 0 ∷ []) []
     ∷ case (set alt-file 26 2) 2 4 (2 ∷ 0 ∷ []) []
-    ∷ case (set alt-file 34 1) 2 4 (2 ∷ 0 ∷ []) []
+    ∷ case (set alt-file 34 1) 2 4 (3 ∷ 0 ∷ []) []
     ∷ case (set alt-file 35 1) 2 4 (2 ∷ 0 ∷ []) []
     ∷ case (set alt-file 28 3) 2 4 (3 ∷ 0 ∷ []) []
     ∷ case (set alt-file 28 25) 2 4 (3 ∷ 0 ∷ []) []
@@ -65,6 +78,9 @@ files =
     ∷ case (set alt-file 36 4) 2 4 (6 ∷ 0 ∷ []) []
     ∷ case (set alt-file 7 1) 2 4 (6 ∷ 0 ∷ []) []
     ∷ case (set alt-file 22 2) 0 0 (8 ∷ 2 ∷ []) []
+    ∷ case (alt-with (replicate 300 0) trailer-300) 2 4 [] (replicate 300 0)
+    ∷ case (alt-with (replicate 4000 0) (2 ∷ 2 ∷ 0 ∷ 160 ∷ 180 ∷ 15 ∷ 176 ∷ 15 ∷ 160 ∷ 15 ∷ 15 ∷ 0 ∷ 1 ∷ 0 ∷ 0 ∷ 0 ∷ [])) 2 4 [] (replicate 4000 0)
+    ∷ case (alt-with (replicate 4001 2) (2 ∷ 2 ∷ 0 ∷ 161 ∷ 181 ∷ 15 ∷ 177 ∷ 15 ∷ 161 ∷ 15 ∷ 15 ∷ 0 ∷ 1 ∷ 0 ∷ 0 ∷ 0 ∷ [])) 2 4 (7 ∷ 0 ∷ []) []
     ∷ []
 
 abbrev pub answer-of : FileCase → List ℕ
@@ -74,7 +90,7 @@ answered? : FileCase → Bool
 answered? c = equal? (answer-of c) (c .answer) && equal? (log-part-of (c .file)) (c .part)
 
 files-computed : T (all answered? files)
-unfolding answered? files alt-file case bbaa
+unfolding answered? files alt-file alt-with case bbaa
 files-computed = tt
 
 -- each file of the list is answered as its row says

@@ -14,7 +14,7 @@ use lib.Pow.{pow-mono}
 use lib.Seq.{drop-append-add, drop-at, drop-drop, ext-getD, getD-drop, take-at}
 use Rattle.profile.specs.Automata.{Profile, profile-of}
 use Rattle.profile.specs.Lists.{Mem, any, below, flat-map}
-use Rattle.profile.specs.Refusals.{bit-from, log-refusals, lowest, profile-out-of-range, profile-refusals, short-buffer}
+use Rattle.profile.specs.Refusals.{bit-from, log-refusals, longest, lowest, profile-out-of-range, profile-refusals, short-buffer}
 use Rattle.profile.specs.Tables.{pack}
 use Rattle.profile.specs.Traces.{independent}
 use Rattle.profile.specs.declared.Refusal.{Refusal}
@@ -115,7 +115,7 @@ module _ (p : Profile) (w : List ℕ) (good : lowest (profile-refusals p) ≡ no
   g = profile-at p good
 
   -- the sizes: each is small
-  sizes : (length m ≡ 2 * p .k) × (length v ≡ 4 * (p .s * p .k)) × (p .k ≤ 16) × (p .s * p .k ≤ 512) × (length w ≤ 255)
+  sizes : (length m ≡ 2 * p .k) × (length v ≡ 4 * (p .s * p .k)) × (p .k ≤ 16) × (p .s * p .k ≤ 512) × (length w ≤ longest)
   sizes =
       let long = g .relation .long in
       let moves-long = g .long in
@@ -150,6 +150,9 @@ module _ (p : Profile) (w : List ℕ) (good : lowest (profile-refusals p) ≡ no
   to-log : distance f 8 ≡ length w
   to-log = let z = sizes in number-is 2 8 ∙ pack-low 2 (length w) (omega arith)
 
+  n-is : log-length f ≡ length w
+  n-is = let z = sizes in omega (arith, field-is 3, field-is 10)
+
   finals-is : word f (trailer f + 12) ≡ p .finals
   finals-is = number-is 4 12 ∙ pack-low 4 (p .finals) (omega (arith, g .finals-inside, pow-mono (g .states .1)))
 
@@ -175,7 +178,7 @@ module _ (p : Profile) (w : List ℕ) (good : lowest (profile-refusals p) ≡ no
 
   log-is : file-log f ≡ w
   log-is =
-      ap₂ (λ n l. take n l) (field-is 3) (ap₂ drop at-log (sym (append-assoc m v (w ++ trailer-bytes p w))) ∙ drop-at (m ++ v) (w ++ trailer-bytes p w) (length (m ++ v)) refl)
+      ap₂ (λ n l. take n l) n-is (ap₂ drop at-log (sym (append-assoc m v (w ++ trailer-bytes p w))) ∙ drop-at (m ++ v) (w ++ trailer-bytes p w) (length (m ++ v)) refl)
       ∙ take-at w (trailer-bytes p w) (length w) refl
 
   shape-is : file-shape f ≡ shape p
@@ -188,7 +191,7 @@ module _ (p : Profile) (w : List ℕ) (good : lowest (profile-refusals p) ≡ no
   profile-is = ap (λ h. profile-of h (file-masks f) (file-moves f)) shape-is ∙ ap₂ (profile-of (shape p)) masks-are moves-are
 
   in-range : file-out-of-range f ≡ false
-  in-range = ap₂ (λ q n. profile-out-of-range q || not (eqb n 0)) profile-is (number-is 2 10)
+  in-range = ap₂ (λ q n. profile-out-of-range q || not (eqb n 0)) profile-is (field-is 11)
       ∙ ap (λ t. t || false) (lowest-none (profile-refusals p) .0 good _ (List·Memᴰ·head refl))
 
   -- a distance in its range
@@ -201,7 +204,7 @@ module _ (p : Profile) (w : List ℕ) (good : lowest (profile-refusals p) ≡ no
       let e = trailer-is in
       let a = within 4 (2 * field f 0) (omega (arith, to-masks, k-is)) (omega (arith, to-masks)) in
       let b = within 6 (4 * (field f 1 * field f 0)) (omega (arith, to-moves, area-is)) (omega (arith, to-moves)) in
-      let c = within 8 (log-length f) (omega (arith, to-log, field-is 3)) (omega (arith, to-log)) in
+      let c = within 8 (log-length f) (omega (arith, to-log, n-is)) (omega (arith, to-log)) in
       ap₂ (λ t u. t || u) a (ap₂ (λ t u. t || u) b c)
 
   none-applies : lowest (file-refusals f) ≡ none
@@ -224,7 +227,7 @@ round-trip p w n e =
       none-applies = lowest-none (file-refusals (file-bytes p w)) .0 applies;
       read = λ a b i j. buffers-long (file-bytes p w) a b applies (omega (arith, k-is p w good good-log)) (omega (arith, area-is p w good good-log));
       numbers = shape-is p w good good-log;
-      n = field-is p w good good-log 3;
+      n = n-is p w good good-log;
       masks = masks-are p w good good-log;
       moves = moves-are p w good good-log;
       log = log-is p w good good-log;

@@ -7,7 +7,7 @@ use Prim.Native.Nat.{ℕ, zero, suc, _+_, _*_, _/_, _%_, _≤_, _<_}
 use lib.ListN.{length}
 use Rattle.profile.specs.Lists.{flat-map}
 use Rattle.profile.specs.Automata.{Profile, profile-of}
-use Rattle.profile.specs.Refusals.{log-refusals, lowest, profile-refusals, short-buffer}
+use Rattle.profile.specs.Refusals.{log-refusals, longest, lowest, profile-refusals, short-buffer}
 use Rattle.profile.specs.declared.Shape.{Shape}
 use Rattle.profile.specs.declared.Refusal.{Refusal}
 use Rattle.profile.specs.declared.Refusal.the-variants.{ShortBuffer}
@@ -30,10 +30,11 @@ masks-distance p w = 2 * p .k + moves-distance p w
 abbrev pub shape : Profile → Shape
 shape p = record { k = p .k; s = p .s; start = p .start; finals = p .finals }
 
--- the trailer, with the distances back to the masks and to the moves; that to the log is its length n
+-- the trailer, with the distances back to the masks and to the moves; that to the log is its length n;
+-- "Trailer byte 10 becomes the high byte of n, byte 11 stays zero"
 abbrev pub trailer-of : Shape → ℕ → ℕ → ℕ → List ℕ
 trailer-of h n masks moves =
-    h .k ∷ h .s ∷ h .start ∷ n ∷ (low-bytes 2 masks ++ (low-bytes 2 moves ++ (low-bytes 2 n ++ (0 ∷ 0 ∷ low-bytes 4 (h .finals)))))
+    h .k ∷ h .s ∷ h .start ∷ n % 256 ∷ (low-bytes 2 masks ++ (low-bytes 2 moves ++ (low-bytes 2 n ++ (n / 256 % 256 ∷ 0 ∷ low-bytes 4 (h .finals)))))
 
 abbrev pub trailer-bytes : Profile → List ℕ → List ℕ
 trailer-bytes p w = trailer-of (shape p) (length w) (masks-distance p w) (moves-distance p w)
@@ -58,5 +59,5 @@ writing (some r) n = Writing.Refused r
 pub record Fit (h : Shape) (masks moves w out : List ℕ) : Type 0 where
   pub letters : (length masks ≡ h .k) × (h .k ≤ 16)
   pub states : (length moves ≡ h .s * h .k) × (h .s ≤ 32) × (h .start < h .s)
-  pub log : length w ≤ 255
+  pub log : length w ≤ longest
   pub room : length (file-bytes (profile-of h masks moves) w) ≤ length out

@@ -76,7 +76,7 @@ fn put_bytes(bytes: &[u8], out: &mut [u8], at: usize)
 
 // The trailer of a log of n letters, with the distances back to the masks and to the moves.
 fn trailer_bytes(shape: Shape, n: usize, masks: usize, moves: usize) -> [u8; 16]
-    requires { ⌜ (shape .k < 256) × (shape .s < 256) × (shape .start < 256) × (n < 256) ⌝ }
+    requires { ⌜ (shape .k < 256) × (shape .s < 256) × (shape .start < 256) ⌝ }
     ensures { λ r. ⌜ r ≡ trailer-of shape n masks moves ⌝ }
 {
     let k = shape.k;
@@ -87,14 +87,14 @@ fn trailer_bytes(shape: Shape, n: usize, masks: usize, moves: usize) -> [u8; 16]
         k as u8,
         s as u8,
         start as u8,
-        n as u8,
+        (n % 256) as u8,
         (masks % 256) as u8,
         (masks / 256 % 256) as u8,
         (moves % 256) as u8,
         (moves / 256 % 256) as u8,
         (n % 256) as u8,
         (n / 256 % 256) as u8,
-        0u8,
+        (n / 256 % 256) as u8,
         0,
         (finals % 256) as u8,
         (finals / 256 % 256) as u8,

@@ -32,7 +32,7 @@ module _ {p : Profile} {w : List ℕ} {m room : ℕ} {starts places : List ℕ} 
   pub apart : (a b : ℕ) → T (independent (p .masks) a b) → a ≢ b
   apart = distinct (p .masks) (r .profile .relation .own)
 
-  -- the counts of a prefix: one for each letter, and each below 256
+  -- the counts of a prefix: one for each letter, and each below 65,536
   pub counted : (n : ℕ) (c : List ℕ) → Mem c (of-total p w n) → (length c ≡ p .k) × Small layout c × IsPrefix (independent (p .masks)) (λ a. a) w (at c)
   counted n c i =
       let l = level-at (independent (p .masks)) (λ a. a) (p .k) w n c (r .log .letters) i in

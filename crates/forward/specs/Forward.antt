@@ -20,7 +20,7 @@ pub record Ready (p : Profile) (w : List ℕ) (n room : ℕ) (starts places : Li
   pub profile : GoodProfile p
   pub log : GoodLog (p .k) w
   pub fits : record-length layout * room ≤ n
-  pub few : room ≤ 715827882
+  pub few : room ≤ 429496729
   pub starts-placed : starts ≡ map (place-start w) (below (p .k)) ++ drop (p .k) starts
   pub places-placed : places ≡ place-table (p .k) w ++ drop (length (place-table (p .k) w)) places
 

@@ -4,6 +4,7 @@ ghost use mathlib.Core.List.{[], _∷_, _++_};
 ghost use Prim.Native.Nat.{suc, _+_, _*_, _≤_, _<_};
 ghost use lib.ListN.{length, replicate};
 ghost use Rattle.profile.specs.Automata.{profile-of};
+ghost use Rattle.profile.specs.Refusals.{longest};
 ghost use Rattle.profile.specs.Tables.{layout, record-length};
 ghost use Rattle.profile.specs.Traces.{independent};
 ghost use Rattle.counts.specs.Counts.{words};
@@ -16,9 +17,7 @@ ghost use Rattle.forward.specs.Merging.{Comes, Grows, Halfway, Prepared,
 use counts::Counts;
 use merge::Least;
 use profile::Shape;
-
-// The numbers of a record.
-const RECORD: usize = 6;
+use records::RECORD;
 
 // The records of all prefixes are put, with the looks; or they do not fit.
 pub enum Filled {
@@ -64,7 +63,7 @@ fn put_first(
     moves: &[u32],
     log: &[u8],
     starts: &[u16],
-    places: &[u8],
+    places: &[u16],
 ) -> u32
     requires { ⌜ now keepers ≡ all-keepers (independent (now masks)) (shape .k) ⌝ }
     requires { ⌜ Ready (profile-of shape (now masks) (now moves)) (now log) (length (now table)) 1 (now starts) (now places) ⌝ }
@@ -123,7 +122,7 @@ fn merge_next(
     keepers: &[u32; 16],
     log: &[u8],
     starts: &[u16],
-    places: &[u8],
+    places: &[u16],
     cursors: &mut [usize],
 ) -> Merged
     requires { ⌜ Halfway (profile-of (part .shape) (now masks) (now moves)) (now log) (now table) part j (now cursors) (now starts) (now places) ⌝ }
@@ -173,7 +172,7 @@ fn fill_total(
     keepers: &[u32; 16],
     log: &[u8],
     starts: &[u16],
-    places: &[u8],
+    places: &[u16],
 ) -> Total
     requires { ⌜ Standing (profile-of (part .shape) (now masks) (now moves)) (now log) (now table) part (now starts) (now places) × Prepared (profile-of (part .shape) (now masks) (now moves)) (now rows) (now keepers) ⌝ }
     ensures { λ r. ⌜ Grows (profile-of (part .shape) (now (masks .entry)) (now (moves .entry))) (now (log .entry)) (part .room) (part .t) (part .first) (now (table .entry)) (now (table .exit)) r ⌝ }
@@ -206,7 +205,7 @@ fn fill_total(
 
 // Where the total behind the part stands, which has so many records.
 fn next_part(part: Part, records: usize) -> Part
-    requires { ⌜ (part .t < 255) × (part .first + records ≤ part .room) ⌝ }
+    requires { ⌜ (part .t < longest) × (part .first + records ≤ part .room) ⌝ }
     ensures { λ r. ⌜ r ≡ part-behind part records ⌝ }
 {
     let shape = part.shape;
@@ -230,7 +229,7 @@ fn fill_totals(
     keepers: &[u32; 16],
     log: &[u8],
     starts: &[u16],
-    places: &[u8],
+    places: &[u16],
 ) -> Filled
     requires { ⌜ Standing (profile-of (part .shape) (now masks) (now moves)) (now log) (now table) part (now starts) (now places) ⌝ }
     requires { ⌜ ((part .t ≤ length (now log)) × (number ≡ pairs (profile-of (part .shape) (now masks) (now moves)) (now log) (totals (profile-of (part .shape) (now masks) (now moves)) (now log) (suc (part .t))))) × Prepared (profile-of (part .shape) (now masks) (now moves)) (now rows) (now keepers) ⌝ }
@@ -263,7 +262,7 @@ pub fn fill_forward(
     moves: &[u32],
     log: &[u8],
     starts: &[u16],
-    places: &[u8],
+    places: &[u16],
 ) -> Filled
     requires { ⌜ Ready (profile-of shape (now masks) (now moves)) (now log) (length (now table)) room (now starts) (now places) ⌝ }
     ensures { λ r. ⌜ Forward (profile-of shape (now (masks .entry)) (now (moves .entry))) (now (log .entry)) room (now (table .entry)) (now (table .exit)) r ⌝ }

@@ -5,7 +5,7 @@ use libc::STDOUT_FILENO;
 fn main() {
     let mut input = [0u8; 65537];
     let n = io::read_full(STDIN_FILENO, &mut input);
-    let mut out = [0u8; 2048];
+    let mut out = [0u8; 16384];
     let mut work = [0u32; 16380];
     let r = report::respond(&input[0..n], &mut out, &mut work);
     io::write_all(STDOUT_FILENO, &out[0..r]);

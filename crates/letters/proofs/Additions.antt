@@ -12,6 +12,7 @@ use lib.ListN.{length, getD, List·getD-append}
 use lib.Seq.{ext-getD}
 use Rattle.profile.specs.Lists.{all, below, filter}
 use Rattle.profile.specs.Prefixes.{IsPrefix, additions, at}
+use Rattle.profile.specs.Refusals.{longest}
 use Rattle.profile.specs.Tables.{count-field, layout, packed}
 use Rattle.profile.specs.Traces.{letters-below}
 use Rattle.theory.proofs.Counting.{at-map, length-range}
@@ -60,14 +61,14 @@ letters-first may k n starts places t r =
 
 -- ---- the letters of a prefix
 
--- counts of a prefix of a log of at most 255 events are below 256
-prefix-small : (may : ℕ → ℕ → Bool) (w v : List ℕ) → length w ≤ 255 → IsPrefix may (λ a. a) w (at v) → Small layout v
+-- counts of a prefix of a log that 7 does not refuse are below 65,536
+prefix-small : (may : ℕ → ℕ → Bool) (w v : List ℕ) → length w ≤ longest → IsPrefix may (λ a. a) w (at v) → Small layout v
 prefix-small may w v h p = all-of (λ n. ltb n (2 ^ layout .width)) v (λ n m.
     let i = mem-place 0 m in
-    let le : n ≤ 255 = omega (arith, i .2, p .fits (i .0), count-le may (λ a. a) w (i .0)) in
+    let le : n ≤ longest = omega (arith, i .2, p .fits (i .0), count-le may (λ a. a) w (i .0)) in
     lt→ltb n (2 ^ layout .width) (omega arith))
 
-module _ (may : ℕ → ℕ → Bool) (k : ℕ) (w v s p : List ℕ) (short : length w ≤ 255) (few : k ≤ 16) (prefix : IsPrefix may (λ a. a) w (at v)) where
+module _ (may : ℕ → ℕ → Bool) (k : ℕ) (w v s p : List ℕ) (short : length w ≤ longest) (few : k ≤ 16) (prefix : IsPrefix may (λ a. a) w (at v)) where
   next-placed : next-by k (map (place-start w) (below k) ++ s) (place-table k w ++ p) (packed layout v) ≡ next-places k w (at v)
   next-placed = ext-getD 0 l (next-places k w (at v)) (len ∙ sym (length-range (λ x. getD (places-of w x) (at v x) 0) k 0)) (λ x h. go x (omega (arith, len)))
     where

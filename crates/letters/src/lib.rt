@@ -17,7 +17,7 @@ pub struct Letters {
 }
 
 // Puts the place of the next event of each letter below k.
-fn next_places(c: Counts, k: usize, starts: &[u16], places: &[u8], next: &mut [u8])
+fn next_places(c: Counts, k: usize, starts: &[u16], places: &[u16], next: &mut [u16])
     requires { ⌜ (k ≤ 16) × (k ≤ length (now next)) ⌝ }
     ensures { λ r. ⌜ now (next .exit) ≡ next-by k (now (starts .entry)) (now (places .entry)) (words c) ++ drop k (now (next .entry)) ⌝ }
 {
@@ -46,7 +46,7 @@ pub fn addable(
     keepers: &[u32; 16],
     n: usize,
     starts: &[u16],
-    places: &[u8],
+    places: &[u16],
 ) -> Letters
     requires { ⌜ k ≤ 16 ⌝ }
     requires { ⌜ now keepers ≡ all-keepers (independent (now masks)) k ⌝ }
@@ -54,7 +54,7 @@ pub fn addable(
         × (r .number ≡ length (letters-by (independent (now (masks .entry))) k n (now (starts .entry)) (now (places .entry)) (words c))) ⌝ }
 {
     let end = bounded(k);
-    let mut next = [0u8; 16];
+    let mut next = [0u16; 16];
     next_places(c, end, starts, places, &mut next);
     let mut set = 0u32;
     let mut number = 0u32;

@@ -24,7 +24,7 @@ fn bad_place(k: usize, log: &[u8]) -> usize
 pub fn check_log(k: usize, log: &[u8]) -> Check
     ensures { λ r. ⌜ checked r ≡ lowest (log-refusals k (now (log .entry))) ⌝ }
 {
-    if 255 < log.len() {
+    if 4000 < log.len() {
         return Check::Bad(Refusal::LongLog);
     }
     let at = bad_place(k, log);

@@ -2,3 +2,5 @@
 pub mod Bytes
 pub mod Sections
 pub mod Answers
+-- files of before logs had 4,000 letters
+pub mod OldFiles

@@ -30,7 +30,7 @@ range-eq f =
     ∙ simp (or-false, or-assoc)
 
 -- neither test holds
-neither : (a b : Bool) → (a || b) ≡ false → (a ≡ false) × (b ≡ false)
+pub neither : (a b : Bool) → (a || b) ≡ false → (a ≡ false) × (b ≡ false)
 neither true b e = absurd (true≢false e)
 neither false b e = (refl, e)
 
@@ -39,7 +39,7 @@ numbers-in f e =
     let k = field f 0 in
     let s = field f 1 in
     let start = field f 2 in
-    let n₁ = neither (profile-out-of-range (file-profile f)) (not (eqb (distance f 10) 0)) e in
+    let n₁ = neither (profile-out-of-range (file-profile f)) (not (eqb (field f 11) 0)) e in
     let n₂ = neither (ltb k 1) (ltb 16 k || (ltb s 1 || (ltb 32 s || leb s start))) (sym (range-eq f) ∙ n₁ .0) in
     let n₃ = neither (ltb 16 k) (ltb s 1 || (ltb 32 s || leb s start)) (n₂ .1) in
     let n₄ = neither (ltb s 1) (ltb 32 s || leb s start) (n₃ .1) in
@@ -85,13 +85,13 @@ pub content-profile : (f w : List ℕ) {r : Refusal} → file-out-of-range f ≡
     → lowest (content-refusals (file-profile f) w) ≡ some r
 content-profile f w e h =
     let p = file-profile f in
-    lowest-first (structure-refusals p) (log-refusals (p .k) w) (sym (past-range p (neither (profile-out-of-range p) (not (eqb (distance f 10) 0)) e .0)) ∙ h)
+    lowest-first (structure-refusals p) (log-refusals (p .k) w) (sym (past-range p (neither (profile-out-of-range p) (not (eqb (field f 11) 0)) e .0)) ∙ h)
 
 pub content-log : (f w : List ℕ) → file-out-of-range f ≡ false → lowest (profile-refusals (file-profile f)) ≡ none
     → lowest (content-refusals (file-profile f) w) ≡ lowest (log-refusals (field f 0) w)
 content-log f w e h =
     let p = file-profile f in
-    lowest-append (structure-refusals p) (log-refusals (p .k) w) (sym (past-range p (neither (profile-out-of-range p) (not (eqb (distance f 10) 0)) e .0)) ∙ h)
+    lowest-append (structure-refusals p) (log-refusals (p .k) w) (sym (past-range p (neither (profile-out-of-range p) (not (eqb (field f 11) 0)) e .0)) ∙ h)
 
 -- ---- masks, moves and log by the numbers that the code found
 

@@ -39,8 +39,9 @@ field f i = getD f (trailer f + i) 0
 abbrev pub file-shape : List ℕ → Shape
 file-shape f = record { k = field f 0; s = field f 1; start = field f 2; finals = word f (trailer f + 12) }
 
+-- "Trailer byte 10 becomes the high byte of n"
 abbrev pub log-length : List ℕ → ℕ
-log-length f = field f 3
+log-length f = field f 3 + 256 * field f 10
 
 -- "distance back from trailer start", at trailer byte i, and where its section begins
 abbrev pub distance : List ℕ → ℕ → ℕ
@@ -75,9 +76,9 @@ short-file f = ltb (length f) 16
 abbrev pub numbers-out-of-range : ℕ → ℕ → ℕ → Bool
 numbers-out-of-range k s start = ltb k 1 || (ltb 16 k || (ltb s 1 || (ltb 32 s || leb s start)))
 
--- 2: "k, s or start out of range; trailer bytes 10–11 not zero"
+-- 2: "k, s or start out of range"; "byte 11 stays zero"
 abbrev pub file-out-of-range : List ℕ → Bool
-file-out-of-range f = profile-out-of-range (file-profile f) || not (eqb (half f (trailer f + 10)) 0)
+file-out-of-range f = profile-out-of-range (file-profile f) || not (eqb (field f 11) 0)
 
 -- 3: "A distance out of its range": not "at least its section's size and at most the trailer's own offset"
 abbrev pub outside : List ℕ → ℕ → ℕ → Bool
@@ -86,7 +87,7 @@ outside f i size = ltb (distance f i) size || ltb (trailer f) (distance f i)
 abbrev pub distance-out-of-range : List ℕ → Bool
 distance-out-of-range f = outside f 4 (2 * field f 0) || (outside f 6 (4 * (field f 1 * field f 0)) || outside f 8 (log-length f))
 
--- the conditions of a file, by rising number, of its content and in all; 7 holds of none, since n is one byte
+-- the conditions of a file, by rising number, of its content and in all; 7 "applies to files too, before 8"
 abbrev pub content-refusals : Profile → List ℕ → List (Bool × Refusal)
 content-refusals p w = (mask-bit (p .k) (p .masks), MaskBit) ∷ (state-bit p, StateBit) ∷ log-refusals (p .k) w
 

@@ -72,6 +72,16 @@ fn field_at(f: &[u8], i: usize) -> usize
     byte_at(f, end + i) as usize
 }
 
+// The log's length: trailer byte 3, and byte 10 above it.
+fn length_at(f: &[u8]) -> usize
+    ensures { λ r. ⌜ r ≡ log-length (now (f .entry)) ⌝ }
+{
+    let end = trailer_at(f);
+    let low = byte_at(f, end + 3) as usize;
+    let high = byte_at(f, end + 10) as usize;
+    low + 256 * high
+}
+
 // The numbers of the file's profile.
 fn shape_of(f: &[u8]) -> Shape
     ensures { λ r. ⌜ r ≡ file-shape (now (f .entry)) ⌝ }
@@ -130,7 +140,7 @@ fn numbers_refused(k: usize, s: usize, start: usize) -> bool
     s <= start
 }
 
-// 2: k, s or start out of range, or trailer bytes 10 and 11 not zero.
+// 2: k, s or start out of range, or trailer byte 11 not zero.
 fn range_refused(f: &[u8]) -> bool
     ensures { λ r. ⌜ r ≡ file-out-of-range (now (f .entry)) ⌝ }
 {
@@ -140,7 +150,7 @@ fn range_refused(f: &[u8]) -> bool
     if numbers_refused(k, s, start) {
         return true;
     }
-    trailer_half(f, 10) != 0
+    field_at(f, 11) != 0
 }
 
 // 3, of the distance at trailer byte i: below its section's size, or above the trailer's own offset.
@@ -162,7 +172,7 @@ fn distance_refused(f: &[u8]) -> bool
 {
     let k = field_at(f, 0);
     let s = field_at(f, 1);
-    let n = field_at(f, 3);
+    let n = length_at(f);
     if outside_at(f, 4, 2 * k) {
         return true;
     }
@@ -214,7 +224,7 @@ fn check_content(f: &[u8]) -> Check
         return Check::Bad(r);
     }
     let from = section_at(f, 8);
-    let end = from + field_at(f, 3);
+    let end = from + length_at(f);
     logcheck::check_log(k, &f[from..end])
 }
 
@@ -242,7 +252,7 @@ pub fn locate_log(file: &[u8]) -> Located
     if let Check::Bad(r) = check {
         return Located::Refused(r);
     }
-    Located::At(section_at(file, 8), field_at(file, 3))
+    Located::At(section_at(file, 8), length_at(file))
 }
 
 // The log section as that part of the file, uncopied; empty where the file is refused by 1 to 8.
@@ -254,7 +264,7 @@ pub fn log_part(file: &[u8]) -> &[u8]
         return &file[0..0];
     }
     let from = section_at(file, 8);
-    let end = from + field_at(file, 3);
+    let end = from + length_at(file);
     &file[from..end]
 }
 
@@ -280,5 +290,5 @@ pub fn read_file(file: &[u8], masks: &mut [u16], moves: &mut [u32]) -> Reading
     }
     fill_masks(file, section_at(file, 4), k, masks);
     fill_moves(file, section_at(file, 6), count, moves);
-    Reading::Told(shape, field_at(file, 3))
+    Reading::Told(shape, length_at(file))
 }

@@ -13,6 +13,7 @@ use lib.Seq.{ext-getD, getD-set-other, getD-set-same}
 use Rattle.profile.specs.Lists.{below, first-place, range}
 use Rattle.profile.specs.Orders.{first-order}
 use Rattle.profile.specs.Prefixes.{IsPrefix, addable?, count, more, one, unmarked}
+use Rattle.profile.specs.Refusals.{longest}
 use Rattle.profile.specs.Traces.{independent}
 use Rattle.theory.proofs.Counting.{at-map}
 use Rattle.theory.proofs.Earliest.{Greedy, end, first-greedy, greedy-append, greedy-takes, take}
@@ -196,7 +197,7 @@ module _ (k : ℕ) (masks w : List ℕ) (R : Relation k masks) (G : GoodLog k w)
     fits : suc (counts (C .taken) a) ≤ counts w a
     fits = rw same (letter-fits k masks w R G (C .taken) (C .rest) (C .smallest) u<)
 
-    pub chosen-fits : getD used a 0 + 1 ≤ 255
+    pub chosen-fits : getD used a 0 + 1 ≤ longest
     chosen-fits = omega (arith, fits, C .spent a chosen-below, count-le (independent masks) (λ a. a) w a, G .short)
 
     -- one letter more

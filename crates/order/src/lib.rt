@@ -19,7 +19,7 @@ pub enum Ordered {
 }
 
 // The smallest letter that can come next; k where there is none.
-fn least_next(masks: &[u16], keepers: &[u32; 16], k: usize, n: usize, next: &[u8]) -> usize
+fn least_next(masks: &[u16], keepers: &[u32; 16], k: usize, n: usize, next: &[u16]) -> usize
     requires { ⌜ (k ≤ 16) × (now keepers ≡ all-keepers (independent (now masks)) k) ⌝ }
     ensures { λ r. ⌜ r ≡ first-place (comes-next? (independent (now (masks .entry))) k n (now (next .entry))) (below k) ⌝ }
 {
@@ -34,7 +34,7 @@ fn least_next(masks: &[u16], keepers: &[u32; 16], k: usize, n: usize, next: &[u8
 }
 
 // The place of the first event of each letter that `next` has an element for.
-fn first_places(starts: &[u16], places: &[u8], next: &mut [u8])
+fn first_places(starts: &[u16], places: &[u16], next: &mut [u16])
     ensures { λ r. ⌜ now (next .exit) ≡ map (λ x. getD (now (places .entry)) (getD (now (starts .entry)) x 0 + 0) 0) (below (length (now (next .entry)))) ⌝ }
 {
     let mut x = 0;
@@ -51,8 +51,8 @@ fn put_letters(
     keepers: &[u32; 16],
     log: &[u8],
     starts: &[u16],
-    places: &[u8],
-    next: &mut [u8],
+    places: &[u16],
+    next: &mut [u16],
     used: &mut [u16],
     out: &mut [u8],
 )
@@ -80,9 +80,9 @@ fn put_first(k: usize, masks: &[u16], log: &[u8], out: &mut [u8])
 {
     let keepers = events::all_keepers(masks, k);
     let mut starts = [0u16; 16];
-    let mut places = [0u8; 272];
+    let mut places = [0u16; 4016];
     places::place_events(log, k, &mut starts, &mut places);
-    let mut next = [0u8; 16];
+    let mut next = [0u16; 16];
     let mut used = [0u16; 16];
     put_letters(
         k,

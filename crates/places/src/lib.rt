@@ -5,11 +5,12 @@ ghost use Prim.Native.Nat.{_+_, _≤_};
 ghost use lib.ListN.{length, getD, drop};
 ghost use lib.Seq.{sets};
 ghost use Rattle.profile.specs.Lists.{below};
+ghost use Rattle.profile.specs.Refusals.{longest};
 ghost use Rattle.places.specs.Places.{place-start, place-table, places-of};
 
 // Puts the places of letter x, and the log's length behind them, from `at` on; tells where the next letter's begin.
-fn put_places(log: &[u8], x: usize, places: &mut [u8], at: usize) -> usize
-    requires { ⌜ (length (now log) ≤ 255) × (at + length (places-of (now log) x) ≤ length (now places)) ⌝ }
+fn put_places(log: &[u8], x: usize, places: &mut [u16], at: usize) -> usize
+    requires { ⌜ (length (now log) ≤ longest) × (at + length (places-of (now log) x) ≤ length (now places)) ⌝ }
     ensures { λ r. ⌜ (r ≡ at + length (places-of (now (log .entry)) x)) × (now (places .exit) ≡ sets (now (places .entry)) at (places-of (now (log .entry)) x)) ⌝ }
 {
     let mut to = at;
@@ -17,18 +18,18 @@ fn put_places(log: &[u8], x: usize, places: &mut [u8], at: usize) -> usize
     while i < log.len() {
         let a = log[i] as usize;
         if a == x {
-            places[to] = i as u8;
+            places[to] = i as u16;
             to += 1;
         }
         i += 1;
     }
-    places[to] = i as u8;
+    places[to] = i as u16;
     to + 1
 }
 
 // Puts the places of the letters below k, and where those of each letter begin.
-pub fn place_events(log: &[u8], k: usize, starts: &mut [u16], places: &mut [u8])
-    requires { ⌜ (k ≤ 16) × (length (now log) ≤ 255) × (length (now starts) ≡ 16) × (length (now places) ≡ 272) ⌝ }
+pub fn place_events(log: &[u8], k: usize, starts: &mut [u16], places: &mut [u16])
+    requires { ⌜ (k ≤ 16) × (length (now log) ≤ longest) × (length (now starts) ≡ 16) × (length (now places) ≡ 4016) ⌝ }
     ensures { λ r. ⌜ (now (starts .exit) ≡ map (place-start (now (log .entry))) (below k) ++ drop k (now (starts .entry)))
         × (now (places .exit) ≡ place-table k (now (log .entry)) ++ drop (length (place-table k (now (log .entry)))) (now (places .entry))) ⌝ }
 {
@@ -42,14 +43,14 @@ pub fn place_events(log: &[u8], k: usize, starts: &mut [u16], places: &mut [u8])
 }
 
 // What stands at place i; 0 past the end.
-pub fn place_at(places: &[u8], i: usize) -> u8
+pub fn place_at(places: &[u16], i: usize) -> u16
     ensures { λ r. ⌜ r ≡ getD (now (places .entry)) i 0 ⌝ }
 {
     if i < places.len() { places[i] } else { 0 }
 }
 
 // The place of the event of letter x that has n before it.
-pub fn next_place(starts: &[u16], places: &[u8], x: usize, n: u16) -> u8
+pub fn next_place(starts: &[u16], places: &[u16], x: usize, n: u16) -> u16
     ensures { λ r. ⌜ r ≡ getD (now (places .entry)) (getD (now (starts .entry)) x 0 + n) 0 ⌝ }
 {
     let start = if x < starts.len() {

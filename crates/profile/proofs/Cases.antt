@@ -239,13 +239,13 @@ right-of r t =
           );
     }
 
--- "case M9 now reads empty, b, a, ab" (document 02, Paper 5): its table in 26 numbers, a row for each record, counts in four numbers, then forward and
+-- "case M9 now reads empty, b, a, ab" (document 02, Paper 5): its table in 42 numbers, a row for each record, counts in eight numbers, then forward and
 -- backward; the last two numbers are as before
-pub M9-records : table-of layout (independent ab) (λ a. a) (automaton (alt ab)) 2 (1 ∷ 0 ∷ []) (replicate 26 7)
-    ≡ 0 ∷ 0 ∷ 0 ∷ 0 ∷ 1 ∷ 1
-    ∷ 256 ∷ 0 ∷ 0 ∷ 0 ∷ 0 ∷ 0
-    ∷ 1 ∷ 0 ∷ 0 ∷ 0 ∷ 2 ∷ 2
-    ∷ 257 ∷ 0 ∷ 0 ∷ 0 ∷ 1 ∷ 1
+pub M9-records : table-of layout (independent ab) (λ a. a) (automaton (alt ab)) 2 (1 ∷ 0 ∷ []) (replicate 42 7)
+    ≡ 0 ∷ 0 ∷ 0 ∷ 0 ∷ 0 ∷ 0 ∷ 0 ∷ 0 ∷ 1 ∷ 1
+    ∷ 65536 ∷ 0 ∷ 0 ∷ 0 ∷ 0 ∷ 0 ∷ 0 ∷ 0 ∷ 0 ∷ 0
+    ∷ 1 ∷ 0 ∷ 0 ∷ 0 ∷ 0 ∷ 0 ∷ 0 ∷ 0 ∷ 2 ∷ 2
+    ∷ 65537 ∷ 0 ∷ 0 ∷ 0 ∷ 0 ∷ 0 ∷ 0 ∷ 0 ∷ 1 ∷ 1
     ∷ 7 ∷ 7 ∷ []
 M9-records = refl
 

@@ -49,31 +49,31 @@ shape k masks s start finals moves = record { k = k; masks = masks; s = s; start
 pub calls : List Call
 unfolding call shape
 calls =
-    call (alt ab) (1 ∷ 0 ∷ []) 2 24 []
-    ∷ call (alt ab) (1 ∷ 0 ∷ []) 2 23 (10 ∷ 0 ∷ [])
+    call (alt ab) (1 ∷ 0 ∷ []) 2 40 []
+    ∷ call (alt ab) (1 ∷ 0 ∷ []) 2 39 (10 ∷ 0 ∷ [])
     ∷ call (alt ab) (1 ∷ 0 ∷ []) 1 0 (9 ∷ 0 ∷ [])
-    ∷ call (alt ab) (1 ∷ 0 ∷ 1 ∷ []) 2 36 (9 ∷ 0 ∷ [])
-    ∷ call (alt ab) [] 0 6 []
-    ∷ call (alt ab) [] 0 5 (10 ∷ 0 ∷ [])
-    ∷ call (free 1 (0 ∷ [])) (replicate 255 0) 254 0 (9 ∷ 0 ∷ [])
-    ∷ call (free 1 (0 ∷ [])) (replicate 256 0) 0 0 (7 ∷ 0 ∷ [])
-    ∷ call (free 1 (0 ∷ [])) (replicate 256 1) 0 0 (7 ∷ 0 ∷ [])
+    ∷ call (alt ab) (1 ∷ 0 ∷ 1 ∷ []) 2 60 (9 ∷ 0 ∷ [])
+    ∷ call (alt ab) [] 0 10 []
+    ∷ call (alt ab) [] 0 9 (10 ∷ 0 ∷ [])
+    ∷ call (free 1 (0 ∷ [])) (replicate 4000 0) 3999 0 (9 ∷ 0 ∷ [])
+    ∷ call (free 1 (0 ∷ [])) (replicate 4001 0) 0 0 (7 ∷ 0 ∷ [])
+    ∷ call (free 1 (0 ∷ [])) (replicate 4001 1) 0 0 (7 ∷ 0 ∷ [])
     ∷ call (alt ab) (0 ∷ 2 ∷ 3 ∷ []) 0 0 (8 ∷ 1 ∷ [])
-    ∷ call (shape 0 [] 1 0 0 []) [] 0 6 (2 ∷ 0 ∷ [])
-    ∷ call (free 16 (replicate 16 0)) [] 0 6 []
-    ∷ call (free 17 (replicate 17 0)) [] 0 6 (2 ∷ 0 ∷ [])
-    ∷ call (free 2 (0 ∷ [])) [] 0 6 (2 ∷ 0 ∷ [])
-    ∷ call (shape 1 (0 ∷ []) 0 0 0 []) [] 0 6 (2 ∷ 0 ∷ [])
-    ∷ call (shape 1 (0 ∷ []) 32 31 4294967295 (replicate 32 4294967295)) [] 0 6 []
-    ∷ call (shape 1 (0 ∷ []) 33 0 0 (replicate 33 0)) [] 0 6 (2 ∷ 0 ∷ [])
-    ∷ call (shape 1 (0 ∷ []) 1 1 0 (0 ∷ [])) [] 0 6 (2 ∷ 0 ∷ [])
-    ∷ call (shape 1 (0 ∷ []) 1 0 0 []) [] 0 6 (2 ∷ 0 ∷ [])
+    ∷ call (shape 0 [] 1 0 0 []) [] 0 10 (2 ∷ 0 ∷ [])
+    ∷ call (free 16 (replicate 16 0)) [] 0 10 []
+    ∷ call (free 17 (replicate 17 0)) [] 0 10 (2 ∷ 0 ∷ [])
+    ∷ call (free 2 (0 ∷ [])) [] 0 10 (2 ∷ 0 ∷ [])
+    ∷ call (shape 1 (0 ∷ []) 0 0 0 []) [] 0 10 (2 ∷ 0 ∷ [])
+    ∷ call (shape 1 (0 ∷ []) 32 31 4294967295 (replicate 32 4294967295)) [] 0 10 []
+    ∷ call (shape 1 (0 ∷ []) 33 0 0 (replicate 33 0)) [] 0 10 (2 ∷ 0 ∷ [])
+    ∷ call (shape 1 (0 ∷ []) 1 1 0 (0 ∷ [])) [] 0 10 (2 ∷ 0 ∷ [])
+    ∷ call (shape 1 (0 ∷ []) 1 0 0 []) [] 0 10 (2 ∷ 0 ∷ [])
     ∷ call (shape 1 (2 ∷ []) 1 0 0 (2 ∷ [])) (1 ∷ []) 0 0 (4 ∷ 0 ∷ [])
-    ∷ call (shape 1 (1 ∷ []) 1 0 0 (0 ∷ [])) [] 0 6 (4 ∷ 0 ∷ [])
+    ∷ call (shape 1 (1 ∷ []) 1 0 0 (0 ∷ [])) [] 0 10 (4 ∷ 0 ∷ [])
     ∷ call (alt (2 ∷ 0 ∷ [])) (2 ∷ []) 0 0 (8 ∷ 0 ∷ [])
-    ∷ call (alt (0 ∷ 1 ∷ [])) [] 0 6 []
+    ∷ call (alt (0 ∷ 1 ∷ [])) [] 0 10 []
     ∷ call (shape 1 (0 ∷ []) 1 0 2 (0 ∷ [])) (1 ∷ []) 0 0 (6 ∷ 0 ∷ [])
-    ∷ call (shape 1 (0 ∷ []) 1 0 0 (2 ∷ [])) [] 0 6 (6 ∷ 0 ∷ [])
+    ∷ call (shape 1 (0 ∷ []) 1 0 0 (2 ∷ [])) [] 0 10 (6 ∷ 0 ∷ [])
     ∷ []
 
 answered? : Call → Bool
@@ -113,16 +113,16 @@ five-unused DeepText e = omega arith
 five-unused LongText e = omega arith
 
 -- calls that are not refused get both verdicts: M3 none, M2 an order
-pub both-verdicts : (told (judge-refusal (alt ab) (1 ∷ 0 ∷ 1 ∷ []) 3 36) ≡ []) × (accepted-order (independent ab) (λ a. a) (automaton (alt ab)) (1 ∷ 0 ∷ 1 ∷ []) ≡ none)
-    × (told (judge-refusal (alt ab) (1 ∷ 1 ∷ 0 ∷ 0 ∷ []) 4 54) ≡ []) × (accepted-order (independent ab) (λ a. a) (automaton (alt ab)) (1 ∷ 1 ∷ 0 ∷ 0 ∷ []) ≡ some (0 ∷ 1 ∷ 0 ∷ 1 ∷ []))
+pub both-verdicts : (told (judge-refusal (alt ab) (1 ∷ 0 ∷ 1 ∷ []) 3 60) ≡ []) × (accepted-order (independent ab) (λ a. a) (automaton (alt ab)) (1 ∷ 0 ∷ 1 ∷ []) ≡ none)
+    × (told (judge-refusal (alt ab) (1 ∷ 1 ∷ 0 ∷ 0 ∷ []) 4 90) ≡ []) × (accepted-order (independent ab) (λ a. a) (automaton (alt ab)) (1 ∷ 1 ∷ 0 ∷ 0 ∷ []) ≡ some (0 ∷ 1 ∷ 0 ∷ 1 ∷ []))
 both-verdicts = (refl, refl, refl, refl)
 
--- "255 letters are admitted"
-pub longest-admitted : lowest (admission-refusals (free 1 (0 ∷ [])) (replicate 255 0) 255) ≡ none
+-- "A log may have 4,000 letters"
+pub longest-admitted : lowest (admission-refusals (free 1 (0 ∷ [])) (replicate 4000 0) 4000) ≡ none
 longest-admitted = refl
 
--- no table has place for more than 715,827,882 records
-pub capacity-most : capacity layout 18446744073709551615 ≡ 715827882
+-- no table has place for more than 429,496,729 records
+pub capacity-most : capacity layout 18446744073709551615 ≡ 429496729
 capacity-most = refl
 
 -- ---- comparisons and first orders
@@ -160,9 +160,9 @@ pairs =
     ∷ pair (2 ∷ 0 ∷ []) (0 ∷ 1 ∷ []) (1 ∷ 0 ∷ []) (0 ∷ [])
     ∷ pair (0 ∷ 1 ∷ []) (0 ∷ 1 ∷ []) (1 ∷ 0 ∷ []) (0 ∷ [])
     ∷ pair (0 ∷ 1 ∷ []) (1 ∷ 0 ∷ []) (1 ∷ 0 ∷ []) (1 ∷ [])
-    ∷ pair ab (1 ∷ 2 ∷ []) (replicate 256 0) (8 ∷ 1 ∷ 1 ∷ [])
-    ∷ pair ab (replicate 256 2) (2 ∷ []) (7 ∷ 0 ∷ 1 ∷ [])
-    ∷ pair ab (1 ∷ []) (replicate 256 0) (7 ∷ 0 ∷ 2 ∷ [])
+    ∷ pair ab (1 ∷ 2 ∷ []) (replicate 4001 0) (8 ∷ 1 ∷ 1 ∷ [])
+    ∷ pair ab (replicate 4001 2) (2 ∷ []) (7 ∷ 0 ∷ 1 ∷ [])
+    ∷ pair ab (1 ∷ []) (replicate 4001 0) (7 ∷ 0 ∷ 2 ∷ [])
     ∷ pair ab (1 ∷ []) (0 ∷ 1 ∷ 3 ∷ []) (8 ∷ 2 ∷ 2 ∷ [])
     ∷ []
 

@@ -66,9 +66,13 @@ mask-bit k masks = any (λ i. bit-from k (getD masks i 0) || independent masks i
 abbrev pub state-bit : Profile → Bool
 state-bit p = bit-from (p .s) (p .finals) || any (bit-from (p .s)) (p .moves)
 
--- 7: "Log above 255 letters"
+-- "A log may have 4,000 letters"
+abbrev pub longest : ℕ
+longest = 4000
+
+-- 7: "Refusal 7 now starts at 4,001"
 abbrev pub long-log : List ℕ → Bool
-long-log w = ltb 255 (length w)
+long-log w = ltb longest (length w)
 
 -- 8: "A log byte of k or more; the first such place, counted in the log from 0, is given"
 abbrev pub bad-letter : ℕ → List ℕ → Bool

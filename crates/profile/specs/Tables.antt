@@ -13,15 +13,15 @@ pub record Layout : Type 0 where
   pub per : ℕ
   pub numbers : ℕ
 
--- "Numbers 0 to 3: the counts, 8 bits each"
+-- "counts take 16 bits, and a record takes ten numbers: eight with two counts each"
 abbrev pub layout : Layout
-layout = record { width = 8; per = 4; numbers = 4 }
+layout = record { width = 16; per = 2; numbers = 8 }
 
--- "one record for six numbers": the counts, forward and backward
+-- "a record takes ten numbers": the counts, "then forward and backward"
 abbrev pub record-length : Layout → ℕ
 record-length L = L .numbers + 2
 
--- "letter i has bits 8 × (i mod 4) and up of number i div 4": its count in a record
+-- "letter i in number i div 2, the even letter in the low half": its count in a record
 abbrev pub count-field : Layout → List ℕ → ℕ → ℕ
 count-field L t i = getD t (i / L .per) 0 / 2 ^ (L .width * (i % L .per)) % 2 ^ L .width
 
@@ -44,6 +44,6 @@ abbrev pub table-of : Layout → (ℕ → ℕ → Bool) → (ℕ → ℕ) → Au
 table-of L may letter M k w before =
     flat-map (record-of L may letter M w) (by-total may letter k w) ++ drop (record-length L * prefix-count may letter k w) before
 
--- "a rest below six, and all numbers past the first 4,294,967,292, are unused": the records that a table of n numbers has place for
+-- "a rest below" ten, "and all numbers past the first 4,294,967,292, are unused": the records that a table of n numbers has place for
 abbrev pub capacity : Layout → ℕ → ℕ
 capacity L n = min n 4294967292 / record-length L

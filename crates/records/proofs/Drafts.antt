@@ -29,9 +29,7 @@ module _ (f g : List ℕ → ℕ) (C : List (List ℕ)) where
           ∙ flat-map-getD (draft f g) (record-length layout) (λ c. refl) C j i [] 0 h k
 
       pub counts-of-draft : counts-at t j ≡ packed layout (getD C j [])
-      counts-of-draft =
-          ap₂ _∷_ (draft-number 0 (omega arith)) (ap₂ _∷_ (draft-number 1 (omega arith))
-          (ap₂ _∷_ (draft-number 2 (omega arith)) (ap (λ n. n ∷ []) (draft-number 3 (omega arith)))))
+      counts-of-draft = ap₂ _∷_ (draft-number 0 (omega arith)) (ap₂ _∷_ (draft-number 1 (omega arith)) (ap₂ _∷_ (draft-number 2 (omega arith)) (ap₂ _∷_ (draft-number 3 (omega arith)) (ap₂ _∷_ (draft-number 4 (omega arith)) (ap₂ _∷_ (draft-number 5 (omega arith)) (ap₂ _∷_ (draft-number 6 (omega arith)) (ap (λ n. n ∷ []) (draft-number 7 (omega arith)))))))))
 
       pub forward-of-draft : forward-at t j ≡ f (getD C j [])
       forward-of-draft = draft-number (layout .numbers) (omega arith)

@@ -10,7 +10,7 @@ use counts::Counts;
 use counts::NUMBERS;
 
 // The numbers of a record.
-const RECORD: usize = 6;
+pub const RECORD: usize = 10;
 
 // How many records a part of the table has.
 pub fn records_in(t: &[u32]) -> usize
@@ -29,11 +29,19 @@ pub fn counts_at(t: &[u32], j: usize) -> Counts
     let w1 = t[at + 1];
     let w2 = t[at + 2];
     let w3 = t[at + 3];
+    let w4 = t[at + 4];
+    let w5 = t[at + 5];
+    let w6 = t[at + 6];
+    let w7 = t[at + 7];
     Counts {
         w0: w0,
         w1: w1,
         w2: w2,
         w3: w3,
+        w4: w4,
+        w5: w5,
+        w6: w6,
+        w7: w7,
     }
 }
 
@@ -63,10 +71,18 @@ pub fn put(part: &mut [u32], j: usize, c: Counts, forward: u32, last: u32)
     let w1 = c.w1;
     let w2 = c.w2;
     let w3 = c.w3;
+    let w4 = c.w4;
+    let w5 = c.w5;
+    let w6 = c.w6;
+    let w7 = c.w7;
     part[at] = w0;
     part[at + 1] = w1;
     part[at + 2] = w2;
     part[at + 3] = w3;
+    part[at + 4] = w4;
+    part[at + 5] = w5;
+    part[at + 6] = w6;
+    part[at + 7] = w7;
     part[at + NUMBERS] = forward;
     part[at + (NUMBERS + 1)] = last;
 }

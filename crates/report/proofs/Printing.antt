@@ -11,7 +11,7 @@ use Rattle.profile.specs.Traces.{independent}
 use Rattle.profile.specs.Automata.{Profile, automaton}
 use Rattle.profile.specs.Prefixes.{prefix-count}
 use Rattle.profile.specs.Orders.{accepted-order}
-use Rattle.profile.specs.Refusals.{judge-refusal, lowest}
+use Rattle.profile.specs.Refusals.{judge-refusal, longest, lowest}
 use Rattle.profile.specs.declared.Shape.{Shape}
 use Rattle.profile.specs.declared.Refusal.{Refusal}
 use Rattle.profile.specs.declared.Refusal.the-variants.{ShortBuffer}
@@ -30,9 +30,9 @@ use Rattle.report.proofs.Texts.{length-three}
 pub line-short : (word : List ℕ) (n : ℕ) → n < 18446744073709551616 → length (number-line word n) ≤ length word + 21
 line-short word n h = omega (arith, length-three word (decimal n) (10 ∷ []), decimal-short 19 n (omega arith))
 
--- ---- the judge, with 255 places for the order and 16,380 numbers of table
+-- ---- the judge, with places for the longest log and 16,380 numbers of table
 
-module _ (p : Profile) (w order order′ table table′ : List ℕ) (places : length order ≡ 255) (numbers : length table ≡ 16380) where
+module _ (p : Profile) (w order order′ table table′ : List ℕ) (places : length order ≡ longest) (numbers : length table ≡ 16380) where
   abbrev told : Option Refusal → List ℕ
   told q = unless-refused q (verdict-text (prefix-count (independent (p .masks)) (λ a. a) (p .k) w) (accepted-order (independent (p .masks)) (λ a. a) (automaton p) w))
 
@@ -54,7 +54,7 @@ module _ (p : Profile) (w order order′ table table′ : List ℕ) (places : le
       ∙ ap (λ l. verdict-lines 1 P ++ order-line l) (sym (ap₂ take z (h .told .2) ∙ take-at v (drop (length w) order) (length w) e))
 
   -- the order has place
-  pub order-room : (P n : ℕ) → Promise p w order order′ table table′ (Order P n) → length w ≤ 255
+  pub order-room : (P n : ℕ) → Promise p w order order′ table table′ (Order P n) → length w ≤ longest
   order-room P n h = omega (arith, admitted p w order table (sym (h .refused)) .room)
 
 -- ---- the reader, with 16 places for masks and 512 for moves

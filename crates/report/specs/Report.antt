@@ -12,7 +12,7 @@ use Rattle.profile.specs.Traces.{independent}
 use Rattle.profile.specs.Automata.{Profile, automaton}
 use Rattle.profile.specs.Prefixes.{prefix-count}
 use Rattle.profile.specs.Orders.{accepted-order}
-use Rattle.profile.specs.Refusals.{judge-refusal, refusal-number}
+use Rattle.profile.specs.Refusals.{judge-refusal, longest, refusal-number}
 use Rattle.profile.specs.declared.Refusal.{Refusal}
 use Rattle.logfile.specs.Files.{file-log, file-profile, read-refusal}
 
@@ -69,10 +69,10 @@ abbrev pub unless-refused : Option Refusal → List ℕ → List ℕ
 unless-refused none t = t
 unless-refused (some r) t = refusal-line r
 
--- what is printed for a profile and a log, with an order buffer of 255 places and "a table of 16,380 numbers"
+-- what is printed for a profile and a log, with an order buffer for the longest log and "a table of 16,380 numbers"
 abbrev pub judged-text : Profile → List ℕ → List ℕ
 judged-text p w =
-    unless-refused (judge-refusal p w 255 16380)
+    unless-refused (judge-refusal p w longest 16380)
     (verdict-text (prefix-count (independent (p .masks)) (λ a. a) (p .k) w) (accepted-order (independent (p .masks)) (λ a. a) (automaton p) w))
 
 -- what is printed for a file, whose masks and moves are read into buffers of 16 and 512 places

@@ -107,10 +107,10 @@ fn put_judged(
     out: &mut [u8],
     work: &mut [u32],
 ) -> usize
-    requires { ⌜ (2048 ≤ length (now out)) × (length (now work) ≡ 16380) ⌝ }
+    requires { ⌜ (16384 ≤ length (now out)) × (length (now work) ≡ 16380) ⌝ }
     ensures { λ r. ⌜ Put (now (out .entry)) 0 (judged-text (profile-of shape (now (masks .entry)) (now (moves .entry))) (now (log .entry))) (now (out .exit)) r ⌝ }
 {
-    let mut order = [0u8; 255];
+    let mut order = [0u8; 4000];
     let judged = verdict::judge(shape, masks, moves, log, &mut order, work);
     match judged {
         Judged::Refused(r) => put_refused(out, r),
@@ -125,7 +125,7 @@ fn put_judged(
 
 // Puts what is printed for a file, and tells its length.
 fn put_file(file: &[u8], out: &mut [u8], work: &mut [u32]) -> usize
-    requires { ⌜ (2048 ≤ length (now out)) × (length (now work) ≡ 16380) ⌝ }
+    requires { ⌜ (16384 ≤ length (now out)) × (length (now work) ≡ 16380) ⌝ }
     ensures { λ r. ⌜ Put (now (out .entry)) 0 (file-text (now (file .entry))) (now (out .exit)) r ⌝ }
 {
     let mut masks = [0u16; 16];
@@ -146,7 +146,7 @@ fn put_file(file: &[u8], out: &mut [u8], work: &mut [u32]) -> usize
 // Puts exactly what the program prints for its input, with a table of 16,380 numbers, and tells its length. The other bytes of `out` stay; what
 // the table holds afterwards is free.
 pub fn respond(input: &[u8], out: &mut [u8], work: &mut [u32]) -> usize
-    requires { ⌜ (2048 ≤ length (now out)) × (length (now work) ≡ 16380) ⌝ }
+    requires { ⌜ (16384 ≤ length (now out)) × (length (now work) ≡ 16380) ⌝ }
     ensures { λ r. ⌜ take r (now (out .exit)) ≡ printed (now (input .entry)) ⌝ }
     ensures { λ r. ⌜ (r ≤ length (now (out .entry))) × (drop r (now (out .exit)) ≡ drop r (now (out .entry))) ⌝ }
 {

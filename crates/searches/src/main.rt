@@ -26,14 +26,14 @@ use trial_logs::places::put_keys;
 // Builds the table of a log, with the profile that accepts everything; every vector of the box where there are up to three letters, else those beside each record.
 fn compare_log(k: usize, masks: &[u16], log: &[u8], t: Tally) -> Tally {
     let moves = [1u32; 16];
-    let mut numbers = [0u32; 1016];
+    let mut numbers = [0u32; 1416];
     let mut keys = [0usize; 256];
     build_in(
         shape_of(k, 1, 0, 1),
         masks,
         part32(&moves, k),
         log,
-        1000,
+        1400,
         &mut numbers,
     );
     let prefixes = put_keys(masks, log, &mut keys);

@@ -53,10 +53,10 @@ pub fn key_of(vector: &[u8]) -> usize {
     key
 }
 
-// "Letter i has bits 8 × (i mod 4) and up of number i div 4."
+// Number i of the counts: "letter i in number i div 2, the even letter in the low half".
 fn number(vector: &[u8], i: usize) -> u32 {
-    let low = at8(vector, i) | (at8(vector, plus(i, 1)) << 8);
-    let high = at8(vector, plus(i, 2)) | (at8(vector, plus(i, 3)) << 8);
+    let low = at8(vector, plus(i, i));
+    let high = at8(vector, plus(plus(i, i), 1));
     ((low | (high << 16)) % 4294967296) as u32
 }
 
@@ -64,9 +64,13 @@ pub fn counts_of(vector: &[u8]) -> Counts {
     counts::from_numbers(
         &[
             number(vector, 0),
+            number(vector, 1),
+            number(vector, 2),
+            number(vector, 3),
             number(vector, 4),
-            number(vector, 8),
-            number(vector, 12),
+            number(vector, 5),
+            number(vector, 6),
+            number(vector, 7),
         ],
     )
 }

@@ -21,7 +21,7 @@ fn capacity(table: &[u32]) -> usize
     ensures { λ r. ⌜ r ≡ capacity-of layout (length (now (table .entry))) ⌝ }
 {
     let n = table.len();
-    if 4294967292 < n { 715827882 } else { n / 6 }
+    if 4294967292 < n { 429496729 } else { n / 10 }
 }
 
 // Puts the records of all prefixes, with the letters that can be added in the place of the backward sets; `room` records fit.
@@ -38,7 +38,7 @@ fn put_records(
 {
     let k = shape.k;
     let mut starts = [0u16; 16];
-    let mut places = [0u8; 272];
+    let mut places = [0u16; 4016];
     places::place_events(log, k, &mut starts, &mut places);
     forward::fill_forward(table, room, shape, masks, moves, log, &starts, &places)
 }

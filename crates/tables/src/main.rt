@@ -1,4 +1,4 @@
-// Prints the tables of worked cases: P and looks, then the table of sixty numbers, six to a line. A number that is not written stays 7; after
+// Prints the tables of worked cases: P and looks, then the table of a hundred numbers, ten to a line. A number that is not written stays 7; after
 // refusal 10 the table is free and is not printed. M9's and M7's logs come twice, as two readers recorded them: their tables are printed the same.
 use libc::STDOUT_FILENO;
 use profile::Shape;
@@ -17,7 +17,7 @@ fn say_table(numbers: &[u32]) {
     let mut i = 0;
     while i < numbers.len() {
         say(wide(numbers[i]));
-        if i % 6 == 5 {
+        if i % 10 == 9 {
             io::write_all(STDOUT_FILENO, b"\n");
         }
         i += 1;
@@ -25,7 +25,7 @@ fn say_table(numbers: &[u32]) {
 }
 
 fn show(shape: Shape, masks: &[u16], moves: &[u32], log: &[u8]) {
-    let mut numbers = [7u32; 60];
+    let mut numbers = [7u32; 100];
     let built = table::build(shape, masks, moves, log, &mut numbers);
     match built {
         Built::Refused(r) => {

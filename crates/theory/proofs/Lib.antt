@@ -26,5 +26,7 @@ pub mod Merge
 pub mod RecordOrder
 -- refusals, and what the demands ask
 pub mod Refusals
+pub mod Longest
+pub mod OldRecords
 pub mod Agreement
 pub mod Demands

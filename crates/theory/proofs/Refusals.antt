@@ -10,14 +10,13 @@ use native.Mathlib.Omega.{arith}
 use lib.Pow.{pow-pos, shr-shr}
 use lib.Dec.{T, not-T, eqb, eqb→eq, ltb, lt→ltb, leb, leb→le, nleb→lt}
 use borrow.Author.Tests.{ltb-false, leb-false, eqb-true, not-false}
-use lib.ListN.{length, getD, replicate, List·getD-eq-default}
+use lib.ListN.{length, getD, List·getD-eq-default}
 use Rattle.profile.specs.Lists.{Mem, all, any, below}
 use Rattle.profile.specs.Traces.{bit, independent, letters-below}
 use Rattle.profile.specs.Automata.{Profile}
-use Rattle.profile.specs.Refusals.{admission-refusals, bit-from, first-order-refusals, judge-refusal, judge-refusals, letters-out-of-range, log-refusals, lowest, mask-bit, profile-refusals, refusal-number, relation-refusals, short-buffer}
+use Rattle.profile.specs.Refusals.{admission-refusals, bit-from, first-order-refusals, judge-refusals, letters-out-of-range, log-refusals, longest, lowest, mask-bit, profile-refusals, refusal-number, relation-refusals, short-buffer}
 use Rattle.profile.specs.declared.Refusal.{Refusal}
-use Rattle.profile.specs.declared.Refusal.the-variants.{FullTable, ShortBuffer}
-use Rattle.profile.proofs.Cases.{free}
+use Rattle.profile.specs.declared.Refusal.the-variants.{ShortBuffer}
 use Rattle.profile.proofs.Lists.{Rising, all-at, all-of, any-of, below-of, fst-of, is-false, lt-or-le, or-left, or-right, snd-of, test}
 use Rattle.profile.proofs.Sets.{bit-below, not-in-none, some-bit}
 
@@ -186,14 +185,14 @@ profile-at p e =
 
 -- a log of which 7 and 8 hold of none
 pub record GoodLog (k : ℕ) (w : List ℕ) : Type 0 where
-  pub short : length w ≤ 255
+  pub short : length w ≤ longest
   pub letters : T (letters-below (λ a. a) k w)
 
 pub log-at : (k : ℕ) (w : List ℕ) → lowest (log-refusals k w) ≡ none → GoodLog k w
 log-at k w e =
     let h = lowest-none (log-refusals k w) .0 e in
     record {
-      short = ltb-false 255 (length w) (h _ (List·Memᴰ·head refl));
+      short = ltb-false longest (length w) (h _ (List·Memᴰ·head refl));
       letters = all-of (λ a. ltb a k) w (λ a m. lt→ltb a k (leb-false k a (is-false (leb k a) (not-T (leb k a) (none-of (leb k) (h _ (List·Memᴰ·tail (List·Memᴰ·head refl))) m)))));
     }
 
@@ -213,9 +212,3 @@ admitted-at p w n e =
       log = log-at (p .k) w (lowest-none l .1 (λ c m. h c (Memᴰ·append-right (profile-refusals p) (Memᴰ·append-left s m))));
       room = ltb-false n (length w) (h _ (Memᴰ·append-right (profile-refusals p) (Memᴰ·append-right l (List·Memᴰ·head refl))));
     }
-
--- ---- the longest log
-
--- 255 letters of one kind have 256 prefixes: 1536 numbers have place for them, 1535 have not
-pub longest-fits : (judge-refusal (free 1 (0 ∷ [])) (replicate 255 0) 255 1536 ≡ none) × (judge-refusal (free 1 (0 ∷ [])) (replicate 255 0) 255 1535 ≡ some FullTable)
-longest-fits = (refl, refl)

@@ -43,15 +43,15 @@ fn written_again(file: &[u8]) -> bool {
 }
 
 fn same_file(shape: Shape, masks: &[u16], moves: &[u32], file: &[u8]) -> bool {
-    let mut out = [GUARD8; 2416];
+    let mut out = [GUARD8; 6160];
     let log = logfile::log_part(file);
-    let answer = write_in(shape, masks, moves, log, 2400, &mut out);
+    let answer = write_in(shape, masks, moves, log, 6144, &mut out);
     answer_right(answer, file.len(), &out) & equal8(part8(&out, BYTES, file.len()), file)
 }
 
 // Writes with one byte too little: refused by 9, nothing written.
 fn refuse_short(shape: Shape, masks: &[u16], moves: &[u32], log: &[u8], t: Tally) -> Tally {
-    let mut out = [GUARD8; 2416];
+    let mut out = [GUARD8; 6160];
     let room = minus(file_size(shape, log.len()), 1);
     let answer = write_in(shape, masks, moves, log, room, &mut out);
     let right = is_refusal(answer, 9, 0, 0) & untouched8(&out, 0, 0);
@@ -77,7 +77,7 @@ fn compare_written(
     extra: usize,
     t: Tally,
 ) -> Tally {
-    let mut out = [GUARD8; 2416];
+    let mut out = [GUARD8; 6160];
     let size = file_size(shape, log.len());
     let answer = write_in(shape, masks, moves, log, plus(size, extra % 3), &mut out);
     let file = part8(&out, BYTES, size);

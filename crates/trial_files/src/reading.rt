@@ -2,6 +2,7 @@
 use crate::second_reader::field;
 use crate::second_reader::file_refusal;
 use crate::second_reader::finals;
+use crate::second_reader::log_length;
 use crate::second_reader::mask;
 use crate::second_reader::move_count;
 use crate::second_reader::move_set;
@@ -42,7 +43,7 @@ fn numbers_right(file: &[u8], shape: Shape, n: usize) -> bool {
     (shape.k == field(file, 0))
         & (shape.s == field(file, 1))
         & (shape.start == field(file, 2))
-        & (n == field(file, 3))
+        & (n == log_length(file))
         & (wide32(shape.finals) == finals(file))
 }
 
@@ -118,7 +119,7 @@ fn reading_right(file: &[u8], mask_room: usize, move_room: usize, number: usize)
 fn part_right(file: &[u8], number: usize) -> bool {
     let part = logfile::log_part(file);
     if number == 0 {
-        (part.len() == field(file, 3)) & equal8(part, part8(file, section(file, 8), part.len()))
+        (part.len() == log_length(file)) & equal8(part, part8(file, section(file, 8), part.len()))
     } else {
         part.len() == 0
     }
@@ -129,7 +130,7 @@ fn location_right(file: &[u8], number: usize) -> bool {
     let located = logfile::locate_log(file);
     match located {
         Located::Refused(r) => refusal_right(file, r, number),
-        Located::At(at, n) => { (number == 0) & (at == section(file, 8)) & (n == field(file, 3)) }
+        Located::At(at, n) => { (number == 0) & (at == section(file, 8)) & (n == log_length(file)) }
     }
 }
 

@@ -1,4 +1,4 @@
-// A second reader of log files, from document 01's table of the trailer and its list of refusals.
+// A second reader of log files, from document 01's table of the trailer and its list of refusals, and document 02's words on long logs.
 use trial::cells::at8;
 use trial::cells::bit;
 use trial::cells::minus;
@@ -19,9 +19,14 @@ pub fn trailer(file: &[u8]) -> usize {
     minus(file.len(), 16)
 }
 
-// Trailer byte i: k, s, start and n are 0, 1, 2 and 3.
+// Trailer byte i: k, s and start are 0, 1 and 2.
 pub fn field(file: &[u8], i: usize) -> usize {
     at8(file, plus(trailer(file), i))
+}
+
+// n: "Trailer byte 10 becomes the high byte of n".
+pub fn log_length(file: &[u8]) -> usize {
+    (field(file, 10) << 8) | field(file, 3)
 }
 
 // s × k.
@@ -57,11 +62,11 @@ fn bit_from(v: usize, i: usize) -> bool {
     if i < 64 { v >> i != 0 } else { false }
 }
 
-// 2.
+// 2; "byte 11 stays zero".
 fn out_of_range(file: &[u8]) -> bool {
     let k = field(file, 0);
     let s = field(file, 1);
-    (k < 1) | (16 < k) | (s < 1) | (32 < s) | (s <= field(file, 2)) | (distance(file, 10) != 0)
+    (k < 1) | (16 < k) | (s < 1) | (32 < s) | (s <= field(file, 2)) | (field(file, 11) != 0)
 }
 
 // 3: "a distance is at least its section's size and at most the trailer's own offset".
@@ -73,7 +78,7 @@ fn far(file: &[u8], i: usize, size: usize) -> bool {
 fn far_section(file: &[u8]) -> bool {
     far(file, 4, times(2, field(file, 0)))
         | far(file, 6, times(4, move_count(file)))
-        | far(file, 8, field(file, 3))
+        | far(file, 8, log_length(file))
 }
 
 // 4.
@@ -101,7 +106,7 @@ fn bad_set(file: &[u8]) -> bool {
 // 8: the first place whose byte is k or more; n where there is none.
 fn bad_place(file: &[u8]) -> usize {
     let k = field(file, 0);
-    let n = field(file, 3);
+    let n = log_length(file);
     let at = section(file, 8);
     for i in 0..n {
         if k <= at8(file, plus(at, i)) {
@@ -111,7 +116,7 @@ fn bad_place(file: &[u8]) -> usize {
     n
 }
 
-// 4, 6 and 8; 0 is none.
+// 4, 6, 7 and 8; 0 is none. "Refusal 7 now starts at 4,001 and applies to files too, before 8."
 fn content_refusal(file: &[u8]) -> usize {
     if bad_mask(file) {
         return 4;
@@ -119,7 +124,10 @@ fn content_refusal(file: &[u8]) -> usize {
     if bad_set(file) {
         return 6;
     }
-    if bad_place(file) < field(file, 3) {
+    if 4000 < log_length(file) {
+        return 7;
+    }
+    if bad_place(file) < log_length(file) {
         8
     } else {
         0

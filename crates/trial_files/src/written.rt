@@ -1,4 +1,4 @@
-// The bytes of a log file by document 01's words: masks, moves, log, trailer, without gaps.
+// The bytes of a log file by the documents' words: masks, moves, log, trailer, without gaps.
 use profile::Shape;
 use trial::cells::at8;
 use trial::cells::at16;
@@ -31,24 +31,25 @@ pub fn file_size(shape: Shape, n: usize) -> usize {
     plus(plus(mask_bytes(shape), move_bytes(shape)), plus(n, 16))
 }
 
-// "k, s, start state, log length n", the distances to masks, moves and log, zero, and the final set.
+// "k, s, start state", the low byte of n, the distances to masks, moves and log, "the high byte of n", zero, and the final set.
 fn trailer_byte(shape: Shape, n: usize, i: usize) -> usize {
     let moves = plus(move_bytes(shape), n);
     match i {
         0 => shape.k,
         1 => shape.s,
         2 => shape.start,
-        3 => n,
+        3 => digit(n, 0),
         4 | 5 => digit(plus(mask_bytes(shape), moves), i - 4),
         6 | 7 => digit(moves, i - 6),
         8 | 9 => digit(n, i - 8),
-        10 | 11 => 0,
+        10 => digit(n, 1),
+        11 => 0,
         _ => digit(wide32(shape.finals), minus(i, 12)),
     }
 }
 
 // Byte i of the file.
-fn file_byte(shape: Shape, masks: &[u16], moves: &[u32], log: &[u8], i: usize) -> usize {
+pub fn file_byte(shape: Shape, masks: &[u16], moves: &[u32], log: &[u8], i: usize) -> usize {
     let moves_at = mask_bytes(shape);
     let log_at = plus(moves_at, move_bytes(shape));
     let end = plus(log_at, log.len());

@@ -37,7 +37,7 @@ fn refuse_short(shape: Shape, masks: &[u16], moves: &[u32], log: &[u8], t: Tally
     if log.len() == 0 {
         return t;
     }
-    refuse_judge(shape, masks, moves, log, 9, minus(log.len(), 1), 800, t)
+    refuse_judge(shape, masks, moves, log, 9, minus(log.len(), 1), 1300, t)
 }
 
 // Counts a log under one-way masks.
@@ -60,8 +60,8 @@ pub fn compare_log(
 ) -> Tally {
     let needed = record_at(prefix_count(masks, log));
     let room = plus(log.len(), extra % 4);
-    let long = plus(needed, extra % 13);
-    let short = minus(needed, plus(extra % 7, 1));
+    let long = plus(needed, extra % 21);
+    let short = minus(needed, plus(extra % 11, 1));
     let built = compare_table(shape, masks, moves, log, room, long, t);
     let full = compare_table(shape, masks, moves, log, room, short, built);
     let refused = refuse_short(shape, masks, moves, log, full);

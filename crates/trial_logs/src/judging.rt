@@ -29,6 +29,8 @@ use trial::cells::part8;
 use trial::cells::untouched8;
 use trial::cells::untouched32;
 use trial::cells::wide32;
+use trial::records::BACKWARD;
+use trial::records::FORWARD;
 use trial::records::record_at;
 use trial::records::set_of;
 use trial::records::total_of;
@@ -78,8 +80,8 @@ fn sets_right(
     r: usize,
     marks: usize,
 ) -> bool {
-    (set_of(table, r, 4) == forward_of(shape, masks, moves, log, marks))
-        & (set_of(table, r, 5) == backward_of(shape, masks, moves, log, marks))
+    (set_of(table, r, FORWARD) == forward_of(shape, masks, moves, log, marks))
+        & (set_of(table, r, BACKWARD) == backward_of(shape, masks, moves, log, marks))
 }
 
 // Each of the first `prefixes` records.
@@ -144,7 +146,7 @@ pub fn compare_build(
     size: usize,
     t: Tally,
 ) -> Tally {
-    let mut numbers = [GUARD32; 1016];
+    let mut numbers = [GUARD32; 1416];
     let answer = build_in(shape, masks, moves, log, size, &mut numbers);
     let right = table_right(shape, masks, moves, log, answer, NONE, prefixes, &numbers);
     let counted = tally::count_many(t, tally::RECORDS, prefixes);
@@ -184,7 +186,7 @@ pub fn compare_judge(
 ) -> Tally {
     let mut rows = [0u8; 16384];
     let mut buffer = [GUARD8; 32];
-    let mut numbers = [GUARD32; 1016];
+    let mut numbers = [GUARD32; 1416];
     let n = log.len();
     let count = list(masks, log, &mut rows);
     let best = earliest_accepted(shape, moves, &rows, count, n);
@@ -222,7 +224,7 @@ pub fn refuse_build(
     size: usize,
     t: Tally,
 ) -> Tally {
-    let mut numbers = [GUARD32; 1016];
+    let mut numbers = [GUARD32; 1416];
     let answer = build_in(shape, masks, moves, log, size, &mut numbers);
     let right = is_refusal(answer, 10, 0, 0) & untouched32(&numbers, NUMBERS, size);
     tally::refused(
@@ -246,7 +248,7 @@ pub fn refuse_judge(
     t: Tally,
 ) -> Tally {
     let mut buffer = [GUARD8; 32];
-    let mut numbers = [GUARD32; 1016];
+    let mut numbers = [GUARD32; 1416];
     let answer = judge_in(
         shape,
         masks,

@@ -203,12 +203,12 @@ fn put_moves(damaged: bool, variant: usize, moves: &mut [u32]) {
     }
 }
 
-// 7: 256 letters, or more. Else the three letters of cab.
+// 7: 4,001 letters, or more. Else the three letters of cab.
 fn log_length(long: bool, variant: usize) -> usize {
     if !long {
         return 3;
     }
-    if variant % 2 == 0 { 256 } else { 300 }
+    if variant % 2 == 0 { 4001 } else { 4010 }
 }
 
 // 8: a byte of k or more, first at the place that `bad_place` tells; else a letter of cab, over and over.
@@ -260,12 +260,12 @@ fn room_for(damages: usize, variant: usize, needed: usize) -> usize {
 // 10: a table that is empty, or one number short of one record or of all.
 fn table_size(damages: usize, variant: usize) -> usize {
     if !bit(damages, 7) {
-        return plus(36, variant % 7);
+        return plus(60, variant % 11);
     }
     match variant % 3 {
         0 => 0,
-        1 => 5,
-        _ => 35,
+        1 => 9,
+        _ => 59,
     }
 }
 
@@ -302,8 +302,8 @@ fn judge_with(
     log: &[u8],
     t: Tally,
 ) -> Tally {
-    let mut buffer = [GUARD8; 320];
-    let mut numbers = [GUARD32; 64];
+    let mut buffer = [GUARD8; 4024];
+    let mut numbers = [GUARD32; 88];
     let shape = damaged_shape(damages, variant);
     let room = room_for(damages, variant, log.len());
     let size = table_size(damages, variant);
@@ -332,7 +332,7 @@ fn build_with(
     t: Tally,
 ) -> Tally {
     let buffer = [GUARD8; 1];
-    let mut numbers = [GUARD32; 64];
+    let mut numbers = [GUARD32; 88];
     let shape = damaged_shape(damages, variant);
     let size = table_size(damages, variant);
     let number = lowest(damages, 187);
@@ -347,7 +347,7 @@ fn known_to_order(variant: usize) -> usize {
 }
 
 fn first_order_with(damages: usize, variant: usize, masks: &[u16], log: &[u8], t: Tally) -> Tally {
-    let mut buffer = [GUARD8; 320];
+    let mut buffer = [GUARD8; 4024];
     let numbers = [GUARD32; 1];
     let k = letters_of(damages, variant);
     let room = room_for(damages, variant, log.len());
@@ -366,7 +366,7 @@ fn write_with(
     log: &[u8],
     t: Tally,
 ) -> Tally {
-    let mut buffer = [GUARD8; 400];
+    let mut buffer = [GUARD8; 4080];
     let numbers = [GUARD32; 1];
     let shape = damaged_shape(damages, variant);
     let room = room_for(damages, variant, plus(58, log.len()));
@@ -394,7 +394,7 @@ fn combine_with(
 fn combine(damages: usize, variant: usize, t: Tally) -> Tally {
     let mut masks = [0u16; 20];
     let mut moves = [3u32; 100];
-    let mut log = [0u8; 300];
+    let mut log = [0u8; 4010];
     put_masks(damages, variant, &mut masks);
     put_moves(bit(damages, 3), variant, &mut moves);
     let n = put_log(bit(damages, 4), bit(damages, 5), variant, &mut log);
@@ -457,8 +457,8 @@ fn same_place(number: usize, log: usize, variant: usize) -> usize {
 
 fn combine_same(damages: usize, variant: usize, t: Tally) -> Tally {
     let mut masks = [0u16; 20];
-    let mut first = [0u8; 300];
-    let mut second = [0u8; 300];
+    let mut first = [0u8; 4010];
+    let mut second = [0u8; 4010];
     put_masks(damages, variant, &mut masks);
     let n = put_log(bit(damages, 3), bit(damages, 4), variant, &mut first);
     let m = put_log(

@@ -2,7 +2,7 @@
 use libc::STDOUT_FILENO;
 
 fn show(file: &[u8]) {
-    let mut out = [0u8; 2048];
+    let mut out = [0u8; 16384];
     let mut work = [0u32; 16380];
     let r = report::respond(file, &mut out, &mut work);
     io::write_all(STDOUT_FILENO, &out[0..r]);

@@ -4,6 +4,7 @@ use borrow.Author.Tests.{eq-eqb, ne-eqb}
 use mathlib.Core.Path.{refl, sym, _∙_, ap}
 use mathlib.Core.Bool.{cond}
 use lib.ListN.{length}
+use Rattle.profile.specs.Tables.{layout}
 use Rattle.search.specs.Search.{found-in}
 use Rattle.search.specs.declared.Found.the-variants.{Absent, At}
 use Rattle.capi.proofs.fumarehi_find.Statement.{statement}
@@ -16,7 +17,7 @@ returns : tie.Need-returns
 returns c =
     let n = c .before .before .if1 .taken in
     record {
-      code-is = c .number .ensures ∙ sym (ap (λ b. cond b 0 2) (ne-eqb (length (c .before .before .before .before .before .args .counts .now)) 4 n));
+      code-is = c .number .ensures ∙ sym (ap (λ b. cond b 0 2) (ne-eqb (length (c .before .before .before .before .before .args .counts .now)) (layout .numbers) n));
       refused = λ m. refl;
       found = λ e. absurd (n e);
     }
@@ -40,7 +41,7 @@ returns-2 c =
     let w = c .before .before .before .before .before .from-numbers .ensures in
     let g = c .before .before .found .given in
     record {
-      code-is = sym (ap (λ b. cond b 0 2) (eq-eqb (length (s .counts .now)) 4 e));
+      code-is = sym (ap (λ b. cond b 0 2) (eq-eqb (length (s .counts .now)) (layout .numbers) e));
       refused = λ n. absurd (n e);
       found = λ q. (At (g .0 .0), refl, λ o. sym (g .1) ∙ c .before .before .before .before .find .ensures o ∙ ap (found-in (s .table .now)) w);
     }
@@ -52,7 +53,7 @@ returns-3 c =
     let w = c .before .before .before .before .before .from-numbers .ensures in
     let g = c .before .before .found2 .given in
     record {
-      code-is = sym (ap (λ b. cond b 0 2) (eq-eqb (length (s .counts .now)) 4 e));
+      code-is = sym (ap (λ b. cond b 0 2) (eq-eqb (length (s .counts .now)) (layout .numbers) e));
       refused = λ n. absurd (n e);
       found = λ q. (Absent (g .0 .0), refl, λ o. sym (g .1) ∙ c .before .before .before .before .find .ensures o ∙ ap (found-in (s .table .now)) w);
     }

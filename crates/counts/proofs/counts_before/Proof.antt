@@ -56,12 +56,26 @@ word-before-requires-4 c κs = search needs
 
 returns-4 : tie.Need-returns-4
 returns-4 c =
-    let a = c .before .before .before .before .before .before .before .before .before .before .args .a in
-    let b = c .before .before .before .before .before .before .before .before .before .before .args .b in
+    let a = c .before .before .before .before .before .before .before .before .before .before .before .before .before .args .a in
+    let b = c .before .before .before .before .before .before .before .before .before .before .before .before .before .args .b in
     c .word-before4 .ensures ∙ sym (by-word a b
-    ∙ ap not (no-later-same layout (b .w0) (a .w0) (drop 1 (words b)) (drop 1 (words a)) (sym (c .before .before .before .before .before .before .before .if1 .left))
-    ∙ no-later-same layout (b .w1) (a .w1) (drop 2 (words b)) (drop 2 (words a)) (sym (c .before .before .before .before .if2 .left))
-    ∙ no-later-same layout (b .w2) (a .w2) (drop 3 (words b)) (drop 3 (words a)) (sym (c .before .if3 .left))))
+    ∙ ap not (no-later-same layout (b .w0) (a .w0) (drop 1 (words b)) (drop 1 (words a)) (sym (c .before .before .before .before .before .before .before .before .before .before .if1 .left))
+    ∙ no-later-same layout (b .w1) (a .w1) (drop 2 (words b)) (drop 2 (words a)) (sym (c .before .before .before .before .before .before .before .if2 .left))
+    ∙ no-later-same layout (b .w2) (a .w2) (drop 3 (words b)) (drop 3 (words a)) (sym (c .before .before .before .before .if3 .left))
+    ∙ no-later-differ layout (b .w3) (a .w3) (drop 4 (words b)) (drop 4 (words a)) (omega arith) (omega arith) (λ e. c .before .if4 .taken (sym e))))
+
+last-before-requires : tie.Need-last-before-requires
+last-before-requires c κs = search needs
+
+returns-5 : tie.Need-returns-5
+returns-5 c =
+    let a = c .before .before .before .before .before .before .before .before .before .before .before .before .before .args .a in
+    let b = c .before .before .before .before .before .before .before .before .before .before .before .before .before .args .b in
+    c .last-before .ensures ∙ sym (by-word a b
+    ∙ ap not (no-later-same layout (b .w0) (a .w0) (drop 1 (words b)) (drop 1 (words a)) (sym (c .before .before .before .before .before .before .before .before .before .before .if1 .left))
+    ∙ no-later-same layout (b .w1) (a .w1) (drop 2 (words b)) (drop 2 (words a)) (sym (c .before .before .before .before .before .before .before .if2 .left))
+    ∙ no-later-same layout (b .w2) (a .w2) (drop 3 (words b)) (drop 3 (words a)) (sym (c .before .before .before .before .if3 .left))
+    ∙ no-later-same layout (b .w3) (a .w3) (drop 4 (words b)) (drop 4 (words a)) (sym (c .before .if4 .left))))
 
 pub counts-before-spec : {M : Type 1} → statement M
 counts-before-spec =
@@ -74,4 +88,6 @@ counts-before-spec =
     word-before-requires-3
     returns-3
     word-before-requires-4
-    returns-4)
+    returns-4
+    last-before-requires
+    returns-5)

@@ -20,10 +20,22 @@ shared-slice-read-t7 c = search needs
 shared-slice-read-t9 : tie.Need-shared-slice-read-t9
 shared-slice-read-t9 c = search needs
 
+shared-slice-read-t11 : tie.Need-shared-slice-read-t11
+shared-slice-read-t11 c = search needs
+
+shared-slice-read-t13 : tie.Need-shared-slice-read-t13
+shared-slice-read-t13 c = search needs
+
+shared-slice-read-t15 : tie.Need-shared-slice-read-t15
+shared-slice-read-t15 c = search needs
+
+shared-slice-read-t17 : tie.Need-shared-slice-read-t17
+shared-slice-read-t17 c = search needs
+
 returns : tie.Need-returns
 returns c =
-    let t = c .before .before .before .before .args .t .now in
-    ap (λ n. map (at t) (below n)) (sym (c .before .before .before .before .pre)) ∙ at-below t
+    let t = c .before .before .before .before .before .before .before .before .args .t .now in
+    ap (λ n. map (at t) (below n)) (sym (c .before .before .before .before .before .before .before .before .pre)) ∙ at-below t
 
 pub from-numbers-spec : {M : Type 1} → statement M
 from-numbers-spec =
@@ -33,4 +45,8 @@ from-numbers-spec =
     shared-slice-read-t5
     shared-slice-read-t7
     shared-slice-read-t9
+    shared-slice-read-t11
+    shared-slice-read-t13
+    shared-slice-read-t15
+    shared-slice-read-t17
     returns)

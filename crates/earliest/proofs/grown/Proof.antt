@@ -13,11 +13,7 @@ wrapping-add-u32-requires c κs = search needs
 returns : tie.Need-returns
 returns c =
     let a = c .before .before .args in
-    sym (places (a .v) (a .w) true _ _ _
-    (eq-eqb _ _ (sym (c .before .wrapping-add-u32 .ensures) ∙ c .if1 .taken))
-    refl
-    refl
-    refl)
+    sym (places (a .v) (a .w) true _ (eq-eqb _ _ (sym (c .before .wrapping-add-u32 .ensures) ∙ c .if1 .taken)) refl)
 
 wrapping-add-u32-requires-2 : tie.Need-wrapping-add-u32-requires-2
 wrapping-add-u32-requires-2 c κs = search needs
@@ -25,55 +21,16 @@ wrapping-add-u32-requires-2 c κs = search needs
 returns-2 : tie.Need-returns-2
 returns-2 c =
     let a = c .before .before .before .before .args in
-    sym (places (a .v) (a .w) false true _ _
+    sym (places (a .v) (a .w) false true
     (ne-eqb _ _ (λ e. c .before .before .if1 .left (c .before .before .before .wrapping-add-u32 .ensures ∙ e)))
-    (eq-eqb _ _ (sym (c .before .wrapping-add-u322 .ensures) ∙ c .if2 .taken))
-    refl
-    refl)
-
-wrapping-add-u32-requires-3 : tie.Need-wrapping-add-u32-requires-3
-wrapping-add-u32-requires-3 c κs = search needs
+    (eq-eqb _ _ (sym (c .before .wrapping-add-u322 .ensures) ∙ c .if2 .taken)))
 
 returns-3 : tie.Need-returns-3
 returns-3 c =
-    let a = c .before .before .before .before .before .before .args in
-    sym (places (a .v) (a .w) false false true _
-    (ne-eqb _ _ (λ e. c .before .before .before .before .if1 .left (c .before .before .before .before .before .wrapping-add-u32 .ensures ∙ e)))
-    (ne-eqb _ _ (λ e. c .before .before .if2 .left (c .before .before .before .wrapping-add-u322 .ensures ∙ e)))
-    (eq-eqb _ _ (sym (c .before .wrapping-add-u323 .ensures) ∙ c .if3 .taken))
-    refl)
-
-wrapping-add-u32-requires-4 : tie.Need-wrapping-add-u32-requires-4
-wrapping-add-u32-requires-4 c κs = search needs
-
-returns-4 : tie.Need-returns-4
-returns-4 c =
-    let a = c .before .before .before .before .before .before .before .before .args in
-    sym (places (a .v) (a .w) false false false true
-    (ne-eqb _ _ (λ e. c .before .before .before .before .before .before .if1 .left (c .before .before .before .before .before .before .before .wrapping-add-u32 .ensures ∙ e)))
-    (ne-eqb _ _ (λ e. c .before .before .before .before .if2 .left (c .before .before .before .before .before .wrapping-add-u322 .ensures ∙ e)))
-    (ne-eqb _ _ (λ e. c .before .before .if3 .left (c .before .before .before .wrapping-add-u323 .ensures ∙ e)))
-    (eq-eqb _ _ (sym (c .before .wrapping-add-u324 .ensures) ∙ c .if4 .taken)))
-
-returns-5 : tie.Need-returns-5
-returns-5 c =
-    let a = c .before .before .before .before .before .before .before .before .args in
-    sym (places (a .v) (a .w) false false false false
-    (ne-eqb _ _ (λ e. c .before .before .before .before .before .before .if1 .left (c .before .before .before .before .before .before .before .wrapping-add-u32 .ensures ∙ e)))
-    (ne-eqb _ _ (λ e. c .before .before .before .before .if2 .left (c .before .before .before .before .before .wrapping-add-u322 .ensures ∙ e)))
-    (ne-eqb _ _ (λ e. c .before .before .if3 .left (c .before .before .before .wrapping-add-u323 .ensures ∙ e)))
-    (ne-eqb _ _ (λ e. c .if4 .left (c .before .wrapping-add-u324 .ensures ∙ e))))
+    let a = c .before .before .before .before .args in
+    sym (places (a .v) (a .w) false false
+    (ne-eqb _ _ (λ e. c .before .before .if1 .left (c .before .before .before .wrapping-add-u32 .ensures ∙ e)))
+    (ne-eqb _ _ (λ e. c .if2 .left (c .before .wrapping-add-u322 .ensures ∙ e))))
 
 pub grown-spec : {M : Type 1} → statement M
-grown-spec =
-    tie.close
-    (tie.spec
-    wrapping-add-u32-requires
-    returns
-    wrapping-add-u32-requires-2
-    returns-2
-    wrapping-add-u32-requires-3
-    returns-3
-    wrapping-add-u32-requires-4
-    returns-4
-    returns-5)
+grown-spec = tie.close (tie.spec wrapping-add-u32-requires returns wrapping-add-u32-requires-2 returns-2 returns-3)

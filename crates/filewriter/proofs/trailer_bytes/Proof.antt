@@ -13,38 +13,41 @@ cast-t10 c = search needs
 cast-t11 : tie.Need-cast-t11
 cast-t11 c = search needs
 
-cast-t12 : tie.Need-cast-t12
-cast-t12 c = search needs
+cast-t13 : tie.Need-cast-t13
+cast-t13 c = search needs
 
-cast-t14 : tie.Need-cast-t14
-cast-t14 c = search needs
+cast-t15 : tie.Need-cast-t15
+cast-t15 c = search needs
 
-cast-t17 : tie.Need-cast-t17
-cast-t17 c = search needs
+cast-t18 : tie.Need-cast-t18
+cast-t18 c = search needs
 
-cast-t19 : tie.Need-cast-t19
-cast-t19 c = search needs
+cast-t20 : tie.Need-cast-t20
+cast-t20 c = search needs
 
-cast-t22 : tie.Need-cast-t22
-cast-t22 c = search needs
+cast-t23 : tie.Need-cast-t23
+cast-t23 c = search needs
 
-cast-t24 : tie.Need-cast-t24
-cast-t24 c = search needs
+cast-t25 : tie.Need-cast-t25
+cast-t25 c = search needs
 
-cast-t27 : tie.Need-cast-t27
-cast-t27 c = search needs
+cast-t28 : tie.Need-cast-t28
+cast-t28 c = search needs
 
-cast-t29 : tie.Need-cast-t29
-cast-t29 c = search needs
+cast-t31 : tie.Need-cast-t31
+cast-t31 c = search needs
 
-cast-t32 : tie.Need-cast-t32
-cast-t32 c = search needs
+cast-t33 : tie.Need-cast-t33
+cast-t33 c = search needs
 
-cast-t35 : tie.Need-cast-t35
-cast-t35 c = search needs
+cast-t36 : tie.Need-cast-t36
+cast-t36 c = search needs
 
-cast-t38 : tie.Need-cast-t38
-cast-t38 c = search needs
+cast-t39 : tie.Need-cast-t39
+cast-t39 c = search needs
+
+cast-t42 : tie.Need-cast-t42
+cast-t42 c = search needs
 
 returns : tie.Need-returns
 returns c = simp div-div-eq-div-mul
@@ -56,15 +59,16 @@ trailer-bytes-spec =
     cast-t9
     cast-t10
     cast-t11
-    cast-t12
-    cast-t14
-    cast-t17
-    cast-t19
-    cast-t22
-    cast-t24
-    cast-t27
-    cast-t29
-    cast-t32
-    cast-t35
-    cast-t38
+    cast-t13
+    cast-t15
+    cast-t18
+    cast-t20
+    cast-t23
+    cast-t25
+    cast-t28
+    cast-t31
+    cast-t33
+    cast-t36
+    cast-t39
+    cast-t42
     returns)

@@ -9,7 +9,7 @@ use native.Mathlib.Nat.{mul-le-mul}
 use native.Mathlib.Omega.{arith}
 use lib.ListN.{length}
 use Rattle.profile.specs.Automata.{Profile, profile-of}
-use Rattle.profile.specs.Refusals.{checked, log-refusals, lowest, profile-refusals, short-buffer}
+use Rattle.profile.specs.Refusals.{checked, log-refusals, longest, lowest, profile-refusals, short-buffer}
 use Rattle.profile.specs.declared.Refusal.{Refusal}
 use Rattle.profile.specs.declared.Refusal.the-variants.{ShortBuffer}
 use Rattle.theory.proofs.Refusals.{log-at, lowest-append, lowest-first, profile-at}
@@ -36,7 +36,7 @@ good-log c = sym (c .before .before .check-log .ensures) ∙ ap checked (c .enum
 
 -- the file is small
 small : (c : tie.After-enum-told2) → let a = entry (c .before .before .before) .args in
-    (length (a .masks .now) ≤ 16) × (length (a .moves .now) ≤ 512) × (length (a .log .now) ≤ 255)
+    (length (a .masks .now) ≤ 16) × (length (a .moves .now) ≤ 512) × (length (a .log .now) ≤ longest)
 small c =
     let s = entry (c .before .before .before) in
     let g = profile-at (called s) (good-profile (c .before .before .before)) in

@@ -45,4 +45,12 @@ returns-2 c =
 
 pub fill-forward-spec : {M : Type 1} → statement M
 fill-forward-spec =
-    tie.close (tie.spec returns all-keepers-requires put-first-requires by-letter-requires fill-totals-requires same-length returns-2)
+    tie.close
+    (tie.spec
+    returns
+    all-keepers-requires
+    put-first-requires
+    by-letter-requires
+    fill-totals-requires
+    same-length
+    returns-2)

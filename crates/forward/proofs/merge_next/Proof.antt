@@ -36,7 +36,7 @@ enum-known-next : tie.Need-enum-known-next
 enum-known-next c = search needs
 
 add-if1 : tie.Need-add-if1
-add-if1 c = search needs
+add-if1 c = let h = c .before .before .before .before .before .before .before .before .before .before .before .before .before .before .before .before .before .pre .0 in omega (arith, h .0 .few, h .1 .inside)
 
 addable-requires : tie.Need-addable-requires
 addable-requires c κs =

@@ -34,7 +34,7 @@ same-length c = search needs
 returns : tie.Need-returns
 returns c =
     let a = c .before .before .before .before .before .args in
-    ap (putMid (6 * a .first) (length (a .table .now) - 6 * a .first) (a .table .now)) (c .before .before .put .ensures)
+    ap (putMid (10 * a .first) (length (a .table .now) - 10 * a .first) (a .table .now)) (c .before .before .put .ensures)
     ∙ put-part (a .table .now) (words (a .c) ++ (a .forward ∷ a .last ∷ [])) (a .first) (a .j)
 
 pub put-in-spec : {M : Type 1} → statement M

@@ -99,4 +99,19 @@ returns c =
 
 pub addable-spec : {M : Type 1} → statement M
 addable-spec = tie.close
-    (tie.spec Inv-loop μ-loop bounded-requires slice-aggregate-next-places next-places-requires loop-holds slice-aggregate-comes-next comes-next-requires cast-set shl-set add-number add-x loop-less loop-again returns)
+    (tie.spec
+    Inv-loop
+    μ-loop
+    bounded-requires
+    slice-aggregate-next-places
+    next-places-requires
+    loop-holds
+    slice-aggregate-comes-next
+    comes-next-requires
+    cast-set
+    shl-set
+    add-number
+    add-x
+    loop-less
+    loop-again
+    returns)

@@ -63,6 +63,23 @@ returns c =
     c .before .loop .inv .2
     ∙ ap₂ (λ y t. next-by y (a .starts .now) (a .places .now) t ++ drop y (a .next .now)) e (c .before .before .numbers .ensures)
 
+mul-next : tie.Need-mul-next Inv-loop μ-loop
+mul-next c = search needs
+
 pub next-places-spec : {M : Type 1} → statement M
 next-places-spec = tie.close
-    (tie.spec Inv-loop μ-loop numbers-requires loop-holds count-of-requires cast-n next-place-requires slice-write-next add-y loop-less loop-again same-length returns)
+    (tie.spec
+    Inv-loop
+    μ-loop
+    numbers-requires
+    loop-holds
+    count-of-requires
+    cast-n
+    next-place-requires
+    mul-next
+    slice-write-next
+    add-y
+    loop-less
+    loop-again
+    same-length
+    returns)

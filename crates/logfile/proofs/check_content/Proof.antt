@@ -41,10 +41,10 @@ profile-checked c =
     ∙ ap₂ (λ x y. lowest (profile-refusals (profile-of (file-shape f) x y))) masks moves
 
 -- the log ends inside the file
-in-file : (c : tie.After-field-at) → c .before .section-at3 .result + c .field-at .result ≤ length (shaped (c .before .before .before .before) .before .before .args .f .now)
+in-file : (c : tie.After-length-at) → c .before .section-at3 .result + c .length-at .result ≤ length (shaped (c .before .before .before .before) .before .before .args .f .now)
 in-file c =
     let s = shaped (c .before .before .before .before) .before .before in
-    log-inside (s .args .f .now) (c .before .section-at3 .ensures) (c .field-at .ensures) (s .pre .1)
+    log-inside (s .args .f .now) (c .before .section-at3 .ensures) (c .length-at .ensures) (s .pre .1)
 
 shape-of-requires : tie.Need-shape-of-requires
 shape-of-requires c κs = search needs
@@ -112,8 +112,8 @@ enum-told c = search needs
 section-at-requires-3 : tie.Need-section-at-requires-3
 section-at-requires-3 c κs = search needs
 
-field-at-requires : tie.Need-field-at-requires
-field-at-requires c κs = search needs
+length-at-requires : tie.Need-length-at-requires
+length-at-requires c κs = search needs
 
 add-end : tie.Need-add-end
 add-end c = omega (arith, in-file c)
@@ -135,7 +135,7 @@ returns-2 c =
     let b = c .before .before .before .before .before .before in
     let f = shaped b .before .before .args .f .now in
     let e = sym (profile-checked b) ∙ ap checked (c .before .before .before .before .enum-told .given .1) in
-    c .check-log .ensures ∙ ap₂ (λ k w. lowest (log-refusals k w)) (known (shaped b) .0) (log-found f (c .before .before .before .section-at3 .ensures) (c .before .before .field-at .ensures))
+    c .check-log .ensures ∙ ap₂ (λ k w. lowest (log-refusals k w)) (known (shaped b) .0) (log-found f (c .before .before .before .section-at3 .ensures) (c .before .before .length-at .ensures))
     ∙ sym (content-log f (file-log f) (shaped b .before .before .pre .0) e)
 
 pub check-content-spec : {M : Type 1} → statement M
@@ -161,7 +161,7 @@ check-content-spec =
     returns
     enum-told
     section-at-requires-3
-    field-at-requires
+    length-at-requires
     add-end
     sub-check-log
     part-check-log-start

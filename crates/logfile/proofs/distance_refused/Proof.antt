@@ -16,11 +16,11 @@ field-at-requires c κs = search needs
 field-at-requires-2 : tie.Need-field-at-requires-2
 field-at-requires-2 c κs = search needs
 
-field-at-requires-3 : tie.Need-field-at-requires-3
-field-at-requires-3 c κs = search needs
+length-at-requires : tie.Need-length-at-requires
+length-at-requires c κs = search needs
 
 -- k and s are in range
-small : (c : tie.After-field-at3) → (c .before .before .field-at .result ≤ 16) × (c .before .field-at2 .result ≤ 32)
+small : (c : tie.After-length-at) → (c .before .before .field-at .result ≤ 16) × (c .before .field-at2 .result ≤ 32)
 small c =
     let n = numbers-in (c .before .before .before .before .args .f .now) (c .before .before .before .before .pre) in
     omega (arith, n, c .before .before .field-at .ensures, c .before .field-at2 .ensures)
@@ -73,7 +73,7 @@ returns-3 : tie.Need-returns-3
 returns-3 c =
     let b = c .before .before .before .before in
     let f = b .before .before .before .before .before .args .f .now in
-    c .outside-at3 .ensures ∙ ap (outside f 8) (b .before .field-at3 .ensures)
+    c .outside-at3 .ensures ∙ ap (outside f 8) (b .before .length-at .ensures)
     ∙ sym (ap₂ (λ t u. t || (u || outside f 8 (log-length f))) (first b ∙ c .before .before .before .if1 .left) (second (c .before .before) ∙ c .before .if2 .left))
 
 pub distance-refused-spec : {M : Type 1} → statement M
@@ -82,7 +82,7 @@ distance-refused-spec =
     (tie.spec
     field-at-requires
     field-at-requires-2
-    field-at-requires-3
+    length-at-requires
     mul-outside-at
     outside-at-requires
     returns

@@ -24,13 +24,13 @@ enum-told c = search needs
 section-at-requires : tie.Need-section-at-requires
 section-at-requires c κs = search needs
 
-field-at-requires : tie.Need-field-at-requires
-field-at-requires c κs = search needs
+length-at-requires : tie.Need-length-at-requires
+length-at-requires c κs = search needs
 
 returns-2 : tie.Need-returns-2
 returns-2 c =
     let f = c .before .before .before .before .before .before .args .file .now in
-    ap₂ At (c .before .section-at .ensures) (c .field-at .ensures)
+    ap₂ At (c .before .section-at .ensures) (c .length-at .ensures)
     ∙ ap (λ o. located o (section f 8) (log-length f)) (sym (ap checked (c .before .before .enum-told .given .1)) ∙ c .before .before .before .before .check-file .ensures)
 
 pub locate-log-spec : {M : Type 1} → statement M
@@ -42,5 +42,5 @@ locate-log-spec =
     returns
     enum-told
     section-at-requires
-    field-at-requires
+    length-at-requires
     returns-2)

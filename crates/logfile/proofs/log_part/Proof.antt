@@ -16,10 +16,10 @@ good : (c : tie.After-enum-told2) → lowest (file-refusals (c .before .before .
 good c = sym (c .before .before .check-file .ensures) ∙ ap checked (c .enum-told2 .given .1)
 
 -- the log ends inside the file
-in-file : (c : tie.After-field-at) → c .before .section-at .result + c .field-at .result ≤ length (c .before .before .before .before .before .before .args .file .now)
+in-file : (c : tie.After-length-at) → c .before .section-at .result + c .length-at .result ≤ length (c .before .before .before .before .before .before .args .file .now)
 in-file c =
     let f = c .before .before .before .before .before .before .args .file .now in
-    log-inside f (c .before .section-at .ensures) (c .field-at .ensures) (open-file f (good (c .before .before)) .1)
+    log-inside f (c .before .section-at .ensures) (c .length-at .ensures) (open-file f (good (c .before .before)) .1)
 
 check-file-requires : tie.Need-check-file-requires
 check-file-requires c κs = search needs
@@ -47,8 +47,8 @@ enum-told-2 c = search needs
 section-at-requires : tie.Need-section-at-requires
 section-at-requires c κs = search needs
 
-field-at-requires : tie.Need-field-at-requires
-field-at-requires c κs = search needs
+length-at-requires : tie.Need-length-at-requires
+length-at-requires c κs = search needs
 
 add-end : tie.Need-add-end
 add-end c = omega (arith, in-file c)
@@ -65,7 +65,7 @@ part-result-end-2 c = omega (arith, in-file c)
 returns-2 : tie.Need-returns-2
 returns-2 c =
     let f = c .before .before .before .before .before .before .before .args .file .now in
-    log-found f (c .before .before .section-at .ensures) (c .before .field-at .ensures) ∙ sym (ap (λ o. unless o (file-log f) []) (good (c .before .before .before)))
+    log-found f (c .before .before .section-at .ensures) (c .before .length-at .ensures) ∙ sym (ap (λ o. unless o (file-log f) []) (good (c .before .before .before)))
 
 pub log-part-spec : {M : Type 1} → statement M
 log-part-spec =
@@ -79,7 +79,7 @@ log-part-spec =
     returns
     enum-told-2
     section-at-requires
-    field-at-requires
+    length-at-requires
     add-end
     sub-result-2
     part-result-start-2

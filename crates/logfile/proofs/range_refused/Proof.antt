@@ -4,7 +4,7 @@ use mathlib.Core.Path.{_≡_, sym, _∙_, ap, ap₂}
 use mathlib.Core.Bool.{_||_, not}
 use lib.Dec.{eqb}
 use Rattle.profile.specs.Refusals.{profile-out-of-range}
-use Rattle.logfile.specs.Files.{distance, file-profile}
+use Rattle.logfile.specs.Files.{field, file-profile}
 use Rattle.logfile.proofs.Sections.{range-eq}
 use Rattle.logfile.proofs.range_refused.Statement.{statement}
 use Rattle.logfile.proofs.range_refused.Tie as tie
@@ -30,15 +30,15 @@ tested c =
 returns : tie.Need-returns
 returns c =
     let f = c .before .before .before .before .before .before .args .f .now in
-    sym (ap (λ t. t || not (eqb (distance f 10) 0)) (tested (c .before) ∙ c .if1 .taken))
+    sym (ap (λ t. t || not (eqb (field f 11) 0)) (tested (c .before) ∙ c .if1 .taken))
 
-trailer-half-requires : tie.Need-trailer-half-requires
-trailer-half-requires c κs = search needs
+field-at-requires-4 : tie.Need-field-at-requires-4
+field-at-requires-4 c κs = search needs
 
 returns-2 : tie.Need-returns-2
 returns-2 c =
     let f = c .before .before .before .before .before .before .before .args .f .now in
-    sym (ap₂ (λ t n. t || not (eqb n 0)) (tested (c .before .before) ∙ c .before .if1 .left) (sym (c .trailer-half .ensures)))
+    sym (ap₂ (λ t n. t || not (eqb n 0)) (tested (c .before .before) ∙ c .before .if1 .left) (sym (c .field-at4 .ensures)))
 
 pub range-refused-spec : {M : Type 1} → statement M
 range-refused-spec =
@@ -49,5 +49,5 @@ range-refused-spec =
     field-at-requires-3
     numbers-refused-requires
     returns
-    trailer-half-requires
+    field-at-requires-4
     returns-2)

@@ -80,8 +80,8 @@ fill-moves-requires c κs =
     let f = entry b .args .file .now in
     omega (arith, known b, inside f (open-file f (good (b .before)) .1) .moves, c .before .section-at2 .ensures, c .before .before .before .before .before .before .before .if2 .left)
 
-field-at-requires : tie.Need-field-at-requires
-field-at-requires c κs = search needs
+length-at-requires : tie.Need-length-at-requires
+length-at-requires c κs = search needs
 
 same-length : tie.Need-same-length
 same-length c = search needs
@@ -97,7 +97,7 @@ returns-4 c =
     let n = known b in
     read-told (a .file .now) (a .masks .now) (a .moves .now)
     (buffers-long (a .file .now) (length (a .masks .now)) (length (a .moves .now)) (good (b .before)) (omega (arith, n, e .before .if1 .left)) (omega (arith, n, e .if2 .left)))
-    (b .shape-of .ensures) (c .field-at .ensures)
+    (b .shape-of .ensures) (c .length-at .ensures)
     (c .before .before .before .before .before .before .before .before .fill-masks .ensures ∙ numbers-put 2 (a .file .now) (a .masks .now)
     (c .before .before .before .before .before .before .before .before .before .before .section-at .ensures) (n .0))
     (c .before .before .before .fill-moves .ensures ∙ numbers-put 4 (a .file .now) (a .moves .now) (c .before .before .before .before .before .section-at2 .ensures) (n .1))
@@ -118,7 +118,7 @@ read-file-spec =
     fill-masks-requires
     section-at-requires-2
     fill-moves-requires
-    field-at-requires
+    length-at-requires
     same-length
     same-length-2
     returns-4)

@@ -57,6 +57,9 @@ returns c =
     l .inv .2 ∙ ap (λ n. map (first-of (a .starts .now) (a .places .now)) (below n) ++ drop n (a .next .now)) e
     ∙ ap (λ m. map (first-of (a .starts .now) (a .places .now)) (below (length (a .next .now))) ++ m) (drop-length (a .next .now)) ∙ append-nil _
 
+mul-next : tie.Need-mul-next Inv-loop μ-loop
+mul-next c = search needs
+
 pub first-places-spec : {M : Type 1} → statement M
 first-places-spec =
     tie.close
@@ -65,6 +68,7 @@ first-places-spec =
     μ-loop
     loop-holds
     next-place-requires
+    mul-next
     slice-write-next
     add-x
     loop-less

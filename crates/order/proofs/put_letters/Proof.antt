@@ -5,6 +5,7 @@ use mathlib.Core.List.{map}
 use Prim.Native.Nat.{_+_, _-_, _≤_, _<_}
 use lib.ListN.{length, getD, length-set}
 use Rattle.profile.specs.Lists.{below}
+use Rattle.profile.specs.Refusals.{longest}
 use Rattle.theory.proofs.Refusals.{log-at, relation-at}
 use Rattle.order.proofs.First.{Chosen, chosen-all, chosen-below, chosen-fits, chosen-length, chosen-more, chosen-none, first-coming}
 use native.Mathlib.Omega.{arith}
@@ -39,7 +40,7 @@ letter-of : (c : tie.After-least-next Inv-loop μ-loop)
     → (c .least-next .result < c .before .before .before .before .before .before .before .before .before .before .before .before .before .before .before .args .k)
     × (c .before .before .before .before .before .before .before .before .before .before .before .before .before .before .before .args .k ≤ 16)
     × (c .least-next .result < length (c .before .before .before .loop .used)) × (c .least-next .result < length (c .before .before .before .loop .next))
-    × (getD (c .before .before .before .loop .used) (c .least-next .result) 0 + 1 ≤ 255)
+    × (getD (c .before .before .before .loop .used) (c .least-next .result) 0 + 1 ≤ longest)
 letter-of c =
     let a = c .before .before .before .before .before .before .before .before .before .before .before .before .before .before .before .args in
     let p = c .before .before .before .before .before .before .before .before .before .before .before .before .before .before .before .pre .0 in
@@ -115,6 +116,9 @@ returns c =
     let l = c .before .loop in
     chosen-all (a .k) (a .masks .now) (a .log .now) (relation-at (a .k) (a .masks .now) (p .relation)) (log-at (a .k) (a .log .now) (p .log)) (a .out .now) (l .next) (l .used) (l .out) (l .t) (l .inv .4) (omega arith)
 
+mul-next : tie.Need-mul-next Inv-loop μ-loop
+mul-next c = omega (arith, letter-of (c .before .before))
+
 pub put-letters-spec : {M : Type 1} → statement M
 put-letters-spec =
     tie.close
@@ -132,6 +136,7 @@ put-letters-spec =
     mul-used
     slice-write-used
     next-place-requires
+    mul-next
     slice-write-next
     add-t
     loop-less

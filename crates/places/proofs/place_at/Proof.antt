@@ -14,5 +14,13 @@ returns c = search needs
 returns-2 : tie.Need-returns-2
 returns-2 c = sym (List·getD-eq-default (c .before .args .places .now) 0 (c .if1 .left))
 
+mul-result : tie.Need-mul-result
+mul-result c = search needs
+
 pub place-at-spec : {M : Type 1} → statement M
-place-at-spec = tie.close (tie.spec shared-slice-read-result returns returns-2)
+place-at-spec = tie.close
+    (tie.spec
+    mul-result
+    shared-slice-read-result
+    returns
+    returns-2)

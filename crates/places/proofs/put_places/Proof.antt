@@ -81,6 +81,30 @@ returns c =
     let e = places-left-end (a .log .now) (l .i) (a .x) (c .loop-test .left) in
     (omega (arith, ap length e), rw e at (l .inv .1))
 
+mul-places : tie.Need-mul-places Inv-loop μ-loop
+mul-places c = search needs
+
+mul-places-2 : tie.Need-mul-places-2 Inv-loop μ-loop
+mul-places-2 c = search needs
+
 pub put-places-spec : {M : Type 1} → statement M
 put-places-spec = tie.close
-    (tie.spec Inv-loop μ-loop loop-holds shared-slice-read-a cast-a cast-places slice-write-places add-to add-i loop-less loop-again cast-places-2 slice-write-places-2 add-result same-length returns)
+    (tie.spec
+    Inv-loop
+    μ-loop
+    loop-holds
+    shared-slice-read-a
+    cast-a
+    cast-places
+    mul-places
+    slice-write-places
+    add-to
+    add-i
+    loop-less
+    loop-again
+    cast-places-2
+    mul-places-2
+    slice-write-places-2
+    add-result
+    same-length
+    returns)

@@ -44,11 +44,47 @@ mul-w3 c = search needs
 shared-slice-read-w3 : tie.Need-shared-slice-read-w3
 shared-slice-read-w3 c = search needs
 
+add-w4 : tie.Need-add-w4
+add-w4 c = search needs
+
+mul-w4 : tie.Need-mul-w4
+mul-w4 c = search needs
+
+shared-slice-read-w4 : tie.Need-shared-slice-read-w4
+shared-slice-read-w4 c = search needs
+
+add-w5 : tie.Need-add-w5
+add-w5 c = search needs
+
+mul-w5 : tie.Need-mul-w5
+mul-w5 c = search needs
+
+shared-slice-read-w5 : tie.Need-shared-slice-read-w5
+shared-slice-read-w5 c = search needs
+
+add-w6 : tie.Need-add-w6
+add-w6 c = search needs
+
+mul-w6 : tie.Need-mul-w6
+mul-w6 c = search needs
+
+shared-slice-read-w6 : tie.Need-shared-slice-read-w6
+shared-slice-read-w6 c = search needs
+
+add-w7 : tie.Need-add-w7
+add-w7 c = search needs
+
+mul-w7 : tie.Need-mul-w7
+mul-w7 c = search needs
+
+shared-slice-read-w7 : tie.Need-shared-slice-read-w7
+shared-slice-read-w7 c = search needs
+
 returns : tie.Need-returns
 returns c =
-    let a = c .before .before .before .before .args in
+    let a = c .before .before .before .before .before .before .before .before .args in
     let t = a .t .now in
-    ap (λ n. getD t n 0 ∷ getD t (6 * a .j + 1) 0 ∷ getD t (6 * a .j + 2) 0 ∷ getD t (6 * a .j + 3) 0 ∷ []) (sym (add-zero (6 * a .j)))
+    ap (λ n. getD t n 0 ∷ getD t (10 * a .j + 1) 0 ∷ getD t (10 * a .j + 2) 0 ∷ getD t (10 * a .j + 3) 0 ∷ getD t (10 * a .j + 4) 0 ∷ getD t (10 * a .j + 5) 0 ∷ getD t (10 * a .j + 6) 0 ∷ getD t (10 * a .j + 7) 0 ∷ []) (sym (add-zero (10 * a .j)))
 
 pub counts-at-spec : {M : Type 1} → statement M
 counts-at-spec =
@@ -66,4 +102,16 @@ counts-at-spec =
     add-w3
     mul-w3
     shared-slice-read-w3
+    add-w4
+    mul-w4
+    shared-slice-read-w4
+    add-w5
+    mul-w5
+    shared-slice-read-w5
+    add-w6
+    mul-w6
+    shared-slice-read-w6
+    add-w7
+    mul-w7
+    shared-slice-read-w7
     returns)

@@ -1,4 +1,4 @@
--- `records::put` meets its contract: six stores in a row.
+-- `records::put` meets its contract: ten stores in a row.
 use mathlib.Core.Path.{_≡_, _∙_}
 use mathlib.Core.List.{[], _∷_, _++_, append-assoc}
 use Prim.Native.Nat.{suc, _+_, _*_}
@@ -58,29 +58,69 @@ slice-write-part-5 c = simp length-set (omega arith)
 add-part-5 : tie.Need-add-part-5
 add-part-5 c = search needs
 
-add-part-6 : tie.Need-add-part-6
-add-part-6 c = search needs
-
 mul-part-6 : tie.Need-mul-part-6
 mul-part-6 c = search needs
 
 slice-write-part-6 : tie.Need-slice-write-part-6
 slice-write-part-6 c = simp length-set (omega arith)
 
+add-part-6 : tie.Need-add-part-6
+add-part-6 c = search needs
+
+mul-part-7 : tie.Need-mul-part-7
+mul-part-7 c = search needs
+
+slice-write-part-7 : tie.Need-slice-write-part-7
+slice-write-part-7 c = simp length-set (omega arith)
+
+add-part-7 : tie.Need-add-part-7
+add-part-7 c = search needs
+
+mul-part-8 : tie.Need-mul-part-8
+mul-part-8 c = search needs
+
+slice-write-part-8 : tie.Need-slice-write-part-8
+slice-write-part-8 c = simp length-set (omega arith)
+
+add-part-8 : tie.Need-add-part-8
+add-part-8 c = search needs
+
+mul-part-9 : tie.Need-mul-part-9
+mul-part-9 c = search needs
+
+slice-write-part-9 : tie.Need-slice-write-part-9
+slice-write-part-9 c = simp length-set (omega arith)
+
+add-part-9 : tie.Need-add-part-9
+add-part-9 c = search needs
+
+add-part-10 : tie.Need-add-part-10
+add-part-10 c = search needs
+
+mul-part-10 : tie.Need-mul-part-10
+mul-part-10 c = search needs
+
+slice-write-part-10 : tie.Need-slice-write-part-10
+slice-write-part-10 c = simp length-set (omega arith)
+
 same-length : tie.Need-same-length
-same-length c = search needs
+same-length c = simp length-set
 
 returns : tie.Need-returns
 returns c =
-    let at = 6 * c .args .j in
-    let e₁ : at + 1 ≡ suc at = omega arith in
-    let e₂ : at + 2 ≡ suc (suc at) = omega arith in
-    let e₃ : at + 3 ≡ suc (suc (suc at)) = omega arith in
-    let e₄ : at + 4 ≡ suc (suc (suc (suc at))) = omega arith in
-    let e₅ : at + 5 ≡ suc (suc (suc (suc (suc at)))) = omega arith in
+    let at = 10 * c .args .j in
+    let e1 : at + 1 ≡ suc at = omega arith in
+    let e2 : at + 2 ≡ suc (suc at) = omega arith in
+    let e3 : at + 3 ≡ suc (suc (suc at)) = omega arith in
+    let e4 : at + 4 ≡ suc (suc (suc (suc at))) = omega arith in
+    let e5 : at + 5 ≡ suc (suc (suc (suc (suc at)))) = omega arith in
+    let e6 : at + 6 ≡ suc (suc (suc (suc (suc (suc at))))) = omega arith in
+    let e7 : at + 7 ≡ suc (suc (suc (suc (suc (suc (suc at)))))) = omega arith in
+    let e8 : at + 8 ≡ suc (suc (suc (suc (suc (suc (suc (suc at))))))) = omega arith in
+    let e9 : at + 9 ≡ suc (suc (suc (suc (suc (suc (suc (suc (suc at)))))))) = omega arith in
     let l = c .args .part .now in
     let v = words (c .args .c) ++ (c .args .forward ∷ c .args .last ∷ []) in
-    rw (e₁, e₂, e₃, e₄, e₅) (sets-eq v l at (omega arith) ∙ append-assoc (take at l) v (drop (at + 6) l))
+    rw (e1, e2, e3, e4, e5, e6, e7, e8, e9) (sets-eq v l at (omega arith) ∙ append-assoc (take at l) v (drop (at + 10) l))
 
 pub put-spec : {M : Type 1} → statement M
 put-spec =
@@ -102,8 +142,20 @@ put-spec =
     mul-part-5
     slice-write-part-5
     add-part-5
-    add-part-6
     mul-part-6
     slice-write-part-6
+    add-part-6
+    mul-part-7
+    slice-write-part-7
+    add-part-7
+    mul-part-8
+    slice-write-part-8
+    add-part-8
+    mul-part-9
+    slice-write-part-9
+    add-part-9
+    add-part-10
+    mul-part-10
+    slice-write-part-10
     same-length
     returns)

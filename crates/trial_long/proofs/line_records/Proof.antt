@@ -5,10 +5,13 @@ use Rattle.trial_long.proofs.line_records.Statement.{statement}
 use Rattle.trial_long.proofs.line_records.Tie as tie
 
 abbrev Inv-loop : tie.InvT-loop
-Inv-loop table r₀ r = 0 ≤ 0
+Inv-loop table letter n r₀ r-end r = 0 ≤ 0
 
 abbrev μ-loop : tie.MeasureT-loop
-μ-loop table r₀ r = 256 - r
+μ-loop table letter n r₀ r-end r = r-end - r
+
+plus-requires : tie.Need-plus-requires Inv-loop μ-loop
+plus-requires c κs = search needs
 
 loop-holds : tie.Need-loop-holds Inv-loop μ-loop
 loop-holds c = search needs
@@ -37,6 +40,7 @@ line-records-spec =
     (tie.spec
     Inv-loop
     μ-loop
+    plus-requires
     loop-holds
     line-record-requires
     returns

@@ -5,10 +5,10 @@ use Rattle.trial_long.proofs.square_records.Statement.{statement}
 use Rattle.trial_long.proofs.square_records.Tie as tie
 
 abbrev Inv-loop : tie.InvT-loop
-Inv-loop table seen r₀ r = 0 ≤ 0
+Inv-loop table records a b r₀ r = 0 ≤ 0
 
 abbrev μ-loop : tie.MeasureT-loop
-μ-loop table seen r₀ r = 16384 - r
+μ-loop table records a b r₀ r = records - r
 
 loop-holds : tie.Need-loop-holds Inv-loop μ-loop
 loop-holds c = search needs
@@ -28,12 +28,6 @@ loop-less c = search needs
 loop-again : tie.Need-loop-again Inv-loop μ-loop
 loop-again c = search needs
 
-slice-aggregate-square-cells : tie.Need-slice-aggregate-square-cells Inv-loop μ-loop
-slice-aggregate-square-cells c = search needs
-
-square-cells-requires : tie.Need-square-cells-requires Inv-loop μ-loop
-square-cells-requires c κs = search needs
-
 returns-2 : tie.Need-returns-2 Inv-loop μ-loop
 returns-2 c = search needs
 
@@ -49,6 +43,4 @@ square-records-spec =
     add-r
     loop-less
     loop-again
-    slice-aggregate-square-cells
-    square-cells-requires
     returns-2)

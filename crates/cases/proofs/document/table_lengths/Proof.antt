@@ -8,7 +8,7 @@ abbrev Inv-loop : tie.InvT-loop
 Inv-loop log masks moves u₀ size₀ u size = 0 ≤ 0
 
 abbrev μ-loop : tie.MeasureT-loop
-μ-loop log masks moves u₀ size₀ u size = 31 - size
+μ-loop log masks moves u₀ size₀ u size = 51 - size
 
 loop-holds : tie.Need-loop-holds Inv-loop μ-loop
 loop-holds c = search needs

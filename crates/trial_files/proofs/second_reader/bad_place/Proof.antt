@@ -13,8 +13,8 @@ abbrev μ-loop : tie.MeasureT-loop
 field-requires : tie.Need-field-requires Inv-loop μ-loop
 field-requires c κs = search needs
 
-field-requires-2 : tie.Need-field-requires-2 Inv-loop μ-loop
-field-requires-2 c κs = search needs
+log-length-requires : tie.Need-log-length-requires Inv-loop μ-loop
+log-length-requires c κs = search needs
 
 section-requires : tie.Need-section-requires Inv-loop μ-loop
 section-requires c κs = search needs
@@ -50,7 +50,7 @@ bad-place-spec =
     Inv-loop
     μ-loop
     field-requires
-    field-requires-2
+    log-length-requires
     section-requires
     loop-holds
     plus-requires

@@ -1,0 +1,56 @@
+-- `trial_long::put_ring` is safe and ends.
+use borrow.Author.Needs.{needs}
+use Prim.Native.Nat.{_-_}
+use mathlib.Core.Path.{_≡_}
+use lib.ListN.{length}
+use Rattle.trial_long.proofs.put_ring.Statement.{statement}
+use Rattle.trial_long.proofs.put_ring.Tie as tie
+
+abbrev Inv-loop : tie.InvT-loop
+Inv-loop moves₀ i₀ moves i = (length moves ≡ length moves₀)
+
+abbrev μ-loop : tie.MeasureT-loop
+μ-loop moves₀ i₀ moves i = 80 - i
+
+loop-holds : tie.Need-loop-holds Inv-loop μ-loop
+loop-holds c = search needs
+
+plus-requires : tie.Need-plus-requires Inv-loop μ-loop
+plus-requires c κs = search needs
+
+one32-requires : tie.Need-one32-requires Inv-loop μ-loop
+one32-requires c κs = search needs
+
+put32-requires : tie.Need-put32-requires Inv-loop μ-loop
+put32-requires c κs = search needs
+
+add-i : tie.Need-add-i Inv-loop μ-loop
+add-i c = search needs
+
+loop-less : tie.Need-loop-less Inv-loop μ-loop
+loop-less c = search needs
+
+loop-again : tie.Need-loop-again Inv-loop μ-loop
+loop-again c = search needs
+
+same-length : tie.Need-same-length Inv-loop μ-loop
+same-length c = search needs
+
+returns : tie.Need-returns Inv-loop μ-loop
+returns c = search needs
+
+pub put-ring-spec : {M : Type 1} → statement M
+put-ring-spec =
+    tie.close
+    (tie.spec
+    Inv-loop
+    μ-loop
+    loop-holds
+    plus-requires
+    one32-requires
+    put32-requires
+    add-i
+    loop-less
+    loop-again
+    same-length
+    returns)
