@@ -14,7 +14,9 @@
 #include <stdlib.h>
 #include <string.h>
 
-enum { LETTERS = 16, MOVES = 512, EVENTS = 4000, TEXT = 4096, WORK = 16380, FILE_BYTES = 2 * LETTERS + 4 * MOVES + EVENTS + 16 };
+enum { LETTERS = FUMAREHI_MOST_LETTERS, MOVES = FUMAREHI_MOST_MOVES, EVENTS = FUMAREHI_LONGEST, TEXT = 4096, WORK = 16380 };
+
+enum { FILE_BYTES = 2 * LETTERS + 4 * MOVES + EVENTS + FUMAREHI_TRAILER_LENGTH };
 
 /* All that a profile needs; the library keeps none of it. */
 struct profile {

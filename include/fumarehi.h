@@ -59,6 +59,19 @@ enum {
     FUMAREHI_LONG_TEXT = 13
 };
 
+/* The limits by name: the most letters, states and moves of a profile, the most letters of a log; the numbers of a record and those of them that have the
+ * counts; the bytes that a file has beside its sections (2 for a mask, 4 for a move, 1 for a letter); the most brackets inside each other and the most
+ * letters in typed courses. */
+#define FUMAREHI_MOST_LETTERS 16u
+#define FUMAREHI_MOST_STATES 32u
+#define FUMAREHI_MOST_MOVES (FUMAREHI_MOST_STATES * FUMAREHI_MOST_LETTERS)
+#define FUMAREHI_LONGEST 4000u
+#define FUMAREHI_RECORD_NUMBERS 10u
+#define FUMAREHI_COUNT_NUMBERS 8u
+#define FUMAREHI_TRAILER_LENGTH 16u
+#define FUMAREHI_DEEPEST_BRACKETS 16u
+#define FUMAREHI_MOST_TYPED 31u
+
 /* Judges a log. told: place, verdict, P, looks.
  * Verdict 1: some log that exchanges of neighbouring letters reach from the given one is accepted; the first log_len bytes of 'order' are the earliest such
  * log in letter order, the others stay. Verdict 0: none is; 'order' stays. P is the number of prefixes of the log; the work table then holds a

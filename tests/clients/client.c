@@ -125,6 +125,11 @@ static void sample(const char *path)
 /* Numbers of a record, and those of them that have the counts. */
 enum { RECORD = 10, COUNTS = 8 };
 
+/* The header's limits are those whose edges are tried here, by numbers of their own. */
+_Static_assert(FUMAREHI_LONGEST == MOST && FUMAREHI_RECORD_NUMBERS == RECORD && FUMAREHI_COUNT_NUMBERS == COUNTS, "the log and its records");
+_Static_assert(FUMAREHI_MOST_LETTERS == 16 && FUMAREHI_MOST_STATES == 32 && FUMAREHI_MOST_MOVES == 512, "a profile");
+_Static_assert(FUMAREHI_TRAILER_LENGTH == 16 && FUMAREHI_DEEPEST_BRACKETS == 16 && FUMAREHI_MOST_TYPED == 31, "a file and typed courses");
+
 struct profile {
     size_t k, s, start;
     uint32_t finals;

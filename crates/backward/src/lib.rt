@@ -3,6 +3,7 @@ ghost use mathlib.Core.Path.{_≡_};
 ghost use mathlib.Core.List.{_++_};
 ghost use Prim.Native.Nat.{ℕ, _*_, _≤_, _<_};
 ghost use lib.ListN.{length, getD, drop};
+ghost use Rattle.profile.specs.Limits.{most-letters, most-states};
 ghost use Rattle.profile.specs.Automata.{profile-of};
 ghost use Rattle.profile.specs.Lists.{below, equal?};
 ghost use Rattle.profile.specs.Tables.{layout, record-length};
@@ -16,6 +17,8 @@ use counts::one_more;
 use counts::same_counts;
 use counts::total_of;
 use profile::Shape;
+use profile::limits::MOST_LETTERS;
+use profile::limits::MOST_MOVES;
 use records::RECORD;
 use records::counts_at;
 use records::last_at;
@@ -47,10 +50,10 @@ fn back_of(
     k: usize,
     s: usize,
     moves: &[u32],
-    rows: &[u32; 512],
+    rows: &[u32; MOST_MOVES],
     cursors: &mut [usize],
 ) -> u32
-    requires { ⌜ (k ≤ 16) × (s ≤ 32) × (k ≤ length (now cursors)) ⌝ }
+    requires { ⌜ (k ≤ most-letters) × (s ≤ most-states) × (k ≤ length (now cursors)) ⌝ }
     requires { ⌜ Leads (now part) j k (λ x. getD (now cursors) x 0) ⌝ }
     requires { ⌜ now rows ≡ by-letter k s (now moves) ⌝ }
     ensures { λ r. ⌜ r ≡ back-from (now (part .entry)) j k k s (now (moves .entry)) (λ x. getD (now (cursors .entry)) x 0) ⌝ }
@@ -81,7 +84,7 @@ fn fill_total(
     shape: Shape,
     masks: &[u16],
     moves: &[u32],
-    rows: &[u32; 512],
+    rows: &[u32; MOST_MOVES],
     log: &[u8],
 )
     requires { ⌜ FromTotal (profile-of shape (now masks) (now moves)) (now log) (now part) t len ⌝ }
@@ -90,7 +93,7 @@ fn fill_total(
         ≡ filled-total (profile-of shape (now (masks .entry)) (now (moves .entry))) (now (log .entry)) t
         ++ drop (record-length layout * len) (now (part .entry)) ⌝ }
 {
-    let mut cursors = [len; 16];
+    let mut cursors = [len; MOST_LETTERS];
     let mut j = 0;
     while j < len {
         let back = back_of(part, j, shape.k, shape.s, moves, rows, &mut cursors);
@@ -129,7 +132,7 @@ pub fn fill_backward(
         ++ drop (record-length layout * records) (now (table .entry)) ⌝ }
 {
     let finals = shape.finals;
-    let mut rows = [0u32; 512];
+    let mut rows = [0u32; MOST_MOVES];
     by_letter(moves, shape.k, shape.s, &mut rows);
     let mut t = log.len();
     let mut end = records - 1;

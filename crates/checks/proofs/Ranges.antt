@@ -8,19 +8,20 @@ use native.Mathlib.Nat.{le-div-iff-mul-le, one-mul}
 use lib.Pow.{pow-pos}
 use lib.Dec.{eqb, ltb, lt→ltb, le→leb, leb→le, ltb→lt}
 use lib.ListN.{length}
+use Rattle.profile.specs.Limits.{most-letters}
 use Rattle.profile.specs.Refusals.{bit-from, letters-out-of-range}
 use Rattle.profile.proofs.Lists.{lt-or-le, or-left, or-right}
 use Rattle.profile.proofs.Sets.{T-eq}
 
 -- k in range is at most 16
-pub few-letters : (k : ℕ) (masks : List ℕ) → letters-out-of-range k masks ≡ false → k ≤ 16
+pub few-letters : (k : ℕ) (masks : List ℕ) → letters-out-of-range k masks ≡ false → k ≤ most-letters
 few-letters k masks e = ⊎-elim
     (λ h.
     let long = not (eqb (length masks) k) in
-    let t = or-right (ltb k 1) (ltb 16 k || long) (or-left (ltb 16 k) long (lt→ltb 16 k h)) in
+    let t = or-right (ltb k 1) (ltb most-letters k || long) (or-left (ltb most-letters k) long (lt→ltb most-letters k h)) in
     absurd (rw e at t))
     (λ h. h)
-    (lt-or-le 16 k)
+    (lt-or-le most-letters k)
 
 -- a bit from n on, by a shift
 pub shift-from : (n S : ℕ) → ltb 0 (S / 2 ^ n) ≡ bit-from n S

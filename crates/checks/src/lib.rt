@@ -8,6 +8,8 @@ ghost use Rattle.profile.specs.Refusals.{profile-out-of-range as profile-out-of
 use profile::Check;
 use profile::Refusal;
 use profile::Shape;
+use profile::limits::MOST_LETTERS;
+use profile::limits::MOST_STATES;
 
 // 2: k out of range, or the masks not exactly k long.
 fn relation_out_of_range(k: usize, masks: &[u16]) -> bool
@@ -16,7 +18,7 @@ fn relation_out_of_range(k: usize, masks: &[u16]) -> bool
     if k < 1 {
         return true;
     }
-    if 16 < k {
+    if MOST_LETTERS < k {
         return true;
     }
     masks.len() != k
@@ -35,7 +37,7 @@ fn profile_out_of_range(shape: Shape, masks: &[u16], moves: &[u32]) -> bool
     if s < 1 {
         return true;
     }
-    if 32 < s {
+    if MOST_STATES < s {
         return true;
     }
     if s <= start {

@@ -5,24 +5,29 @@ ghost use mathlib.Core.List.{[]};
 ghost use Prim.Native.Nat.{_+_, _<_, _%_, _^_};
 ghost use lib.Dec.{eqb};
 ghost use lib.ListN.{drop, length};
+ghost use Rattle.profile.specs.Limits.{most-letters};
 ghost use Rattle.profile.specs.Lists.{equal?, flat-map};
 ghost use Rattle.profile.specs.Orders.{no-later?};
 ghost use Rattle.profile.specs.Prefixes.{total};
 ghost use Rattle.profile.specs.Tables.{layout, count-field, packed};
 ghost use Rattle.theory.proofs.Packing.{rank};
 ghost use Rattle.counts.specs.Counts.{words, counts-in, add-count, before?, every-equal?, word-count, word-counts};
+use profile::limits::COUNT_BITS;
+use profile::limits::COUNT_BOUND;
+use profile::limits::COUNT_NUMBERS;
+use profile::limits::COUNTS_PER_NUMBER;
 
 // The bits of a count.
-const WIDTH: usize = 16;
+const WIDTH: usize = COUNT_BITS;
 
 // What a count stays below.
-const BOUND: u32 = 65536;
+const BOUND: u32 = COUNT_BOUND;
 
 // The counts in one number.
-const PER: usize = 2;
+const PER: usize = COUNTS_PER_NUMBER;
 
 // How many numbers hold the counts of a record.
-pub const NUMBERS: usize = 8;
+pub const NUMBERS: usize = COUNT_NUMBERS;
 
 // The numbers of counts of a record.
 pub struct Counts {
@@ -75,7 +80,7 @@ fn count_in(w: u32, a: usize) -> u32
 }
 
 // The numbers of counts in a row, for a loop over the letters.
-pub fn numbers(c: Counts) -> [u32; 8]
+pub fn numbers(c: Counts) -> [u32; NUMBERS]
     ensures { λ r. ⌜ r ≡ words c ⌝ }
 {
     [c.w0, c.w1, c.w2, c.w3, c.w4, c.w5, c.w6, c.w7]
@@ -99,8 +104,8 @@ pub fn from_numbers(t: &[u32]) -> Counts
 }
 
 // The count of letter a in numbers that stand in a row.
-pub fn count_of(t: &[u32; 8], a: usize) -> usize
-    requires { ⌜ a < 16 ⌝ }
+pub fn count_of(t: &[u32; NUMBERS], a: usize) -> usize
+    requires { ⌜ a < most-letters ⌝ }
     ensures { λ r. ⌜ r ≡ count-field layout (now (t .entry)) a ⌝ }
 {
     let w = t[a / PER];

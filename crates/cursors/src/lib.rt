@@ -2,6 +2,7 @@
 ghost use mathlib.Core.Path.{_≡_};
 ghost use Prim.Native.Nat.{_≤_, _<_};
 ghost use lib.ListN.{length};
+ghost use Rattle.profile.specs.Limits.{most-letters};
 ghost use Rattle.profile.specs.Traces.{bit};
 ghost use Rattle.records.specs.Records.{records-in};
 ghost use Rattle.cursors.specs.Cursors.{Given, advanced, seek-from, started};
@@ -32,7 +33,7 @@ fn seek(level: &[u32], from: usize, x: usize) -> usize
 
 // Puts the cursor of each letter at the first record to which the letter can be added.
 pub fn start_cursors(level: &[u32], k: usize, cursors: &mut [usize])
-    requires { ⌜ (k ≤ 16) × (k ≤ length (now cursors)) ⌝ }
+    requires { ⌜ (k ≤ most-letters) × (k ≤ length (now cursors)) ⌝ }
     ensures { λ _. ⌜ now (cursors .exit) ≡ started k (now (level .entry)) (now (cursors .entry)) ⌝ }
 {
     let mut x = 0;
@@ -45,7 +46,7 @@ pub fn start_cursors(level: &[u32], k: usize, cursors: &mut [usize])
 
 // Moves the cursors of a set of letters on to the next record to which their letter can be added, from the lowest letter on.
 pub fn advance(level: &[u32], k: usize, cursors: &mut [usize], set: u32)
-    requires { ⌜ (k ≤ 16) × (k ≤ length (now cursors)) ⌝ }
+    requires { ⌜ (k ≤ most-letters) × (k ≤ length (now cursors)) ⌝ }
     requires { ⌜ Given k (now level) (now cursors) set ⌝ }
     ensures { λ _. ⌜ now (cursors .exit) ≡ advanced k (now (level .entry)) (now (cursors .entry)) set ⌝ }
 {

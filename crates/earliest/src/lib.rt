@@ -3,6 +3,7 @@ ghost use mathlib.Core.Path.{_≡_};
 ghost use mathlib.Core.Bool.{true};
 ghost use Prim.Native.Nat.{_+_, _*_, _-_, _≤_, _<_, min};
 ghost use lib.ListN.{length};
+ghost use Rattle.profile.specs.Limits.{most-letters, most-states};
 ghost use Rattle.profile.specs.Lists.{equal?};
 ghost use Rattle.profile.specs.Automata.{forward-step, meets, profile-of};
 ghost use Rattle.profile.specs.Tables.{layout, record-length};
@@ -11,11 +12,14 @@ ghost use Rattle.records.specs.Records.{last-at};
 ghost use Rattle.earliest.specs.Earliest.{Table, record-count, order-of, found?, with-order, grown-place, letter-in, added-letter, smallest, taken-letter, total-end};
 use counts::Counts;
 use profile::Shape;
+use profile::limits::COUNT_BOUND;
+use profile::limits::COUNTS_PER_NUMBER;
+use profile::limits::MOST_LETTERS;
 
 // The counts in one number, and the letters of a record.
-const PER: usize = 2;
+const PER: usize = COUNTS_PER_NUMBER;
 
-const LETTERS: usize = 16;
+const LETTERS: usize = MOST_LETTERS;
 
 // Some order of the log is accepted: the backward set of the empty prefix, the first record, has the start state.
 pub fn has_order(table: &[u32], shape: Shape, masks: &[u16], moves: &[u32], log: &[u8]) -> bool
@@ -40,7 +44,7 @@ fn grown(v: u32, w: u32) -> usize
     if std::num::wrapping_add_u32(v, 1) == w {
         return 0;
     }
-    if std::num::wrapping_add_u32(v, 65536) == w {
+    if std::num::wrapping_add_u32(v, COUNT_BOUND) == w {
         return 1;
     }
     PER
@@ -102,7 +106,7 @@ fn added(c: Counts, e: Counts) -> usize
 
 // Letter x can be taken with record j: it leads from the states into the backward set of the record.
 fn can_take(table: &[u32], j: usize, states: u32, shape: Shape, moves: &[u32], x: usize) -> bool
-    requires { ⌜ (record-length layout * j + record-length layout ≤ length (now table)) × (shape .k ≤ 16) × (shape .s ≤ 32) ⌝ }
+    requires { ⌜ (record-length layout * j + record-length layout ≤ length (now table)) × (shape .k ≤ most-letters) × (shape .s ≤ most-states) ⌝ }
     ensures { λ r. ⌜ r ≡ meets (forward-step (shape .k) (shape .s) (now (moves .entry)) states x) (last-at (now (table .entry)) j) ⌝ }
 {
     let k = shape.k;
@@ -122,7 +126,7 @@ fn smaller(
     moves: &[u32],
     letter: usize,
 ) -> usize
-    requires { ⌜ (record-length layout * j + record-length layout ≤ length (now table)) × (shape .k ≤ 16) × (shape .s ≤ 32) × (letter ≤ 16) ⌝ }
+    requires { ⌜ (record-length layout * j + record-length layout ≤ length (now table)) × (shape .k ≤ most-letters) × (shape .s ≤ most-states) × (letter ≤ most-letters) ⌝ }
     ensures { λ r. ⌜ r ≡ min letter (taken-letter (forward-step (shape .k) (shape .s) (now (moves .entry))) (now (table .entry)) (words c) states j) ⌝ }
 {
     let x = added(c, records::counts_at(table, j));
@@ -147,7 +151,7 @@ fn choose(
     shape: Shape,
     moves: &[u32],
 ) -> Choice
-    requires { ⌜ (record-length layout * records ≤ length (now table)) × (from ≤ records) × (shape .k ≤ 16) × (shape .s ≤ 32) ⌝ }
+    requires { ⌜ (record-length layout * records ≤ length (now table)) × (from ≤ records) × (shape .k ≤ most-letters) × (shape .s ≤ most-states) ⌝ }
     ensures { λ r. ⌜ r .next ≡ total-end (now (table .entry)) records total from ⌝ }
     ensures { λ r. ⌜ r .letter ≡ smallest (taken-letter (forward-step (shape .k) (shape .s) (now (moves .entry))) (now (table .entry)) (words c) states) (shape .k) from (r .next - from) ⌝ }
 {

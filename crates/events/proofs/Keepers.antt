@@ -8,6 +8,7 @@ use lib.Bits.{bitAnd, and-le-r}
 use lib.Count.{trailingZeros}
 use lib.Pow.{pow-mono}
 use lib.Dec.{T, T-not, eqb, ltb, ltb→lt, lt→ltb}
+use Rattle.profile.specs.Limits.{most-letters}
 use Rattle.profile.specs.Lists.{all, below}
 use Rattle.profile.specs.Prefixes.{at}
 use Rattle.profile.specs.Traces.{bit}
@@ -19,9 +20,9 @@ use Rattle.events.specs.Events.{all-keepers, keepers, keeps?, lets-by?}
 
 module _ (may : ℕ → ℕ → Bool) (k x : ℕ) where
   -- the set of letter x among those of all letters
-  pub keepers-own : x < 16 → at (all-keepers may k) x ≡ keepers may k x
+  pub keepers-own : x < most-letters → at (all-keepers may k) x ≡ keepers may k x
   unfolding all-keepers
-  keepers-own h = let e : 0 + x ≡ x = omega arith in at-map (keepers may k) 16 0 x h ∙ ap (keepers may k) e
+  keepers-own h = let e : 0 + x ≡ x = omega arith in at-map (keepers may k) most-letters 0 x h ∙ ap (keepers may k) e
 
   keeper-at : (y : ℕ) → T (bit (keepers may k x) y) → (y < k) × T (keeps? may x y)
   keeper-at y t =
@@ -35,7 +36,7 @@ module _ (may : ℕ → ℕ → Bool) (k x : ℕ) where
       pub keep : (y : ℕ) → T (bit rest y) → (y < k) × T (keeps? may x y)
       pub others : (y : ℕ) → y < k → T (bit rest y) ⊎ T (lets-by? may next x y)
 
-    pub left-first : k ≤ 16 → Left (keepers may k x)
+    pub left-first : k ≤ most-letters → Left (keepers may k x)
     left-first h = record {
       small = omega (arith, passing-below (keeps? may x) k, pow-mono h);
       keep = keeper-at;

@@ -3,6 +3,7 @@ use mathlib.Core.Bool.{Bool, not, _&&_, _||_}
 use mathlib.Core.List.{List, map}
 use Prim.Native.Nat.{ℕ, _^_}
 use lib.Dec.{eqb, ltb}
+use Rattle.profile.specs.Limits.{most-letters}
 use Rattle.profile.specs.Automata.{union}
 use Rattle.profile.specs.Lists.{all, below, filter}
 use Rattle.profile.specs.Prefixes.{at}
@@ -25,4 +26,4 @@ keepers may k x = union (λ y. 2 ^ y) (filter (keeps? may x) (below k))
 
 -- that set of each of the 16 letters that there may be
 unfoldable pub all-keepers : (ℕ → ℕ → Bool) → ℕ → List ℕ
-all-keepers may k = map (keepers may k) (below 16)
+all-keepers may k = map (keepers may k) (below most-letters)

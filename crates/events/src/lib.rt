@@ -1,9 +1,12 @@
 // By the places of each letter's next event, with no scan of the log, whether a letter can be added to a prefix.
 ghost use mathlib.Core.Path.{_≡_};
 ghost use Prim.Native.Nat.{_≤_, _<_};
+ghost use Rattle.profile.specs.Limits.{most-letters};
 ghost use Rattle.profile.specs.Traces.{independent as independent-by};
 ghost use Rattle.events.specs.Events.{all-keepers, comes-next?, keepers, keeps?};
 use places::place_at;
+use profile::limits::MOST_LETTERS;
+use profile::limits::Place;
 
 // Letter y keeps x from coming next while its next event is earlier: it is another letter, and x may not pass it.
 fn keeps(masks: &[u16], x: usize, y: usize) -> bool
@@ -17,7 +20,7 @@ fn keeps(masks: &[u16], x: usize, y: usize) -> bool
 
 // The set of the letters below k that keep x.
 fn keepers_of(masks: &[u16], k: usize, x: usize) -> u32
-    requires { ⌜ k ≤ 16 ⌝ }
+    requires { ⌜ k ≤ most-letters ⌝ }
     ensures { λ r. ⌜ r ≡ keepers (independent-by (now (masks .entry))) k x ⌝ }
 {
     let mut set = 0u32;
@@ -32,13 +35,13 @@ fn keepers_of(masks: &[u16], k: usize, x: usize) -> u32
 }
 
 // The set of the letters below k that keep each letter.
-pub fn all_keepers(masks: &[u16], k: usize) -> [u32; 16]
-    requires { ⌜ k ≤ 16 ⌝ }
+pub fn all_keepers(masks: &[u16], k: usize) -> [u32; MOST_LETTERS]
+    requires { ⌜ k ≤ most-letters ⌝ }
     ensures { λ r. ⌜ r ≡ all-keepers (independent-by (now (masks .entry))) k ⌝ }
 {
-    let mut sets = [0u32; 16];
+    let mut sets = [0u32; MOST_LETTERS];
     let mut x = 0;
-    while x < 16 {
+    while x < MOST_LETTERS {
         let set = keepers_of(masks, k, x);
         sets[x] = set;
         x += 1;
@@ -50,13 +53,13 @@ pub fn all_keepers(masks: &[u16], k: usize) -> [u32; 16]
 // letters out of the set that is left.
 pub fn comes_next(
     masks: &[u16],
-    keepers: &[u32; 16],
+    keepers: &[u32; MOST_LETTERS],
     k: usize,
     n: usize,
-    next: &[u16],
+    next: &[Place],
     x: usize,
 ) -> bool
-    requires { ⌜ (k ≤ 16) × (x < k) ⌝ }
+    requires { ⌜ (k ≤ most-letters) × (x < k) ⌝ }
     requires { ⌜ now keepers ≡ all-keepers (independent-by (now masks)) k ⌝ }
     ensures { λ r. ⌜ r ≡ comes-next? (independent-by (now (masks .entry))) k n (now (next .entry)) x ⌝ }
 {

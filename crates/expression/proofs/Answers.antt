@@ -9,6 +9,7 @@ use native.Mathlib.Omega.{arith}
 use lib.Dec.{T, ltb}
 use lib.ListN.{length}
 use borrow.Author.Tests.{le-ltb, lt-ltb, ltb-false}
+use Rattle.profile.specs.Limits.{deepest-brackets, most-letters, most-typed}
 use Rattle.profile.specs.declared.Refusal.{Refusal}
 use Rattle.profile.specs.declared.Refusal.the-variants.{BadText, DeepText, LongText, OutOfRange, ShortBuffer}
 use Rattle.profile.specs.declared.Shape.{Shape}
@@ -45,11 +46,11 @@ five a f c d e = lowest ((a, OutOfRange) ∷ (broken f, BadText (broken-place f)
 k-low : (k : ℕ) → k < 1 → k-out-of-range k ≡ true
 k-low k h = rw (lt-ltb k 1 h)
 
-k-high : (k : ℕ) → 1 ≤ k → 16 < k → k-out-of-range k ≡ true
-k-high k a b = ap₂ (λ x y. x || y) (le-ltb k 1 a) (lt-ltb 16 k b)
+k-high : (k : ℕ) → 1 ≤ k → most-letters < k → k-out-of-range k ≡ true
+k-high k a b = ap₂ (λ x y. x || y) (le-ltb k 1 a) (lt-ltb most-letters k b)
 
-pub k-good : (k : ℕ) → 1 ≤ k → k ≤ 16 → k-out-of-range k ≡ false
-k-good k a b = ap₂ (λ x y. x || y) (le-ltb k 1 a) (le-ltb 16 k b)
+pub k-good : (k : ℕ) → 1 ≤ k → k ≤ most-letters → k-out-of-range k ≡ false
+k-good k a b = ap₂ (λ x y. x || y) (le-ltb k 1 a) (le-ltb most-letters k b)
 
 -- ---- a text that is not refused
 
@@ -64,18 +65,18 @@ broken-none (some i) e = absurd (subst T e tt)
 -- what is known of it
 pub record Good-text (k : ℕ) (u : List ℕ) : Type 0 where
   pub some-letter : 1 ≤ k
-  pub few : k ≤ 16
+  pub few : k ≤ most-letters
   pub tree : Expr
   pub typed : Typed k expression u tree
-  pub short : size tree ≤ 31
+  pub short : size tree ≤ most-typed
 
 pub good-text : (k : ℕ) (u : List ℕ) (n : ℕ) → make-refusal k u n ≡ none → Good-text k u
 good-text k u n h =
     let all = lowest-none (make-refusals k u n) .0 h in
-    let range = or-false (ltb k 1) (ltb 16 k) (all (k-out-of-range k, OutOfRange) (List·Memᴰ·head refl)) in
-    let few : k ≤ 16 = ltb-false 16 k (range .1) in
+    let range = or-false (ltb k 1) (ltb most-letters k) (all (k-out-of-range k, OutOfRange) (List·Memᴰ·head refl)) in
+    let few : k ≤ most-letters = ltb-false most-letters k (range .1) in
     let right = right-is k few u .0 (broken-none (fault k u) (all (broken (fault k u), BadText (broken-place (fault k u))) (List·Memᴰ·tail (List·Memᴰ·head refl)))) in
-    let letters = ltb-false 31 (length (letters-of k u)) (all (too-many k u, LongText) (List·Memᴰ·tail (List·Memᴰ·tail (List·Memᴰ·tail (List·Memᴰ·head refl))))) in
+    let letters = ltb-false most-typed (length (letters-of k u)) (all (too-many k u, LongText) (List·Memᴰ·tail (List·Memᴰ·tail (List·Memᴰ·tail (List·Memᴰ·head refl))))) in
     record {
       some-letter = ltb-false k 1 (range .0);
       few = few;
@@ -112,10 +113,10 @@ module _ (k : ℕ) (u before : List ℕ) where
   pub makes-low : k < 1 → Makes k u before (Refused OutOfRange) before
   makes-low h = refused-makes OutOfRange (ap (λ a. rest-of a (fault k u)) (k-low k h))
 
-  pub makes-high : 1 ≤ k → 16 < k → Makes k u before (Refused OutOfRange) before
+  pub makes-high : 1 ≤ k → most-letters < k → Makes k u before (Refused OutOfRange) before
   makes-high a b = refused-makes OutOfRange (ap (λ a. rest-of a (fault k u)) (k-high k a b))
 
-  module _ (some-letter : 1 ≤ k) (few : k ≤ 16) where
+  module _ (some-letter : 1 ≤ k) (few : k ≤ most-letters) where
     pub makes-broken : (i : ℕ) → scanned k u ≡ Broken i → Makes k u before (Refused (BadText i)) before
     makes-broken i e = refused-makes (BadText i) (ap₂ rest-of (k-good k some-letter few) (scanned-broken k u e))
 
@@ -124,21 +125,21 @@ module _ (k : ℕ) (u before : List ℕ) where
       abbrev short : Bool
       short = ltb (length before) ((n + 1) * k)
 
-      right-refusal : make-refusal k u (length before) ≡ five false none (ltb 16 d) (ltb 31 n) short
+      right-refusal : make-refusal k u (length before) ≡ five false none (ltb deepest-brackets d) (ltb most-typed n) short
       right-refusal =
           let r = scanned-right k u right in
-          ap₂ rest-of (k-good k some-letter few) (r .0) ∙ ap₂ (λ d n. five false none (ltb 16 d) (ltb 31 n) (ltb (length before) ((n + 1) * k))) (sym (r .1)) (sym (r .2))
+          ap₂ rest-of (k-good k some-letter few) (r .0) ∙ ap₂ (λ d n. five false none (ltb deepest-brackets d) (ltb most-typed n) (ltb (length before) ((n + 1) * k))) (sym (r .1)) (sym (r .2))
 
-      pub makes-deep : 16 < d → Makes k u before (Refused DeepText) before
-      makes-deep h = refused-makes DeepText (right-refusal ∙ ap (λ c. five false none c (ltb 31 n) short) (lt-ltb 16 d h))
+      pub makes-deep : deepest-brackets < d → Makes k u before (Refused DeepText) before
+      makes-deep h = refused-makes DeepText (right-refusal ∙ ap (λ c. five false none c (ltb most-typed n) short) (lt-ltb deepest-brackets d h))
 
-      module _ (shallow : d ≤ 16) where
-        pub makes-long : 31 < n → Makes k u before (Refused LongText) before
-        makes-long h = refused-makes LongText (right-refusal ∙ ap₂ (λ c l. five false none c l short) (le-ltb 16 d shallow) (lt-ltb 31 n h))
+      module _ (shallow : d ≤ deepest-brackets) where
+        pub makes-long : most-typed < n → Makes k u before (Refused LongText) before
+        makes-long h = refused-makes LongText (right-refusal ∙ ap₂ (λ c l. five false none c l short) (le-ltb deepest-brackets d shallow) (lt-ltb most-typed n h))
 
-        module _ (few-letters : n ≤ 31) where
+        module _ (few-letters : n ≤ most-typed) where
           lengths-fine : make-refusal k u (length before) ≡ five false none false false short
-          lengths-fine = right-refusal ∙ ap₂ (λ c l. five false none c l short) (le-ltb 16 d shallow) (le-ltb 31 n few-letters)
+          lengths-fine = right-refusal ∙ ap₂ (λ c l. five false none c l short) (le-ltb deepest-brackets d shallow) (le-ltb most-typed n few-letters)
 
           pub makes-short : length before < (n + 1) * k → Makes k u before (Refused ShortBuffer) before
           makes-short h = refused-makes ShortBuffer (lengths-fine ∙ ap (five false none false false) (lt-ltb (length before) ((n + 1) * k) h))
@@ -154,7 +155,7 @@ module _ (k : ℕ) (u before : List ℕ) where
               some-letter = some-letter;
               few = few;
               states = add-one n ∙ ap suc (sized e t);
-              short = subst (λ m. m ≤ 31) (sized e t) few-letters;
+              short = subst (λ m. m ≤ most-typed) (sized e t) few-letters;
               fits = fits;
             }
 

@@ -9,6 +9,7 @@ use native.Mathlib.Omega.{arith}
 use lib.Dec.{T}
 use lib.ListN.{drop, getD, length, take}
 use lib.Seq.{drop-at, take-at}
+use Rattle.profile.specs.Limits.{most-letters}
 use Rattle.profile.specs.declared.Refusal.{Refusal}
 use Rattle.profile.specs.declared.Refusal.the-variants.{BadText}
 use Rattle.profile.specs.declared.Shape.{Shape}
@@ -136,7 +137,7 @@ module _ (k : ℕ) (u before : List ℕ) (r : Made) (after : List ℕ) (answer :
 
   -- 11 is given exactly when the text breaks the rules, and its place is "that of the first byte that no right text with the same beginning has there, or the
   -- text's length if it ends too early"
-  pub place-exactly : 1 ≤ k → k ≤ 16 → (i : ℕ) → (r ≡ Refused (BadText i)) ↔ Breaks k u i
+  pub place-exactly : 1 ≤ k → k ≤ most-letters → (i : ℕ) → (r ≡ Refused (BadText i)) ↔ Breaks k u i
   place-exactly some-letter few i =
       let p = place-is k some-letter few u i in
       let q = refused-exactly (BadText i) in

@@ -7,6 +7,7 @@ use Prim.Native.Nat.{ℕ, suc, _+_, _*_, _/_, _%_, _≤_}
 use lib.Bits.{bitAnd}
 use lib.Dec.{ltb}
 use lib.ListN.{drop, getD, length}
+use Rattle.profile.specs.Limits.{deepest-brackets, most-letters, most-typed}
 use Rattle.profile.specs.declared.Refusal.{Refusal}
 use Rattle.profile.specs.declared.Refusal.the-variants.{BadText, DeepText, LongText, OutOfRange, ShortBuffer}
 use Rattle.profile.specs.declared.Shape.{Shape}
@@ -22,7 +23,7 @@ use Rattle.expression.specs.declared.Made.the-variants.{Profile, Refused
 
 -- 2, of k alone
 abbrev pub k-out-of-range : ℕ → Bool
-k-out-of-range k = ltb k 1 || ltb 16 k
+k-out-of-range k = ltb k 1 || ltb most-letters k
 
 -- 11: "when the text breaks these rules or uses a letter from k on", and the place
 abbrev pub broken : Option ℕ → Bool
@@ -35,11 +36,11 @@ broken-place (some i) = i
 
 -- 12: "when brackets go deeper than 16"
 abbrev pub too-deep : List ℕ → Bool
-too-deep u = ltb 16 (deepest 0 u)
+too-deep u = ltb deepest-brackets (deepest 0 u)
 
 -- 13: "when more than 31 letters are typed"
 abbrev pub too-many : ℕ → List ℕ → Bool
-too-many k u = ltb 31 (length (letters-of k u))
+too-many k u = ltb most-typed (length (letters-of k u))
 
 -- 9: the buffer of n numbers is shorter than s × k; "s is one more than the letters typed"
 abbrev pub too-short : ℕ → List ℕ → ℕ → Bool
@@ -93,9 +94,9 @@ pub record Right-text (k s : ℕ) (u moves : List ℕ) : Type 0 where
   pub tree : Expr
   pub typed : Typed k expression u tree
   pub some-letter : 1 ≤ k
-  pub few : k ≤ 16
+  pub few : k ≤ most-letters
   pub states : s ≡ suc (size tree)
-  pub short : size tree ≤ 31
+  pub short : size tree ≤ most-typed
   pub fits : s * k ≤ length moves
 
 -- number j of the moves, from the rows of states and the sets of letters

@@ -3,12 +3,17 @@ ghost use mathlib.Core.Path.{_≡_};
 ghost use Prim.Native.Nat.{_*_, _≤_};
 ghost use lib.Bits.{bitOr};
 ghost use lib.ListN.{length};
+ghost use Rattle.profile.specs.Limits.{most-letters};
 ghost use Rattle.expressions.specs.Positions.{finals-of, when};
 ghost use Rattle.scanner.specs.declared.Scanned.the-variants.{Right};
 ghost use Rattle.scanner.specs.Scan.{scanned};
 ghost use Rattle.expression.specs.Making.{Right-text, filled, made-buffer, making, moves-put};
 use profile::Refusal;
 use profile::Shape;
+use profile::limits::DEEPEST_BRACKETS;
+use profile::limits::MOST_LETTERS;
+use profile::limits::MOST_STATES;
+use profile::limits::MOST_TYPED;
 use scanner::Scanned;
 
 // The answer: the numbers of the profile whose moves stand in the buffer, or why there is none.
@@ -44,10 +49,10 @@ fn write_moves(k: usize, s: usize, text: &[u8], moves: &mut [u32]) -> u32
     requires { ⌜ Right-text k s (now text) (now moves) ⌝ }
     ensures { λ r. ⌜ ((t : Right-text k s (now (text .entry)) (now (moves .entry))) → (r ≡ finals-of (t .tree)) × (now (moves .exit) ≡ moves-put k (t .tree) (now (moves .entry)))) ⌝ }
 {
-    let mut rows = [0u32; 32];
+    let mut rows = [0u32; MOST_STATES];
     let x = walk::expression(text, 0, 1, &mut rows);
     rows[0] = x.first;
-    let mut sets = [0u32; 16];
+    let mut sets = [0u32; MOST_LETTERS];
     scanner::letter_sets(k, text, &mut sets);
     fill(k, s, &rows, &sets, moves);
     with_empty(x.empty, x.last)
@@ -55,14 +60,14 @@ fn write_moves(k: usize, s: usize, text: &[u8], moves: &mut [u32]) -> u32
 
 // The profile of a right text whose brackets go `deepest` deep and that types n letters; refused by 12, 13 and 9.
 fn make_right(k: usize, text: &[u8], deepest: usize, n: usize, moves: &mut [u32]) -> Made
-    requires { ⌜ (1 ≤ k) × (k ≤ 16) × (scanned k (now text) ≡ Right deepest n) ⌝ }
+    requires { ⌜ (1 ≤ k) × (k ≤ most-letters) × (scanned k (now text) ≡ Right deepest n) ⌝ }
     ensures { λ r. ⌜ (r ≡ making k (now (text .entry)) (length (now (moves .entry))))
         × (now (moves .exit) ≡ made-buffer k (now (text .entry)) (now (moves .entry))) ⌝ }
 {
-    if 16 < deepest {
+    if DEEPEST_BRACKETS < deepest {
         return Made::Refused(Refusal::DeepText);
     }
-    if 31 < n {
+    if MOST_TYPED < n {
         return Made::Refused(Refusal::LongText);
     }
     let s = n + 1;
@@ -86,7 +91,7 @@ pub fn make(k: usize, text: &[u8], moves: &mut [u32]) -> Made
     if k < 1 {
         return Made::Refused(Refusal::OutOfRange);
     }
-    if 16 < k {
+    if MOST_LETTERS < k {
         return Made::Refused(Refusal::OutOfRange);
     }
     let scanned = scanner::scan(k, text);

@@ -6,6 +6,7 @@ use Prim.Native.Nat.{ℕ, suc, _+_, _-_, _≤_, max}
 use native.Mathlib.Omega.{arith}
 use lib.Dec.{T, ltb, leb, lt→ltb, leb→le, ltb→lt}
 use borrow.Author.Tests.{le-ltb, ne-eqb}
+use Rattle.profile.specs.Limits.{most-letters}
 use Rattle.profile.specs.Lists.{filter}
 use Rattle.profile.specs.Traces.{letters-below}
 use Rattle.profile.proofs.Lists.{all-append, both, filter-append, filter-no, filter-yes, fst-of, snd-of}
@@ -23,10 +24,10 @@ module _ (k : ℕ) where
   pub letters-no : (c : ℕ) (u : List ℕ) → T (not (letter? k c)) → letters-of k (c ∷ u) ≡ letters-of k u
   letters-no c u t = ap (map (λ c. c - 97)) (filter-no (letter? k) c u t)
 
-  pub letters-bar : k ≤ 16 → (u : List ℕ) → letters-of k (124 ∷ u) ≡ letters-of k u
+  pub letters-bar : k ≤ most-letters → (u : List ℕ) → letters-of k (124 ∷ u) ≡ letters-of k u
   letters-bar h u = letters-no 124 u (subst (λ b. T (not b)) (sym (le-ltb 124 (97 + k) (omega arith))) tt)
 
-  module _ (few : k ≤ 16) where
+  module _ (few : k ≤ most-letters) where
     pub letters-typed : {l : Level} {u : List ℕ} {e : Expr} → Typed k l u e → letters-of k u ≡ leaves e
     letters-typed (t-letter {c = c} t) = letters-yes c [] t
     letters-typed (t-bracket {u = u} t) = letters-append u (41 ∷ []) ∙ (append-nil (letters-of k u) ∙ letters-typed t)

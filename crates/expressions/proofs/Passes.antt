@@ -9,6 +9,7 @@ use native.Mathlib.Omega.{arith}
 use lib.Dec.{T, eqb, eqb→eq}
 use lib.ListN.{length, length-append}
 use borrow.Author.Tests.{le-ltb}
+use Rattle.profile.specs.Limits.{most-letters}
 use Rattle.profile.proofs.Lists.{is-true}
 use Rattle.expressions.specs.Expressions.{Expr, choice, leaf, seq, star}
 use Rattle.expressions.specs.Texts.{Level, Right, Typed, expression, factor, letter?, t-bracket, t-choice, t-factor, t-follow, t-letter, t-sequence, t-star}
@@ -39,10 +40,10 @@ sign-means k c = go (letter? k c) (eqb c 40) (eqb c 41) (eqb c 42) (eqb c 124) (
 pub sign-letter : (k c : ℕ) → T (letter? k c) → sign k c ≡ letter
 sign-letter k c t = rw (is-true (letter? k c) t)
 
-bar-apart : (k : ℕ) → k ≤ 16 → letter? k 124 ≡ false
+bar-apart : (k : ℕ) → k ≤ most-letters → letter? k 124 ≡ false
 bar-apart k h = le-ltb 124 (97 + k) (omega arith)
 
-pub sign-bar : (k : ℕ) → k ≤ 16 → sign k 124 ≡ parts
+pub sign-bar : (k : ℕ) → k ≤ most-letters → sign k 124 ≡ parts
 sign-bar k h = rw (bar-apart k h)
 
 -- ---- a right text is gone through
@@ -67,7 +68,7 @@ module _ (k : ℕ) where
   pub fault-letter : (c : ℕ) (w : Bool) (d : ℕ) (u : List ℕ) → T (letter? k c) → fault-from k w d (c ∷ u) ≡ later (fault-from k false d u)
   fault-letter c w d u t = rw (sign-letter k c t, fault-from)
 
-  pub fault-bar : (d : ℕ) (u : List ℕ) → k ≤ 16 → fault-from k false d (124 ∷ u) ≡ later (fault-from k true d u)
+  pub fault-bar : (d : ℕ) (u : List ℕ) → k ≤ most-letters → fault-from k false d (124 ∷ u) ≡ later (fault-from k true d u)
   fault-bar d u h = rw (sign-bar k h, fault-from)
 
   -- what stands before the rest passes, and leaves a factor behind it
@@ -82,7 +83,7 @@ module _ (k : ℕ) where
       ap (fault-from k w d) (append-assoc u v rest) ∙ (f w d (v ++ rest) ∙ (ap (shift (length u)) (g d rest)
       ∙ (shift-shift (length u) (length v) (fault-from k false d rest) ∙ ap (λ n. shift n (fault-from k false d rest)) (sym (length-append u v)))))
 
-  module _ (few : k ≤ 16) where
+  module _ (few : k ≤ most-letters) where
     pub passes : {l : Level} {u : List ℕ} {e : Expr} → Typed k l u e → (w : Bool) (d : ℕ) (rest : List ℕ) → fault-from k w d (u ++ rest) ≡ shift (length u) (fault-from k false d rest)
     passes (t-letter {c = c} t) w d rest = fault-letter c w d rest t ∙ shift-one (fault-from k false d rest)
     passes (t-bracket {u = u} t) w d rest =
@@ -183,5 +184,5 @@ passed-right k (c ∷ u) w d r a e = go (next (sign k c) w d) refl (passed-right
         (f (s .want) (s .depth) (r ++ (c ∷ [])) (stands-next k c r w d s h a) (later-none (fault-from k (s .want) (s .depth) u) (sym (fault-goes k c w d u s h) ∙ e)))
 
 -- "right text": exactly where the pass finds no place
-pub right-is : (k : ℕ) → k ≤ 16 → (u : List ℕ) → (fault k u ≡ none) ↔ Right k u
+pub right-is : (k : ℕ) → k ≤ most-letters → (u : List ℕ) → (fault k u ≡ none) ↔ Right k u
 right-is k few u = (passed-right k u true 0 [] a-start, right-passes k few)

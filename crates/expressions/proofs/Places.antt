@@ -9,6 +9,7 @@ use native.Mathlib.Omega.{arith}
 use lib.Dec.{lt→ltb}
 use lib.ListN.{length, take, drop, take-append-drop}
 use lib.Seq.{take-all, take-take}
+use Rattle.profile.specs.Limits.{most-letters}
 use Rattle.profile.proofs.Lists.{lt-or-le}
 use Rattle.expressions.specs.Texts.{Begins, Breaks, Right, at-byte, at-end}
 use Rattle.expressions.specs.Passes.{Place, closes, ended, fault, fault-from, later, letter, next, sign}
@@ -71,7 +72,7 @@ module _ (k : ℕ) where
             fixed = λ g v. fault-goes k c w d (take (suc (n .0)) u ++ v) s h ∙ ap later (m .fixed (omega arith) v);
           })
 
-module _ (k : ℕ) (some-letter : 1 ≤ k) (few : k ≤ 16) where
+module _ (k : ℕ) (some-letter : 1 ≤ k) (few : k ≤ most-letters) where
   pub fault-breaks : (u : List ℕ) (i : ℕ) → fault k u ≡ some i → Breaks k u i
   fault-breaks u i e = go (known k u true 0 [] i e) (lt-or-le i (length u))
     where
@@ -109,7 +110,7 @@ not-right {k} {u} {i} (at-byte h b n) r = n (right-begins k (suc i) u r)
 not-right (at-end e b n) r = n r
 
 -- "the place … is that of the first byte that no right text with the same beginning has there, or the text's length if it ends too early"
-pub place-is : (k : ℕ) → 1 ≤ k → k ≤ 16 → (u : List ℕ) (i : ℕ) → (fault k u ≡ some i) ↔ Breaks k u i
+pub place-is : (k : ℕ) → 1 ≤ k → k ≤ most-letters → (u : List ℕ) (i : ℕ) → (fault k u ≡ some i) ↔ Breaks k u i
 place-is k h few u i = (fault-breaks k h few u i, λ b. go b (fault k u) refl)
   where
     go : Breaks k u i → (o : Option ℕ) → fault k u ≡ o → fault k u ≡ some i

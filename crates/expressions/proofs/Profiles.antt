@@ -9,6 +9,7 @@ use lib.Bits.{bitAnd}
 use lib.Dec.{T}
 use lib.ListN.{length, length-map}
 use borrow.Author.Tests.{eq-eqb, le-ltb, lt-leb}
+use Rattle.profile.specs.Limits.{most-letters, most-states, most-typed}
 use Rattle.profile.specs.Lists.{Mem, any, below}
 use Rattle.profile.specs.Refusals.{bit-from, profile-out-of-range, state-bit}
 use Rattle.profile.specs.Traces.{bit}
@@ -62,9 +63,9 @@ module _ (k : ℕ) (masks : List ℕ) (e : Expr) where
       (either (bit-from (suc (size e)) (finals-of e)) (any (bit-from (suc (size e))) (moves-of k e)) t))
 
   -- "k, s or start out of range; … slices … not exactly k and s × k long": none
-  pub in-range : 1 ≤ k → k ≤ 16 → length masks ≡ k → size e ≤ 31 → profile-out-of-range (made k masks e) ≡ false
+  pub in-range : 1 ≤ k → k ≤ most-letters → length masks ≡ k → size e ≤ most-typed → profile-out-of-range (made k masks e) ≡ false
   in-range a b m h =
       ap₂ (λ x y. x || y)
-      (ap₂ (λ x y. x || y) (le-ltb k 1 a) (ap₂ (λ x y. x || not y) (le-ltb 16 k b) (eq-eqb (length masks) k m)))
+      (ap₂ (λ x y. x || y) (le-ltb k 1 a) (ap₂ (λ x y. x || not y) (le-ltb most-letters k b) (eq-eqb (length masks) k m)))
       (ap₂ (λ x y. x || y) (le-ltb (suc (size e)) 1 (omega arith))
-      (ap₂ (λ x y. x || y) (le-ltb 32 (suc (size e)) (omega arith)) (ap₂ (λ x y. x || not y) (lt-leb (suc (size e)) 0 (omega arith)) (eq-eqb (length (moves-of k e)) (suc (size e) * k) (moves-length k e)))))
+      (ap₂ (λ x y. x || y) (le-ltb most-states (suc (size e)) (omega arith)) (ap₂ (λ x y. x || not y) (lt-leb (suc (size e)) 0 (omega arith)) (eq-eqb (length (moves-of k e)) (suc (size e) * k) (moves-length k e)))))

@@ -7,6 +7,7 @@ use mathlib.Core.Option.{Option, Option·none-ne-some, Option·some-injective, n
 use Prim.Native.Nat.{ℕ, _-_, _≤_}
 use lib.Dec.{T}
 use lib.ListN.{length}
+use Rattle.profile.specs.Limits.{most-letters}
 use Rattle.expressions.specs.Expressions.{Expr, choice, leaf}
 use Rattle.expressions.specs.Texts.{Level, Typed, expression, factor, letter?, sequence, t-bracket, t-choice, t-factor, t-follow, t-letter, t-sequence, t-star}
 use Rattle.expressions.specs.Passes.{Place, Sign, closes, fault, fault-from, letter, next, opens, other, parts, repeats, sign}
@@ -29,7 +30,7 @@ joined-choices : (f : Frame) (l : Option Expr) → joined f l .choices ≡ f .ch
 joined-choices f none = refl
 joined-choices f (some e) = refl
 
-module _ (k : ℕ) (few : k ≤ 16) where
+module _ (k : ℕ) (few : k ≤ most-letters) where
   read-letter : (c : ℕ) → T (letter? k c) → Reads k factor (c ∷ []) (leaf (c - 97))
   read-letter c t f l o rest = rw (sign-letter k c t, read)
 
@@ -108,7 +109,7 @@ module _ (k : ℕ) where
           rw (r, read) b
 
   -- the pass finds the expression exactly where the text types it
-  pub tree-is : k ≤ 16 → (u : List ℕ) (e : Expr) → (tree k u ≡ some e) ↔ Typed k expression u e
+  pub tree-is : k ≤ most-letters → (u : List ℕ) (e : Expr) → (tree k u ≡ some e) ↔ Typed k expression u e
   tree-is few u e = (λ h. go h (fault k u) refl, tree-of k few)
     where
       go : tree k u ≡ some e → (o : Option ℕ) → fault k u ≡ o → Typed k expression u e

@@ -7,6 +7,7 @@ use mathlib.Core.Option.{none, some}
 use Prim.Native.Nat.{ℕ, _+_, _*_, _≤_, _<_}
 use native.Mathlib.Omega.{arith}
 use lib.ListN.{length, drop, length-append}
+use Rattle.profile.specs.Limits.{trailer-length}
 use Rattle.profile.specs.Automata.{Profile, profile-of}
 use Rattle.profile.specs.Lists.{flat-map}
 use Rattle.profile.specs.Refusals.{log-refusals, lowest, profile-refusals, short-buffer}
@@ -30,7 +31,7 @@ write-rises p w m = (no-larger 2 _ tt, content-rises)
 -- ---- the answers
 
 -- two bytes for each mask, four for each move, the log, and the trailer
-pub file-length : (p : Profile) (w : List ℕ) → length (file-bytes p w) ≡ 2 * length (p .masks) + (4 * length (p .moves) + (length w + 16))
+pub file-length : (p : Profile) (w : List ℕ) → length (file-bytes p w) ≡ 2 * length (p .masks) + (4 * length (p .moves) + (length w + trailer-length))
 file-length p w =
     let m = flat-map (low-bytes 2) (p .masks) in
     let v = flat-map (low-bytes 4) (p .moves) in

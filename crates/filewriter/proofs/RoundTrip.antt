@@ -12,6 +12,7 @@ use lib.Dec.{eqb, nleb→lt}
 use lib.ListN.{length, getD, take, drop, length-append}
 use lib.Pow.{pow-mono}
 use lib.Seq.{drop-append-add, drop-at, drop-drop, ext-getD, getD-drop, take-at}
+use Rattle.profile.specs.Limits.{finals-byte, letters-byte, log-byte, masks-byte, most-letters, most-moves, moves-byte, start-byte, states-byte, trailer-length}
 use Rattle.profile.specs.Automata.{Profile, profile-of}
 use Rattle.profile.specs.Lists.{Mem, any, below, flat-map}
 use Rattle.profile.specs.Refusals.{bit-from, log-refusals, longest, lowest, profile-out-of-range, profile-refusals, short-buffer}
@@ -57,7 +58,7 @@ numbers-back b x l y small = ext-getD 0 (map g (below (length l))) l (length-ran
 
 -- ---- the trailer of a file of four parts
 
-module _ (m v w t : List ℕ) (sixteen : length t ≡ 16) where
+module _ (m v w t : List ℕ) (sixteen : length t ≡ trailer-length) where
   trailer-eq : trailer (m ++ (v ++ (w ++ t))) ≡ length m + (length v + length w)
   trailer-eq = omega (arith, length-append m (v ++ (w ++ t)), length-append v (w ++ t), length-append w t)
 
@@ -78,7 +79,7 @@ module _ (m v w t : List ℕ) (sixteen : length t ≡ 16) where
 -- ---- what refusals 4 and 6 bound
 
 -- a mask without a bit from k on is below 2 ^ k, so it fits 16 bits
-masks-small : (p : Profile) → lowest (profile-refusals p) ≡ none → p .k ≤ 16 → (m : ℕ) → Mem m (p .masks) → m < 2 ^ 16
+masks-small : (p : Profile) → lowest (profile-refusals p) ≡ none → p .k ≤ most-letters → (m : ℕ) → Mem m (p .masks) → m < 2 ^ 16
 masks-small p e le m i =
     let q = mem-place 0 i in
     let bad : ℕ → Bool = λ j. bit-from (p .k) (getD (p .masks) j 0) || independent (p .masks) j j in
@@ -115,7 +116,7 @@ module _ (p : Profile) (w : List ℕ) (good : lowest (profile-refusals p) ≡ no
   g = profile-at p good
 
   -- the sizes: each is small
-  sizes : (length m ≡ 2 * p .k) × (length v ≡ 4 * (p .s * p .k)) × (p .k ≤ 16) × (p .s * p .k ≤ 512) × (length w ≤ longest)
+  sizes : (length m ≡ 2 * p .k) × (length v ≡ 4 * (p .s * p .k)) × (p .k ≤ most-letters) × (p .s * p .k ≤ most-moves) × (length w ≤ longest)
   sizes =
       let long = g .relation .long in
       let moves-long = g .long in
@@ -135,35 +136,35 @@ module _ (p : Profile) (w : List ℕ) (good : lowest (profile-refusals p) ≡ no
   number-is : (b i : ℕ) → number b f (trailer f + i) ≡ number b (trailer-bytes p w) i
   number-is = number-eq m v w (trailer-bytes p w) refl
 
-  k-is : field f 0 ≡ p .k
+  k-is : field f letters-byte ≡ p .k
   k-is = field-is 0
 
-  area-is : field f 1 * field f 0 ≡ p .s * p .k
+  area-is : field f states-byte * field f letters-byte ≡ p .s * p .k
   area-is = ap₂ (λ s k. s * k) (field-is 1) k-is
 
-  to-masks : distance f 4 ≡ masks-distance p w
+  to-masks : distance f masks-byte ≡ masks-distance p w
   to-masks = let z = sizes in number-is 2 4 ∙ pack-low 2 (masks-distance p w) (omega arith)
 
-  to-moves : distance f 6 ≡ moves-distance p w
+  to-moves : distance f moves-byte ≡ moves-distance p w
   to-moves = let z = sizes in number-is 2 6 ∙ pack-low 2 (moves-distance p w) (omega arith)
 
-  to-log : distance f 8 ≡ length w
+  to-log : distance f log-byte ≡ length w
   to-log = let z = sizes in number-is 2 8 ∙ pack-low 2 (length w) (omega arith)
 
   n-is : log-length f ≡ length w
   n-is = let z = sizes in omega (arith, field-is 3, field-is 10)
 
-  finals-is : word f (trailer f + 12) ≡ p .finals
+  finals-is : word f (trailer f + finals-byte) ≡ p .finals
   finals-is = number-is 4 12 ∙ pack-low 4 (p .finals) (omega (arith, g .finals-inside, pow-mono (g .states .1)))
 
   -- the sections stand one behind the other
-  at-masks : section f 4 ≡ 0
+  at-masks : section f masks-byte ≡ 0
   at-masks = omega (arith, trailer-is, to-masks)
 
-  at-moves : section f 6 ≡ length m
+  at-moves : section f moves-byte ≡ length m
   at-moves = let z = sizes in omega (arith, trailer-is, to-moves)
 
-  at-log : section f 8 ≡ length (m ++ v)
+  at-log : section f log-byte ≡ length (m ++ v)
   at-log = let z = sizes in omega (arith, trailer-is, to-log, length-append m v)
 
   masks-are : file-masks f ≡ p .masks
@@ -182,7 +183,7 @@ module _ (p : Profile) (w : List ℕ) (good : lowest (profile-refusals p) ≡ no
       ∙ take-at w (trailer-bytes p w) (length w) refl
 
   shape-is : file-shape f ≡ shape p
-  shape-is = ap₂ (λ k s. numbered k s (field f 2) (word f (trailer f + 12))) k-is (field-is 1) ∙ ap₂ (numbered (p .k) (p .s)) (field-is 2) finals-is
+  shape-is = ap₂ (λ k s. numbered k s (field f start-byte) (word f (trailer f + finals-byte))) k-is (field-is 1) ∙ ap₂ (numbered (p .k) (p .s)) (field-is 2) finals-is
     where
       numbered : ℕ → ℕ → ℕ → ℕ → Shape
       numbered k s start finals = record { k = k; s = s; start = start; finals = finals }
@@ -202,14 +203,14 @@ module _ (p : Profile) (w : List ℕ) (good : lowest (profile-refusals p) ≡ no
   distances-in =
       let z = sizes in
       let e = trailer-is in
-      let a = within 4 (2 * field f 0) (omega (arith, to-masks, k-is)) (omega (arith, to-masks)) in
-      let b = within 6 (4 * (field f 1 * field f 0)) (omega (arith, to-moves, area-is)) (omega (arith, to-moves)) in
+      let a = within 4 (2 * field f letters-byte) (omega (arith, to-masks, k-is)) (omega (arith, to-masks)) in
+      let b = within 6 (4 * (field f states-byte * field f letters-byte)) (omega (arith, to-moves, area-is)) (omega (arith, to-moves)) in
       let c = within 8 (log-length f) (omega (arith, to-log, n-is)) (omega (arith, to-log)) in
       ap₂ (λ t u. t || u) a (ap₂ (λ t u. t || u) b c)
 
   none-applies : lowest (file-refusals f) ≡ none
   none-applies =
-      let long : short-file f ≡ false = le-ltb (length f) 16 (omega (arith, file-length p w)) in
+      let long : short-file f ≡ false = le-ltb (length f) trailer-length (omega (arith, file-length p w)) in
       let l = content-refusals (file-profile f) (file-log f) in
       ap (λ t. lowest ((t, ShortFile) ∷ (file-out-of-range f, OutOfRange) ∷ (distance-out-of-range f, Distance) ∷ l)) long
       ∙ ap₂ (λ t u. lowest ((t, OutOfRange) ∷ (u, Distance) ∷ l)) in-range distances-in

@@ -5,6 +5,7 @@ use mathlib.Core.List.{List, [], _∷_, _++_}
 use mathlib.Core.Option.{Option, none, some}
 use Prim.Native.Nat.{ℕ, zero, suc, _+_, _*_, _/_, _%_, _≤_, _<_}
 use lib.ListN.{length}
+use Rattle.profile.specs.Limits.{most-letters, most-states}
 use Rattle.profile.specs.Lists.{flat-map}
 use Rattle.profile.specs.Automata.{Profile, profile-of}
 use Rattle.profile.specs.Refusals.{log-refusals, longest, lowest, profile-refusals, short-buffer}
@@ -57,7 +58,7 @@ writing (some r) n = Writing.Refused r
 
 -- what the writer knows of a call that nothing refuses
 pub record Fit (h : Shape) (masks moves w out : List ℕ) : Type 0 where
-  pub letters : (length masks ≡ h .k) × (h .k ≤ 16)
-  pub states : (length moves ≡ h .s * h .k) × (h .s ≤ 32) × (h .start < h .s)
+  pub letters : (length masks ≡ h .k) × (h .k ≤ most-letters)
+  pub states : (length moves ≡ h .s * h .k) × (h .s ≤ most-states) × (h .start < h .s)
   pub log : length w ≤ longest
   pub room : length (file-bytes (profile-of h masks moves) w) ≤ length out

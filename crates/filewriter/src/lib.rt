@@ -10,6 +10,7 @@ ghost use Rattle.filewriter.specs.Written.{Fit, file-bytes, low-bytes, t
 use profile::Check;
 use profile::Refusal;
 use profile::Shape;
+use profile::limits::TRAILER_LENGTH;
 
 // The answer of the writer: why the call is refused, or the file's length.
 pub enum Writing {
@@ -75,7 +76,7 @@ fn put_bytes(bytes: &[u8], out: &mut [u8], at: usize)
 }
 
 // The trailer of a log of n letters, with the distances back to the masks and to the moves.
-fn trailer_bytes(shape: Shape, n: usize, masks: usize, moves: usize) -> [u8; 16]
+fn trailer_bytes(shape: Shape, n: usize, masks: usize, moves: usize) -> [u8; TRAILER_LENGTH]
     requires { ⌜ (shape .k < 256) × (shape .s < 256) × (shape .start < 256) ⌝ }
     ensures { λ r. ⌜ r ≡ trailer-of shape n masks moves ⌝ }
 {
@@ -134,7 +135,7 @@ pub fn write_file(shape: Shape, masks: &[u16], moves: &[u32], log: &[u8], out: &
     if let Check::Bad(r) = of_log {
         return Writing::Refused(r);
     }
-    let size = 2 * masks.len() + 4 * moves.len() + log.len() + 16;
+    let size = 2 * masks.len() + 4 * moves.len() + log.len() + TRAILER_LENGTH;
     if out.len() < size {
         return Writing::Refused(Refusal::ShortBuffer);
     }

@@ -8,6 +8,7 @@ use native.Mathlib.Numerals.{add-one}
 use native.Mathlib.Omega.{arith}
 use lib.ListN.{length, getD, take, drop, length-append, length-map}
 use lib.Seq.{length-take-le, take-all, take-suc}
+use Rattle.profile.specs.Limits.{most-letters}
 use Rattle.profile.specs.Automata.{Profile}
 use Rattle.profile.specs.Lists.{below, filter}
 use Rattle.profile.specs.Prefixes.{addable?, at, prefix-count}
@@ -39,7 +40,7 @@ filter-length q (a ∷ l) =
     ⊎-elim (λ t. omega (arith, ap length (filter-yes q a l t), filter-length q l)) (λ t. omega (arith, ap length (filter-no q a l t), filter-length q l)) (test (q a))
 
 -- at most 16 letters to each
-pairs-few : (p : Profile) (w : List ℕ) → p .k ≤ 16 → (C : List (List ℕ)) → pairs p w C ≤ 16 * length C
+pairs-few : (p : Profile) (w : List ℕ) → p .k ≤ most-letters → (C : List (List ℕ)) → pairs p w C ≤ most-letters * length C
 pairs-few p w few [] = omega arith
 pairs-few p w few (c ∷ C) = omega (
   arith,
@@ -59,12 +60,12 @@ pub record Filling (p : Profile) (w before table : List ℕ) (room t first j n :
   pub come : j ≤ length (of-total p w (suc t))
   pub written : table ≡ begun p w (totals p w (suc t) ++ take j (of-total p w (suc t))) before
   pub paired : n ≡ pairs p w (take j (of-total p w (suc t)))
-  pub sixteen : length cursors ≡ 16
+  pub sixteen : length cursors ≡ most-letters
   pub placed : Placed p w t j cursors
 
 module _ {p : Profile} {w : List ℕ} {m room : ℕ} {starts places : List ℕ} (r : Ready p w m room starts places) {before : List ℕ}
     {t from first : ℕ} (b : Begun p w before room t from first) where
-  pub filling-start : (cursors : List ℕ) → length cursors ≡ 16
+  pub filling-start : (cursors : List ℕ) → length cursors ≡ most-letters
       → Filling p w before before room t first 0 0 (started (p .k) (records-between before from first) cursors)
   filling-start cursors e = record {
     kept = refl;
@@ -129,7 +130,7 @@ module _ {p : Profile} {w : List ℕ} {m room : ℕ} {starts places : List ℕ} 
         more = ap (λ C. totals p w (suc t) ++ C) (take-suc E j [] (s .1)) ∙ sym (append-assoc (totals p w (suc t)) (take j E) (c ∷ []))
 
     -- so the number of pairs fits its type
-    pub filling-few : n ≤ 16 * room
+    pub filling-few : n ≤ most-letters * room
     filling-few = omega (arith, f .paired, f .inside, pairs-few p w (r .profile .relation .most) (take j E), length-take-le j E (f .come))
 
     pub filling-done : (after next : List ℕ) → Steps p w room t first j table after next merged.Nothing → Grows p w room t first before after (total.Put j n)
@@ -168,7 +169,7 @@ module _ {p : Profile} {w : List ℕ} {m room : ℕ} {starts places : List ℕ} 
     next-first = omega (arith, f .begins .before, f .begins .behind, ap length (totals-suc p w t), length-append (totals p w t) (of-total p w t))
 
     -- so the number of pairs fits its type
-    pub reaching-few : n ≤ 16 * room
+    pub reaching-few : n ≤ most-letters * room
     reaching-few = omega (arith, f .paired, f .begins .inside, next-first, pairs-few p w (r .profile .relation .most) (totals p w (suc t)))
 
     pub reaching-full : t < length w → (after : List ℕ) → Grows p w room t first table after total.Full → room < prefix-count (independent (p .masks)) (λ a. a) (p .k) w

@@ -4,6 +4,7 @@ use mathlib.Core.Path.{_≡_}
 use mathlib.Core.List.{List, _++_, map}
 use Prim.Native.Nat.{ℕ, _*_, _≤_, _<_}
 use lib.ListN.{length, drop}
+use Rattle.profile.specs.Limits.{most-records}
 use Rattle.profile.specs.Automata.{Profile}
 use Rattle.profile.specs.Lists.{below}
 use Rattle.profile.specs.Prefixes.{looks, prefix-count}
@@ -20,7 +21,7 @@ pub record Ready (p : Profile) (w : List ℕ) (n room : ℕ) (starts places : Li
   pub profile : GoodProfile p
   pub log : GoodLog (p .k) w
   pub fits : record-length layout * room ≤ n
-  pub few : room ≤ 429496729
+  pub few : room ≤ most-records
   pub starts-placed : starts ≡ map (place-start w) (below (p .k)) ++ drop (p .k) starts
   pub places-placed : places ≡ place-table (p .k) w ++ drop (length (place-table (p .k) w)) places
 

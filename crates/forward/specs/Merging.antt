@@ -4,6 +4,7 @@ use mathlib.Core.List.{List, [], _++_}
 use mathlib.Core.Option.{none, some}
 use Prim.Native.Nat.{ℕ, suc, _+_, _-_, _*_, _≤_, _<_}
 use lib.ListN.{length, getD, take, drop}
+use Rattle.profile.specs.Limits.{most-letters}
 use Rattle.profile.specs.Automata.{Profile}
 use Rattle.profile.specs.Lists.{below, flat-map}
 use Rattle.profile.specs.Prefixes.{at}
@@ -81,7 +82,7 @@ pub record Merging (p : Profile) (w table : List ℕ) (room t from first j : ℕ
   pub inside : first + j ≤ room
   pub come : j ≤ length (of-total p w (suc t))
   pub written : table ≡ begun p w (totals p w (suc t) ++ take j (of-total p w (suc t))) table
-  pub long : 16 ≤ length cursors
+  pub long : most-letters ≤ length cursors
   pub placed : Placed p w t j cursors
 
 abbrev pub Halfway : Profile → List ℕ → List ℕ → Part → ℕ → List ℕ → List ℕ → List ℕ → Type 0

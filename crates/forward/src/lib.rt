@@ -3,6 +3,7 @@ ghost use mathlib.Core.Path.{_≡_};
 ghost use mathlib.Core.List.{[], _∷_, _++_};
 ghost use Prim.Native.Nat.{suc, _+_, _*_, _≤_, _<_};
 ghost use lib.ListN.{length, replicate};
+ghost use Rattle.profile.specs.Limits.{most-letters, most-states};
 ghost use Rattle.profile.specs.Automata.{profile-of};
 ghost use Rattle.profile.specs.Refusals.{longest};
 ghost use Rattle.profile.specs.Tables.{layout, record-length};
@@ -17,6 +18,9 @@ ghost use Rattle.forward.specs.Merging.{Comes, Grows, Halfway, Prepared,
 use counts::Counts;
 use merge::Least;
 use profile::Shape;
+use profile::limits::MOST_LETTERS;
+use profile::limits::MOST_MOVES;
+use profile::limits::Place;
 use records::RECORD;
 
 // The records of all prefixes are put, with the looks; or they do not fit.
@@ -59,11 +63,11 @@ fn put_first(
     table: &mut [u32],
     shape: Shape,
     masks: &[u16],
-    keepers: &[u32; 16],
+    keepers: &[u32; MOST_LETTERS],
     moves: &[u32],
     log: &[u8],
-    starts: &[u16],
-    places: &[u16],
+    starts: &[Place],
+    places: &[Place],
 ) -> u32
     requires { ⌜ now keepers ≡ all-keepers (independent (now masks)) (shape .k) ⌝ }
     requires { ⌜ Ready (profile-of shape (now masks) (now moves)) (now log) (length (now table)) 1 (now starts) (now places) ⌝ }
@@ -84,10 +88,10 @@ fn next_counts(
     k: usize,
     s: usize,
     moves: &[u32],
-    rows: &[u32; 512],
+    rows: &[u32; MOST_MOVES],
     cursors: &mut [usize],
 ) -> Next
-    requires { ⌜ (k ≤ 16) × (s ≤ 32) × (16 ≤ length (now cursors)) ⌝ }
+    requires { ⌜ (k ≤ most-letters) × (s ≤ most-states) × (most-letters ≤ length (now cursors)) ⌝ }
     requires { ⌜ now rows ≡ by-letter k s (now moves) ⌝ }
     ensures { λ r. ⌜ Comes k s (now (moves .entry)) (now (level .entry)) (now (cursors .entry)) (now (cursors .exit)) r ⌝ }
 {
@@ -118,11 +122,11 @@ fn merge_next(
     j: usize,
     masks: &[u16],
     moves: &[u32],
-    rows: &[u32; 512],
-    keepers: &[u32; 16],
+    rows: &[u32; MOST_MOVES],
+    keepers: &[u32; MOST_LETTERS],
     log: &[u8],
-    starts: &[u16],
-    places: &[u16],
+    starts: &[Place],
+    places: &[Place],
     cursors: &mut [usize],
 ) -> Merged
     requires { ⌜ Halfway (profile-of (part .shape) (now masks) (now moves)) (now log) (now table) part j (now cursors) (now starts) (now places) ⌝ }
@@ -151,13 +155,13 @@ fn merge_next(
 }
 
 // The cursor of each letter below k, at the first record of the part to which the letter can be added.
-fn first_cursors(table: &[u32], part: Part, k: usize) -> [usize; 16]
-    requires { ⌜ (k ≤ 16) × (part .from ≤ part .first) × (record-length layout * part .first ≤ length (now table)) ⌝ }
-    ensures { λ r. ⌜ r ≡ started k (records-between (now (table .entry)) (part .from) (part .first)) (replicate 16 0) ⌝ }
+fn first_cursors(table: &[u32], part: Part, k: usize) -> [usize; MOST_LETTERS]
+    requires { ⌜ (k ≤ most-letters) × (part .from ≤ part .first) × (record-length layout * part .first ≤ length (now table)) ⌝ }
+    ensures { λ r. ⌜ r ≡ started k (records-between (now (table .entry)) (part .from) (part .first)) (replicate most-letters 0) ⌝ }
 {
     let start = RECORD * part.from;
     let end = RECORD * part.first;
-    let mut cursors = [0usize; 16];
+    let mut cursors = [0usize; MOST_LETTERS];
     cursors::start_cursors(&table[start..end], k, &mut cursors);
     cursors
 }
@@ -168,11 +172,11 @@ fn fill_total(
     part: Part,
     masks: &[u16],
     moves: &[u32],
-    rows: &[u32; 512],
-    keepers: &[u32; 16],
+    rows: &[u32; MOST_MOVES],
+    keepers: &[u32; MOST_LETTERS],
     log: &[u8],
-    starts: &[u16],
-    places: &[u16],
+    starts: &[Place],
+    places: &[Place],
 ) -> Total
     requires { ⌜ Standing (profile-of (part .shape) (now masks) (now moves)) (now log) (now table) part (now starts) (now places) × Prepared (profile-of (part .shape) (now masks) (now moves)) (now rows) (now keepers) ⌝ }
     ensures { λ r. ⌜ Grows (profile-of (part .shape) (now (masks .entry)) (now (moves .entry))) (now (log .entry)) (part .room) (part .t) (part .first) (now (table .entry)) (now (table .exit)) r ⌝ }
@@ -225,11 +229,11 @@ fn fill_totals(
     number: u32,
     masks: &[u16],
     moves: &[u32],
-    rows: &[u32; 512],
-    keepers: &[u32; 16],
+    rows: &[u32; MOST_MOVES],
+    keepers: &[u32; MOST_LETTERS],
     log: &[u8],
-    starts: &[u16],
-    places: &[u16],
+    starts: &[Place],
+    places: &[Place],
 ) -> Filled
     requires { ⌜ Standing (profile-of (part .shape) (now masks) (now moves)) (now log) (now table) part (now starts) (now places) ⌝ }
     requires { ⌜ ((part .t ≤ length (now log)) × (number ≡ pairs (profile-of (part .shape) (now masks) (now moves)) (now log) (totals (profile-of (part .shape) (now masks) (now moves)) (now log) (suc (part .t))))) × Prepared (profile-of (part .shape) (now masks) (now moves)) (now rows) (now keepers) ⌝ }
@@ -261,8 +265,8 @@ pub fn fill_forward(
     masks: &[u16],
     moves: &[u32],
     log: &[u8],
-    starts: &[u16],
-    places: &[u16],
+    starts: &[Place],
+    places: &[Place],
 ) -> Filled
     requires { ⌜ Ready (profile-of shape (now masks) (now moves)) (now log) (length (now table)) room (now starts) (now places) ⌝ }
     ensures { λ r. ⌜ Forward (profile-of shape (now (masks .entry)) (now (moves .entry))) (now (log .entry)) room (now (table .entry)) (now (table .exit)) r ⌝ }
@@ -272,7 +276,7 @@ pub fn fill_forward(
     }
     let keepers = events::all_keepers(masks, shape.k);
     let number = put_first(table, shape, masks, &keepers, moves, log, starts, places);
-    let mut rows = [0u32; 512];
+    let mut rows = [0u32; MOST_MOVES];
     rows::by_letter(moves, shape.k, shape.s, &mut rows);
     let part = Part {
         shape: shape,

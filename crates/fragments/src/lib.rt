@@ -4,6 +4,7 @@ ghost use mathlib.Core.Path.{_≡_};
 ghost use mathlib.Core.Bool.{_&&_, _||_};
 ghost use Prim.Native.Nat.{_+_, _<_, _≤_};
 ghost use lib.ListN.{drop, length};
+ghost use Rattle.profile.specs.Limits.{most-states};
 ghost use Rattle.expressions.specs.Positions.{when as when-of};
 ghost use Rattle.fragments.specs.Parts.{choice-part-of, letter-part-of, linked, sequence-part-of, starred-part, starred-rows, stars};
 
@@ -36,7 +37,7 @@ fn one_of(a: bool, b: bool) -> bool
 
 // One letter, number n, that ends at `at`.
 pub fn letter_part(at: usize, n: usize) -> Part
-    requires { ⌜ n < 32 ⌝ }
+    requires { ⌜ n < most-states ⌝ }
     ensures { λ r. ⌜ r ≡ letter-part-of at n ⌝ }
 {
     Part {
@@ -76,7 +77,7 @@ pub fn sequence_part(x: Part, y: Part) -> Part
 
 // Every number of `from` may be followed by those of `to`.
 pub fn link(rows: &mut [u32], from: u32, to: u32)
-    requires { ⌜ length (now rows) ≤ 32 ⌝ }
+    requires { ⌜ length (now rows) ≤ most-states ⌝ }
     ensures { λ r. ⌜ now (rows .exit) ≡ linked (now (rows .entry)) from to ⌝ }
 {
     let mut i = 0;
@@ -104,7 +105,7 @@ fn stars_end(text: &[u8], from: usize) -> usize
 
 // The part that ends at `from`, with the stars behind it.
 pub fn starred(text: &[u8], from: usize, x: Part, rows: &mut [u32]) -> Part
-    requires { ⌜ (from ≤ length (now text)) × (length (now rows) ≤ 32) ⌝ }
+    requires { ⌜ (from ≤ length (now text)) × (length (now rows) ≤ most-states) ⌝ }
     ensures { λ r. ⌜ (r ≡ starred-part (stars (drop from (now (text .entry)))) from x)
         × (now (rows .exit) ≡ starred-rows (stars (drop from (now (text .entry)))) x (now (rows .entry))) ⌝ }
 {

@@ -10,6 +10,7 @@ use native.Mathlib.Numerals.{add-one}
 use lib.Dec.{T, eqb, ltb, lt→ltb}
 use lib.ListN.{length, getD, List·getD-append}
 use lib.Seq.{ext-getD}
+use Rattle.profile.specs.Limits.{most-letters}
 use Rattle.profile.specs.Lists.{all, below, filter}
 use Rattle.profile.specs.Prefixes.{IsPrefix, additions, at}
 use Rattle.profile.specs.Refusals.{longest}
@@ -68,7 +69,7 @@ prefix-small may w v h p = all-of (λ n. ltb n (2 ^ layout .width)) v (λ n m.
     let le : n ≤ longest = omega (arith, i .2, p .fits (i .0), count-le may (λ a. a) w (i .0)) in
     lt→ltb n (2 ^ layout .width) (omega arith))
 
-module _ (may : ℕ → ℕ → Bool) (k : ℕ) (w v s p : List ℕ) (short : length w ≤ longest) (few : k ≤ 16) (prefix : IsPrefix may (λ a. a) w (at v)) where
+module _ (may : ℕ → ℕ → Bool) (k : ℕ) (w v s p : List ℕ) (short : length w ≤ longest) (few : k ≤ most-letters) (prefix : IsPrefix may (λ a. a) w (at v)) where
   next-placed : next-by k (map (place-start w) (below k) ++ s) (place-table k w ++ p) (packed layout v) ≡ next-places k w (at v)
   next-placed = ext-getD 0 l (next-places k w (at v)) (len ∙ sym (length-range (λ x. getD (places-of w x) (at v x) 0) k 0)) (λ x h. go x (omega (arith, len)))
     where

@@ -1,9 +1,12 @@
 // The letters that can be added to a prefix, given by its packed counts.
 use counts::Counts;
+use profile::limits::MOST_LETTERS;
+use profile::limits::Place;
 ghost use mathlib.Core.Path.{_≡_};
 ghost use mathlib.Core.List.{_++_};
 ghost use Prim.Native.Nat.{_≤_, _^_};
 ghost use lib.ListN.{length, drop};
+ghost use Rattle.profile.specs.Limits.{most-letters};
 ghost use Rattle.profile.specs.Automata.{union};
 ghost use Rattle.profile.specs.Traces.{independent};
 ghost use Rattle.counts.specs.Counts.{words};
@@ -17,14 +20,14 @@ pub struct Letters {
 }
 
 // Puts the place of the next event of each letter below k.
-fn next_places(c: Counts, k: usize, starts: &[u16], places: &[u16], next: &mut [u16])
-    requires { ⌜ (k ≤ 16) × (k ≤ length (now next)) ⌝ }
+fn next_places(c: Counts, k: usize, starts: &[Place], places: &[Place], next: &mut [Place])
+    requires { ⌜ (k ≤ most-letters) × (k ≤ length (now next)) ⌝ }
     ensures { λ r. ⌜ now (next .exit) ≡ next-by k (now (starts .entry)) (now (places .entry)) (words c) ++ drop k (now (next .entry)) ⌝ }
 {
     let t = counts::numbers(c);
     let mut y = 0;
     while y < k {
-        let n = counts::count_of(&t, y) as u16;
+        let n = counts::count_of(&t, y) as Place;
         next[y] = places::next_place(starts, places, y, n);
         y += 1;
     }
@@ -32,10 +35,10 @@ fn next_places(c: Counts, k: usize, starts: &[u16], places: &[u16], next: &mut [
 
 // k itself. The test shows the compiler, which reads no contract, that it is at most 16: no place is then tested again in the loops over the letters.
 fn bounded(k: usize) -> usize
-    requires { ⌜ k ≤ 16 ⌝ }
+    requires { ⌜ k ≤ most-letters ⌝ }
     ensures { λ r. ⌜ r ≡ k ⌝ }
 {
-    if k < 16 { k } else { 16 }
+    if k < MOST_LETTERS { k } else { MOST_LETTERS }
 }
 
 // The letters below k that can be added to the counts c of a log of n events; `keepers` are the sets of the letters that keep each letter.
@@ -43,18 +46,18 @@ pub fn addable(
     c: Counts,
     k: usize,
     masks: &[u16],
-    keepers: &[u32; 16],
+    keepers: &[u32; MOST_LETTERS],
     n: usize,
-    starts: &[u16],
-    places: &[u16],
+    starts: &[Place],
+    places: &[Place],
 ) -> Letters
-    requires { ⌜ k ≤ 16 ⌝ }
+    requires { ⌜ k ≤ most-letters ⌝ }
     requires { ⌜ now keepers ≡ all-keepers (independent (now masks)) k ⌝ }
     ensures { λ r. ⌜ (r .set ≡ union (λ x. 2 ^ x) (letters-by (independent (now (masks .entry))) k n (now (starts .entry)) (now (places .entry)) (words c)))
         × (r .number ≡ length (letters-by (independent (now (masks .entry))) k n (now (starts .entry)) (now (places .entry)) (words c))) ⌝ }
 {
     let end = bounded(k);
-    let mut next = [0u16; 16];
+    let mut next: [Place; MOST_LETTERS] = [0; MOST_LETTERS];
     next_places(c, end, starts, places, &mut next);
     let mut set = 0u32;
     let mut number = 0u32;

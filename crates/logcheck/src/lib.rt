@@ -4,6 +4,7 @@ ghost use Rattle.profile.specs.Refusals.{checked, log-refusals, lowest};
 ghost use Rattle.profile.specs.Refusals.{bad-place as bad-place-of};
 use profile::Check;
 use profile::Refusal;
+use profile::limits::LONGEST;
 
 // 8: the first place of a log byte of k or more; the log's length where there is none.
 fn bad_place(k: usize, log: &[u8]) -> usize
@@ -24,7 +25,7 @@ fn bad_place(k: usize, log: &[u8]) -> usize
 pub fn check_log(k: usize, log: &[u8]) -> Check
     ensures { λ r. ⌜ checked r ≡ lowest (log-refusals k (now (log .entry))) ⌝ }
 {
-    if 4000 < log.len() {
+    if LONGEST < log.len() {
         return Check::Bad(Refusal::LongLog);
     }
     let at = bad_place(k, log);

@@ -8,6 +8,7 @@ use Prim.Native.Nat.{ℕ, _+_, _*_, _≤_, _<_}
 use native.Mathlib.Omega.{arith}
 use lib.Dec.{T, leb, leb→le}
 use lib.ListN.{length, drop}
+use Rattle.profile.specs.Limits.{letters-byte, masks-byte, moves-byte, states-byte}
 use Rattle.profile.specs.Lists.{Mem, all}
 use Rattle.profile.specs.Refusals.{lowest, refusal-number, short-buffer}
 use Rattle.profile.specs.declared.Refusal.{Refusal}
@@ -47,20 +48,20 @@ module _ (f : List ℕ) (a b : ℕ) (good : lowest (file-refusals f) ≡ none) w
   read-room : read-refusal f a b ≡ room (short-buffers f a b)
   read-room = lowest-append (file-refusals f) ((short-buffers f a b, ShortBuffer) ∷ []) good
 
-  pub masks-short : a < field f 0 → read-refusal f a b ≡ some ShortBuffer
+  pub masks-short : a < field f letters-byte → read-refusal f a b ≡ some ShortBuffer
   masks-short h =
-      let e : a < length (file-masks f) = omega (arith, numbers-length 2 f (section f 4) (field f 0)) in
+      let e : a < length (file-masks f) = omega (arith, numbers-length 2 f (section f masks-byte) (field f letters-byte)) in
       read-room ∙ ap (λ t. room (t || short-buffer b (file-moves f))) (lt-ltb a (length (file-masks f)) e)
 
-  pub moves-short : b < field f 1 * field f 0 → read-refusal f a b ≡ some ShortBuffer
+  pub moves-short : b < field f states-byte * field f letters-byte → read-refusal f a b ≡ some ShortBuffer
   moves-short h =
-      let e : b < length (file-moves f) = omega (arith, numbers-length 4 f (section f 6) (field f 1 * field f 0)) in
+      let e : b < length (file-moves f) = omega (arith, numbers-length 4 f (section f moves-byte) (field f states-byte * field f letters-byte)) in
       read-room ∙ ap room (ap (λ t. short-buffer a (file-masks f) || t) (lt-ltb b (length (file-moves f)) e) ∙ or-true (short-buffer a (file-masks f)))
 
-  pub buffers-long : field f 0 ≤ a → field f 1 * field f 0 ≤ b → read-refusal f a b ≡ none
+  pub buffers-long : field f letters-byte ≤ a → field f states-byte * field f letters-byte ≤ b → read-refusal f a b ≡ none
   buffers-long h k =
-      let e : length (file-masks f) ≤ a = omega (arith, numbers-length 2 f (section f 4) (field f 0)) in
-      let d : length (file-moves f) ≤ b = omega (arith, numbers-length 4 f (section f 6) (field f 1 * field f 0)) in
+      let e : length (file-masks f) ≤ a = omega (arith, numbers-length 2 f (section f masks-byte) (field f letters-byte)) in
+      let d : length (file-moves f) ≤ b = omega (arith, numbers-length 4 f (section f moves-byte) (field f states-byte * field f letters-byte)) in
       read-room ∙ ap₂ (λ t u. room (t || u)) (le-ltb a (length (file-masks f)) e) (le-ltb b (length (file-moves f)) d)
 
 module _ (f masks moves : List ℕ) where

@@ -10,6 +10,7 @@ use native.Mathlib.Omega.{arith}
 use lib.Dec.{eqb, leb, ltb}
 use lib.ListN.{length, take, drop}
 use lib.Seq.{take-at}
+use Rattle.profile.specs.Limits.{letters-byte, log-byte, masks-byte, most-letters, most-moves, most-states, moves-byte, start-byte, states-byte, zero-byte}
 use Rattle.profile.specs.Automata.{Profile}
 use Rattle.profile.specs.Refusals.{log-refusals, lowest, mask-bit, profile-out-of-range, profile-refusals, state-bit}
 use Rattle.profile.specs.declared.Shape.{Shape}
@@ -20,13 +21,13 @@ use Rattle.logfile.specs.Files.{content-refusals, distance, distance-out
 use Rattle.logfile.proofs.Bytes.{numbers-length}
 
 -- a file's masks and moves are as many as they must be: its profile is in range where its numbers are
-pub range-eq : (f : List ℕ) → profile-out-of-range (file-profile f) ≡ numbers-out-of-range (field f 0) (field f 1) (field f 2)
+pub range-eq : (f : List ℕ) → profile-out-of-range (file-profile f) ≡ numbers-out-of-range (field f letters-byte) (field f states-byte) (field f start-byte)
 range-eq f =
-    let k = field f 0 in
-    let s = field f 1 in
-    let start = field f 2 in
-    ap₂ (λ a b. (ltb k 1 || (ltb 16 k || not a)) || (ltb s 1 || (ltb 32 s || (leb s start || not b))))
-    (eq-eqb (length (file-masks f)) k (numbers-length 2 f (section f 4) k)) (eq-eqb (length (file-moves f)) (s * k) (numbers-length 4 f (section f 6) (s * k)))
+    let k = field f letters-byte in
+    let s = field f states-byte in
+    let start = field f start-byte in
+    ap₂ (λ a b. (ltb k 1 || (ltb most-letters k || not a)) || (ltb s 1 || (ltb most-states s || (leb s start || not b))))
+    (eq-eqb (length (file-masks f)) k (numbers-length 2 f (section f masks-byte) k)) (eq-eqb (length (file-moves f)) (s * k) (numbers-length 4 f (section f moves-byte) (s * k)))
     ∙ simp (or-false, or-assoc)
 
 -- neither test holds
@@ -34,17 +35,17 @@ pub neither : (a b : Bool) → (a || b) ≡ false → (a ≡ false) × (b ≡ fa
 neither true b e = absurd (true≢false e)
 neither false b e = (refl, e)
 
-pub numbers-in : (f : List ℕ) → file-out-of-range f ≡ false → (field f 0 ≤ 16) × (field f 1 ≤ 32)
+pub numbers-in : (f : List ℕ) → file-out-of-range f ≡ false → (field f letters-byte ≤ most-letters) × (field f states-byte ≤ most-states)
 numbers-in f e =
-    let k = field f 0 in
-    let s = field f 1 in
-    let start = field f 2 in
-    let n₁ = neither (profile-out-of-range (file-profile f)) (not (eqb (field f 11) 0)) e in
-    let n₂ = neither (ltb k 1) (ltb 16 k || (ltb s 1 || (ltb 32 s || leb s start))) (sym (range-eq f) ∙ n₁ .0) in
-    let n₃ = neither (ltb 16 k) (ltb s 1 || (ltb 32 s || leb s start)) (n₂ .1) in
-    let n₄ = neither (ltb s 1) (ltb 32 s || leb s start) (n₃ .1) in
-    let n₅ = neither (ltb 32 s) (leb s start) (n₄ .1) in
-    (ltb-false 16 k (n₃ .0), ltb-false 32 s (n₅ .0))
+    let k = field f letters-byte in
+    let s = field f states-byte in
+    let start = field f start-byte in
+    let n₁ = neither (profile-out-of-range (file-profile f)) (not (eqb (field f zero-byte) 0)) e in
+    let n₂ = neither (ltb k 1) (ltb most-letters k || (ltb s 1 || (ltb most-states s || leb s start))) (sym (range-eq f) ∙ n₁ .0) in
+    let n₃ = neither (ltb most-letters k) (ltb s 1 || (ltb most-states s || leb s start)) (n₂ .1) in
+    let n₄ = neither (ltb s 1) (ltb most-states s || leb s start) (n₃ .1) in
+    let n₅ = neither (ltb most-states s) (leb s start) (n₄ .1) in
+    (ltb-false most-letters k (n₃ .0), ltb-false most-states s (n₅ .0))
 
 -- a section whose distance is in its range ends before the trailer
 section-in : (f : List ℕ) (i size : ℕ) → outside f i size ≡ false → section f i + size ≤ trailer f
@@ -53,17 +54,17 @@ section-in f i size e =
     omega (arith, ltb-false (distance f i) size (n .0), ltb-false (trailer f) (distance f i) (n .1))
 
 pub record Inside (f : List ℕ) : Type 0 where
-  pub masks : section f 4 + 2 * field f 0 ≤ trailer f
-  pub moves : section f 6 + 4 * (field f 1 * field f 0) ≤ trailer f
-  pub log : section f 8 + log-length f ≤ trailer f
+  pub masks : section f masks-byte + 2 * field f letters-byte ≤ trailer f
+  pub moves : section f moves-byte + 4 * (field f states-byte * field f letters-byte) ≤ trailer f
+  pub log : section f log-byte + log-length f ≤ trailer f
 
 pub inside : (f : List ℕ) → distance-out-of-range f ≡ false → Inside f
 inside f e =
-    let k = field f 0 in
-    let m = 4 * (field f 1 * k) in
+    let k = field f letters-byte in
+    let m = 4 * (field f states-byte * k) in
     let n = log-length f in
-    let n₁ = neither (outside f 4 (2 * k)) (outside f 6 m || outside f 8 n) e in
-    let n₂ = neither (outside f 6 m) (outside f 8 n) (n₁ .1) in
+    let n₁ = neither (outside f masks-byte (2 * k)) (outside f moves-byte m || outside f log-byte n) e in
+    let n₂ = neither (outside f moves-byte m) (outside f log-byte n) (n₁ .1) in
     record { masks = section-in f 4 (2 * k) (n₁ .0); moves = section-in f 6 m (n₂ .0); log = section-in f 8 n (n₂ .1) }
 
 -- ---- a file whose sections are found
@@ -85,13 +86,13 @@ pub content-profile : (f w : List ℕ) {r : Refusal} → file-out-of-range f ≡
     → lowest (content-refusals (file-profile f) w) ≡ some r
 content-profile f w e h =
     let p = file-profile f in
-    lowest-first (structure-refusals p) (log-refusals (p .k) w) (sym (past-range p (neither (profile-out-of-range p) (not (eqb (field f 11) 0)) e .0)) ∙ h)
+    lowest-first (structure-refusals p) (log-refusals (p .k) w) (sym (past-range p (neither (profile-out-of-range p) (not (eqb (field f zero-byte) 0)) e .0)) ∙ h)
 
 pub content-log : (f w : List ℕ) → file-out-of-range f ≡ false → lowest (profile-refusals (file-profile f)) ≡ none
-    → lowest (content-refusals (file-profile f) w) ≡ lowest (log-refusals (field f 0) w)
+    → lowest (content-refusals (file-profile f) w) ≡ lowest (log-refusals (field f letters-byte) w)
 content-log f w e h =
     let p = file-profile f in
-    lowest-append (structure-refusals p) (log-refusals (p .k) w) (sym (past-range p (neither (profile-out-of-range p) (not (eqb (field f 11) 0)) e .0)) ∙ h)
+    lowest-append (structure-refusals p) (log-refusals (p .k) w) (sym (past-range p (neither (profile-out-of-range p) (not (eqb (field f zero-byte) 0)) e .0)) ∙ h)
 
 -- ---- masks, moves and log by the numbers that the code found
 
@@ -103,14 +104,14 @@ numbers-put b f l {i = i} {m = m} p q = ap₂ (λ at n. numbers-from b f at n ++
 pub first-part : (v l m : List ℕ) {n : ℕ} → m ≡ v ++ drop (length v) l → length v ≡ n → take (n - 0) (drop 0 m) ≡ v
 first-part v l m {n} e h = let z : n - 0 ≡ n = omega arith in ap₂ take z e ∙ take-at v (drop (length v) l) n h
 
-pub log-found : (f : List ℕ) {at n : ℕ} → at ≡ section f 8 → n ≡ log-length f → take (at + n - at) (drop at f) ≡ file-log f
+pub log-found : (f : List ℕ) {at n : ℕ} → at ≡ section f log-byte → n ≡ log-length f → take (at + n - at) (drop at f) ≡ file-log f
 log-found f {at} {n} p q = let e : at + n - at ≡ log-length f = omega arith in ap₂ (λ m i. take m (drop i f)) e p
 
-pub log-inside : (f : List ℕ) {at n : ℕ} → at ≡ section f 8 → n ≡ log-length f → distance-out-of-range f ≡ false → at + n ≤ length f
+pub log-inside : (f : List ℕ) {at n : ℕ} → at ≡ section f log-byte → n ≡ log-length f → distance-out-of-range f ≡ false → at + n ≤ length f
 log-inside f p q e = omega (arith, inside f e .log)
 
 pub shape-known : (f : List ℕ) {h : Shape} → h ≡ file-shape f → file-out-of-range f ≡ false
-    → (h .k ≡ field f 0) × (h .s * h .k ≡ field f 1 * field f 0) × (h .k ≤ 16) × (h .s * h .k ≤ 512)
+    → (h .k ≡ field f letters-byte) × (h .s * h .k ≡ field f states-byte * field f letters-byte) × (h .k ≤ most-letters) × (h .s * h .k ≤ most-moves)
 shape-known f {h} p e =
     let n = numbers-in f e in
     let k = ap (λ (h : Shape). h .k) p in

@@ -5,6 +5,7 @@ use mathlib.Core.Option.{Option, none, some}
 use Prim.Native.Nat.{ℕ, _+_, _-_, _*_}
 use lib.Dec.{eqb, leb, ltb}
 use lib.ListN.{length, getD, take, drop}
+use Rattle.profile.specs.Limits.{finals-byte, length-byte, length-high-byte, letters-byte, log-byte, masks-byte, most-letters, most-states, moves-byte, start-byte, states-byte, trailer-length, zero-byte}
 use Rattle.profile.specs.Lists.{below}
 use Rattle.profile.specs.Automata.{Profile, profile-of}
 use Rattle.profile.specs.Tables.{pack}
@@ -29,7 +30,7 @@ word f i = number 4 f i
 
 -- "a 16-byte trailer at the very end": where it begins
 abbrev pub trailer : List ℕ → ℕ
-trailer f = length f - 16
+trailer f = length f - trailer-length
 
 -- "Trailer byte" i
 abbrev pub field : List ℕ → ℕ → ℕ
@@ -37,11 +38,11 @@ field f i = getD f (trailer f + i) 0
 
 -- "k, s, start state, log length n", and "final set"
 abbrev pub file-shape : List ℕ → Shape
-file-shape f = record { k = field f 0; s = field f 1; start = field f 2; finals = word f (trailer f + 12) }
+file-shape f = record { k = field f letters-byte; s = field f states-byte; start = field f start-byte; finals = word f (trailer f + finals-byte) }
 
 -- "Trailer byte 10 becomes the high byte of n"
 abbrev pub log-length : List ℕ → ℕ
-log-length f = field f 3 + 256 * field f 10
+log-length f = field f length-byte + 256 * field f length-high-byte
 
 -- "distance back from trailer start", at trailer byte i, and where its section begins
 abbrev pub distance : List ℕ → ℕ → ℕ
@@ -56,13 +57,13 @@ numbers-from b f i n = map (λ j. number b f (i + b * j)) (below n)
 
 -- "the masks (2k bytes)", "the moves (4 × s × k bytes)", "the log (n bytes)"
 abbrev pub file-masks : List ℕ → List ℕ
-file-masks f = numbers-from 2 f (section f 4) (field f 0)
+file-masks f = numbers-from 2 f (section f masks-byte) (field f letters-byte)
 
 abbrev pub file-moves : List ℕ → List ℕ
-file-moves f = numbers-from 4 f (section f 6) (field f 1 * field f 0)
+file-moves f = numbers-from 4 f (section f moves-byte) (field f states-byte * field f letters-byte)
 
 abbrev pub file-log : List ℕ → List ℕ
-file-log f = take (log-length f) (drop (section f 8) f)
+file-log f = take (log-length f) (drop (section f log-byte) f)
 
 -- the profile of a file
 abbrev pub file-profile : List ℕ → Profile
@@ -70,22 +71,22 @@ file-profile f = profile-of (file-shape f) (file-masks f) (file-moves f)
 
 -- 1: "File under 16 bytes"
 abbrev pub short-file : List ℕ → Bool
-short-file f = ltb (length f) 16
+short-file f = ltb (length f) trailer-length
 
 -- 2, of the numbers: "k, s or start out of range"
 abbrev pub numbers-out-of-range : ℕ → ℕ → ℕ → Bool
-numbers-out-of-range k s start = ltb k 1 || (ltb 16 k || (ltb s 1 || (ltb 32 s || leb s start)))
+numbers-out-of-range k s start = ltb k 1 || (ltb most-letters k || (ltb s 1 || (ltb most-states s || leb s start)))
 
 -- 2: "k, s or start out of range"; "byte 11 stays zero"
 abbrev pub file-out-of-range : List ℕ → Bool
-file-out-of-range f = profile-out-of-range (file-profile f) || not (eqb (field f 11) 0)
+file-out-of-range f = profile-out-of-range (file-profile f) || not (eqb (field f zero-byte) 0)
 
 -- 3: "A distance out of its range": not "at least its section's size and at most the trailer's own offset"
 abbrev pub outside : List ℕ → ℕ → ℕ → Bool
 outside f i size = ltb (distance f i) size || ltb (trailer f) (distance f i)
 
 abbrev pub distance-out-of-range : List ℕ → Bool
-distance-out-of-range f = outside f 4 (2 * field f 0) || (outside f 6 (4 * (field f 1 * field f 0)) || outside f 8 (log-length f))
+distance-out-of-range f = outside f masks-byte (2 * field f letters-byte) || (outside f moves-byte (4 * (field f states-byte * field f letters-byte)) || outside f log-byte (log-length f))
 
 -- the conditions of a file, by rising number, of its content and in all; 7 "applies to files too, before 8"
 abbrev pub content-refusals : Profile → List ℕ → List (Bool × Refusal)
@@ -126,7 +127,7 @@ located none i n = At i n
 located (some r) i n = Located.Refused r
 
 abbrev pub log-location : List ℕ → Located
-log-location f = located (lowest (file-refusals f)) (section f 8) (log-length f)
+log-location f = located (lowest (file-refusals f)) (section f log-byte) (log-length f)
 
 -- "handed back as that part of the file"; "A file refused by 1 to 8 hands back an empty part"
 abbrev pub log-part-of : List ℕ → List ℕ

@@ -4,11 +4,26 @@ ghost use mathlib.Core.Bool.{false};
 ghost use mathlib.Core.List.{_++_};
 ghost use Prim.Native.Nat.{_+_, _*_, _≤_};
 ghost use lib.ListN.{length, getD, drop};
+ghost use Rattle.profile.specs.Limits.{finals-byte};
 ghost use Rattle.profile.specs.Refusals.{checked, lowest};
 ghost use Rattle.logfile.specs.Files.{content-refusals, distance-out-of-range, field, file-log, file-masks, file-moves, file-out-of-range, file-profile, file-refusals, file-shape, filled, half, log-length, log-location, log-part-of, numbers-from, numbers-out-of-range, outside, read-refusal, reading, section, trailer, word};
 use profile::Check;
 use profile::Refusal;
 use profile::Shape;
+use profile::limits::FINALS_BYTE;
+use profile::limits::LENGTH_BYTE;
+use profile::limits::LENGTH_HIGH_BYTE;
+use profile::limits::LETTERS_BYTE;
+use profile::limits::LOG_BYTE;
+use profile::limits::MASKS_BYTE;
+use profile::limits::MOST_LETTERS;
+use profile::limits::MOST_MOVES;
+use profile::limits::MOST_STATES;
+use profile::limits::MOVES_BYTE;
+use profile::limits::START_BYTE;
+use profile::limits::STATES_BYTE;
+use profile::limits::TRAILER_LENGTH;
+use profile::limits::ZERO_BYTE;
 
 // Where the log section of a file stands: why the file is refused, or the section's first place and its length.
 pub enum Located {
@@ -57,15 +72,15 @@ fn word_at(f: &[u8], i: usize) -> u32
 fn trailer_at(f: &[u8]) -> usize
     ensures { λ r. ⌜ r ≡ trailer (now (f .entry)) ⌝ }
 {
-    if f.len() < 16 {
+    if f.len() < TRAILER_LENGTH {
         return 0;
     }
-    f.len() - 16
+    f.len() - TRAILER_LENGTH
 }
 
 // Trailer byte i.
 fn field_at(f: &[u8], i: usize) -> usize
-    requires { ⌜ i ≤ 12 ⌝ }
+    requires { ⌜ i ≤ finals-byte ⌝ }
     ensures { λ r. ⌜ r ≡ field (now (f .entry)) i ⌝ }
 {
     let end = trailer_at(f);
@@ -77,8 +92,8 @@ fn length_at(f: &[u8]) -> usize
     ensures { λ r. ⌜ r ≡ log-length (now (f .entry)) ⌝ }
 {
     let end = trailer_at(f);
-    let low = byte_at(f, end + 3) as usize;
-    let high = byte_at(f, end + 10) as usize;
+    let low = byte_at(f, end + LENGTH_BYTE) as usize;
+    let high = byte_at(f, end + LENGTH_HIGH_BYTE) as usize;
     low + 256 * high
 }
 
@@ -86,11 +101,11 @@ fn length_at(f: &[u8]) -> usize
 fn shape_of(f: &[u8]) -> Shape
     ensures { λ r. ⌜ r ≡ file-shape (now (f .entry)) ⌝ }
 {
-    let k = field_at(f, 0);
-    let s = field_at(f, 1);
-    let start = field_at(f, 2);
+    let k = field_at(f, LETTERS_BYTE);
+    let s = field_at(f, STATES_BYTE);
+    let start = field_at(f, START_BYTE);
     let end = trailer_at(f);
-    let finals = word_at(f, end + 12);
+    let finals = word_at(f, end + FINALS_BYTE);
     Shape {
         k: k,
         s: s,
@@ -101,7 +116,7 @@ fn shape_of(f: &[u8]) -> Shape
 
 // The number of two bytes at trailer byte i.
 fn trailer_half(f: &[u8], i: usize) -> usize
-    requires { ⌜ i ≤ 12 ⌝ }
+    requires { ⌜ i ≤ finals-byte ⌝ }
     ensures { λ r. ⌜ r ≡ half (now (f .entry)) (trailer (now (f .entry)) + i) ⌝ }
 {
     let end = trailer_at(f);
@@ -110,7 +125,7 @@ fn trailer_half(f: &[u8], i: usize) -> usize
 
 // Where the section begins whose distance stands at trailer byte i.
 fn section_at(f: &[u8], i: usize) -> usize
-    requires { ⌜ i ≤ 12 ⌝ }
+    requires { ⌜ i ≤ finals-byte ⌝ }
     ensures { λ r. ⌜ r ≡ section (now (f .entry)) i ⌝ }
 {
     let end = trailer_at(f);
@@ -128,13 +143,13 @@ fn numbers_refused(k: usize, s: usize, start: usize) -> bool
     if k < 1 {
         return true;
     }
-    if 16 < k {
+    if MOST_LETTERS < k {
         return true;
     }
     if s < 1 {
         return true;
     }
-    if 32 < s {
+    if MOST_STATES < s {
         return true;
     }
     s <= start
@@ -144,18 +159,18 @@ fn numbers_refused(k: usize, s: usize, start: usize) -> bool
 fn range_refused(f: &[u8]) -> bool
     ensures { λ r. ⌜ r ≡ file-out-of-range (now (f .entry)) ⌝ }
 {
-    let k = field_at(f, 0);
-    let s = field_at(f, 1);
-    let start = field_at(f, 2);
+    let k = field_at(f, LETTERS_BYTE);
+    let s = field_at(f, STATES_BYTE);
+    let start = field_at(f, START_BYTE);
     if numbers_refused(k, s, start) {
         return true;
     }
-    field_at(f, 11) != 0
+    field_at(f, ZERO_BYTE) != 0
 }
 
 // 3, of the distance at trailer byte i: below its section's size, or above the trailer's own offset.
 fn outside_at(f: &[u8], i: usize, size: usize) -> bool
-    requires { ⌜ i ≤ 12 ⌝ }
+    requires { ⌜ i ≤ finals-byte ⌝ }
     ensures { λ r. ⌜ r ≡ outside (now (f .entry)) i size ⌝ }
 {
     let back = trailer_half(f, i);
@@ -170,16 +185,16 @@ fn distance_refused(f: &[u8]) -> bool
     requires { ⌜ file-out-of-range (now f) ≡ false ⌝ }
     ensures { λ r. ⌜ r ≡ distance-out-of-range (now (f .entry)) ⌝ }
 {
-    let k = field_at(f, 0);
-    let s = field_at(f, 1);
+    let k = field_at(f, LETTERS_BYTE);
+    let s = field_at(f, STATES_BYTE);
     let n = length_at(f);
-    if outside_at(f, 4, 2 * k) {
+    if outside_at(f, MASKS_BYTE, 2 * k) {
         return true;
     }
-    if outside_at(f, 6, 4 * (s * k)) {
+    if outside_at(f, MOVES_BYTE, 4 * (s * k)) {
         return true;
     }
-    outside_at(f, 8, n)
+    outside_at(f, LOG_BYTE, n)
 }
 
 // Puts the k masks that stand from place `at` on.
@@ -215,15 +230,15 @@ fn check_content(f: &[u8]) -> Check
     let k = shape.k;
     let s = shape.s;
     let count = s * k;
-    let mut masks = [0u16; 16];
-    let mut moves = [0u32; 512];
-    fill_masks(f, section_at(f, 4), k, &mut masks);
-    fill_moves(f, section_at(f, 6), count, &mut moves);
+    let mut masks = [0u16; MOST_LETTERS];
+    let mut moves = [0u32; MOST_MOVES];
+    fill_masks(f, section_at(f, MASKS_BYTE), k, &mut masks);
+    fill_moves(f, section_at(f, MOVES_BYTE), count, &mut moves);
     let of_profile = checks::check_profile(shape, &masks[0..k], &moves[0..count]);
     if let Check::Bad(r) = of_profile {
         return Check::Bad(r);
     }
-    let from = section_at(f, 8);
+    let from = section_at(f, LOG_BYTE);
     let end = from + length_at(f);
     logcheck::check_log(k, &f[from..end])
 }
@@ -232,7 +247,7 @@ fn check_content(f: &[u8]) -> Check
 fn check_file(f: &[u8]) -> Check
     ensures { λ r. ⌜ checked r ≡ lowest (file-refusals (now (f .entry))) ⌝ }
 {
-    if f.len() < 16 {
+    if f.len() < TRAILER_LENGTH {
         return Check::Bad(Refusal::ShortFile);
     }
     if range_refused(f) {
@@ -252,7 +267,7 @@ pub fn locate_log(file: &[u8]) -> Located
     if let Check::Bad(r) = check {
         return Located::Refused(r);
     }
-    Located::At(section_at(file, 8), length_at(file))
+    Located::At(section_at(file, LOG_BYTE), length_at(file))
 }
 
 // The log section as that part of the file, uncopied; empty where the file is refused by 1 to 8.
@@ -263,7 +278,7 @@ pub fn log_part(file: &[u8]) -> &[u8]
     if let Check::Bad(_) = check {
         return &file[0..0];
     }
-    let from = section_at(file, 8);
+    let from = section_at(file, LOG_BYTE);
     let end = from + length_at(file);
     &file[from..end]
 }
@@ -288,7 +303,7 @@ pub fn read_file(file: &[u8], masks: &mut [u16], moves: &mut [u32]) -> Reading
     if moves.len() < count {
         return Reading::Refused(Refusal::ShortBuffer);
     }
-    fill_masks(file, section_at(file, 4), k, masks);
-    fill_moves(file, section_at(file, 6), count, moves);
+    fill_masks(file, section_at(file, MASKS_BYTE), k, masks);
+    fill_moves(file, section_at(file, MOVES_BYTE), count, moves);
     Reading::Told(shape, length_at(file))
 }

@@ -12,6 +12,7 @@ use borrow.Author.Tests.{le-ltb, lt-ltb}
 use lib.Bits.{bitOr, or-zero-l}
 use lib.Dec.{T, not-T}
 use lib.ListN.{length, getD, length-set}
+use Rattle.profile.specs.Limits.{most-letters}
 use Rattle.profile.specs.Lists.{Mem, below, equal?, filter, flat-map}
 use Rattle.profile.specs.Orders.{NoLater, no-later?}
 use Rattle.profile.specs.Traces.{bit}
@@ -40,7 +41,7 @@ module _ (f g : List ℕ → ℕ) (C : List (List ℕ)) (t : List ℕ) (drafts :
     candidate-end le = ap (λ b. cond b (some (grown t (at cs x) x)) none) (le-ltb (at cs x) (records-in t) (omega (arith, level-records f g C t drafts)))
 
     -- the counts at the cursor have a letter x, and one more keeps each count in its bits
-    module _ (lt : at cs x < length C) (h : x < length (getD C (at cs x) [])) (few : length (getD C (at cs x) []) ≤ 16)
+    module _ (lt : at cs x < length C) (h : x < length (getD C (at cs x) [])) (few : length (getD C (at cs x) []) ≤ most-letters)
         (small : Small layout (bump (getD C (at cs x) []) x)) where
       given : grown t (at cs x) x ≡ packed layout (bump (getD C (at cs x) []) x)
       given =
@@ -64,7 +65,7 @@ module _ (f g : List ℕ → ℕ) (C : List (List ℕ)) (t : List ℕ) (drafts :
       ap₂ better (level-least-none cs k (λ x lt. over x (omega arith))) (candidate-end cs k (over k (omega arith)))
 
   -- ---- the counts of C have k letters, and so have the counts e
-  module _ (k : ℕ) (few : k ≤ 16) (sizes : (c : List ℕ) → Mem c C → length c ≡ k) (cs : List ℕ)
+  module _ (k : ℕ) (few : k ≤ most-letters) (sizes : (c : List ℕ) → Mem c C → length c ≡ k) (cs : List ℕ)
       (stands : (x : ℕ) → x < k → at cs x < length C → Small layout (bump (getD C (at cs x) []) x)) (e : List ℕ) (size : length e ≡ k)
       (small : Small layout e) where
     size-at : (x : ℕ) → at cs x < length C → length (getD C (at cs x) []) ≡ k

@@ -3,11 +3,13 @@ ghost use mathlib.Core.Path.{_≡_};
 ghost use mathlib.Core.Option.{some};
 ghost use Prim.Native.Nat.{_≤_, _<_};
 ghost use lib.ListN.{length};
+ghost use Rattle.profile.specs.Limits.{most-letters, most-states};
 ghost use Rattle.counts.specs.Counts.{words};
 ghost use Rattle.rows.specs.Rows.{by-letter};
 ghost use Rattle.cursors.specs.Cursors.{Given};
 ghost use Rattle.merge.specs.Merge.{better, candidate, givers, joined, least-letters, least-of, least-words, united};
 use counts::Counts;
+use profile::limits::MOST_MOVES;
 
 // The least counts that a cursor gives, and the letters whose cursors give them; none where every cursor is at the end.
 pub enum Least {
@@ -50,7 +52,7 @@ fn with_cursor(level: &[u32], j: usize, x: usize, best: Least) -> Least
 
 // The least counts that the cursors of the letters below k give, and these letters.
 pub fn least_counts(level: &[u32], k: usize, cursors: &[usize]) -> Least
-    requires { ⌜ (k ≤ 16) × (k ≤ length (now cursors)) ⌝ }
+    requires { ⌜ (k ≤ most-letters) × (k ≤ length (now cursors)) ⌝ }
     ensures { λ r. ⌜ least-words r ≡ least-of (now (level .entry)) k (now (cursors .entry)) ⌝ }
     ensures { λ r. ⌜ least-letters r ≡ givers (now (level .entry)) k (now (cursors .entry)) ⌝ }
 {
@@ -68,13 +70,13 @@ pub fn least_counts(level: &[u32], k: usize, cursors: &[usize]) -> Least
 pub fn unite(
     level: &[u32],
     moves: &[u32],
-    rows: &[u32; 512],
+    rows: &[u32; MOST_MOVES],
     k: usize,
     s: usize,
     cursors: &[usize],
     set: u32,
 ) -> u32
-    requires { ⌜ (k ≤ 16) × (s ≤ 32) ⌝ }
+    requires { ⌜ (k ≤ most-letters) × (s ≤ most-states) ⌝ }
     requires { ⌜ k ≤ length (now cursors) ⌝ }
     requires { ⌜ now rows ≡ by-letter k s (now moves) ⌝ }
     requires { ⌜ Given k (now level) (now cursors) set ⌝ }

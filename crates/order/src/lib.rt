@@ -4,6 +4,7 @@ ghost use mathlib.Core.List.{_++_, map};
 ghost use mathlib.Core.Option.{none};
 ghost use Prim.Native.Nat.{_+_, _≤_};
 ghost use lib.ListN.{drop, getD, length};
+ghost use Rattle.profile.specs.Limits.{most-letters};
 ghost use Rattle.profile.specs.Lists.{below, first-place};
 ghost use Rattle.profile.specs.Refusals.{log-refusals, lowest, relation-refusals};
 ghost use Rattle.profile.specs.Traces.{independent};
@@ -11,6 +12,9 @@ ghost use Rattle.events.specs.Events.{all-keepers, comes-next?};
 ghost use Rattle.order.specs.Order.{Placed, first-letters, ordered-buffer, ordering};
 use profile::Check;
 use profile::Refusal;
+use profile::limits::MOST_LETTERS;
+use profile::limits::MOST_PLACES;
+use profile::limits::Place;
 
 // The answer of a first order.
 pub enum Ordered {
@@ -19,8 +23,14 @@ pub enum Ordered {
 }
 
 // The smallest letter that can come next; k where there is none.
-fn least_next(masks: &[u16], keepers: &[u32; 16], k: usize, n: usize, next: &[u16]) -> usize
-    requires { ⌜ (k ≤ 16) × (now keepers ≡ all-keepers (independent (now masks)) k) ⌝ }
+fn least_next(
+    masks: &[u16],
+    keepers: &[u32; MOST_LETTERS],
+    k: usize,
+    n: usize,
+    next: &[Place],
+) -> usize
+    requires { ⌜ (k ≤ most-letters) × (now keepers ≡ all-keepers (independent (now masks)) k) ⌝ }
     ensures { λ r. ⌜ r ≡ first-place (comes-next? (independent (now (masks .entry))) k n (now (next .entry))) (below k) ⌝ }
 {
     let mut a = 0;
@@ -34,7 +44,7 @@ fn least_next(masks: &[u16], keepers: &[u32; 16], k: usize, n: usize, next: &[u1
 }
 
 // The place of the first event of each letter that `next` has an element for.
-fn first_places(starts: &[u16], places: &[u16], next: &mut [u16])
+fn first_places(starts: &[Place], places: &[Place], next: &mut [Place])
     ensures { λ r. ⌜ now (next .exit) ≡ map (λ x. getD (now (places .entry)) (getD (now (starts .entry)) x 0 + 0) 0) (below (length (now (next .entry)))) ⌝ }
 {
     let mut x = 0;
@@ -48,12 +58,12 @@ fn first_places(starts: &[u16], places: &[u16], next: &mut [u16])
 fn put_letters(
     k: usize,
     masks: &[u16],
-    keepers: &[u32; 16],
+    keepers: &[u32; MOST_LETTERS],
     log: &[u8],
-    starts: &[u16],
-    places: &[u16],
-    next: &mut [u16],
-    used: &mut [u16],
+    starts: &[Place],
+    places: &[Place],
+    next: &mut [Place],
+    used: &mut [Place],
     out: &mut [u8],
 )
     requires { ⌜ Placed k (now masks) (now log) (now starts) (now places) (now next) (now used) (now out) ⌝ }
@@ -79,11 +89,11 @@ fn put_first(k: usize, masks: &[u16], log: &[u8], out: &mut [u8])
     ensures { λ r. ⌜ now (out .exit) ≡ first-letters (now (masks .entry)) (now (log .entry)) ++ drop (length (now (log .entry))) (now (out .entry)) ⌝ }
 {
     let keepers = events::all_keepers(masks, k);
-    let mut starts = [0u16; 16];
-    let mut places = [0u16; 4016];
+    let mut starts: [Place; MOST_LETTERS] = [0; MOST_LETTERS];
+    let mut places: [Place; MOST_PLACES] = [0; MOST_PLACES];
     places::place_events(log, k, &mut starts, &mut places);
-    let mut next = [0u16; 16];
-    let mut used = [0u16; 16];
+    let mut next: [Place; MOST_LETTERS] = [0; MOST_LETTERS];
+    let mut used: [Place; MOST_LETTERS] = [0; MOST_LETTERS];
     put_letters(
         k,
         masks,

@@ -1,4 +1,5 @@
 -- The definitions, in the order of document 01. Everything else is proved about them.
+pub mod Limits
 pub mod Lists
 pub mod Traces
 pub mod Automata

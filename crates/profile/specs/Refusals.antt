@@ -5,6 +5,8 @@ use mathlib.Core.Option.{Option, none, some}
 use Prim.Native.Nat.{ℕ, _+_, _*_, _^_}
 use lib.Dec.{eqb, ltb, leb}
 use lib.ListN.{length, getD}
+pub use Rattle.profile.specs.Limits.{longest}
+use Rattle.profile.specs.Limits.{most-letters, most-states}
 use Rattle.profile.specs.Lists.{any, below, first-place}
 use Rattle.profile.specs.Traces.{independent}
 use Rattle.profile.specs.Automata.{Profile}
@@ -51,12 +53,12 @@ bit-from n S = leb (2 ^ n) S
 
 -- 2, of k and the masks: "k … out of range; mask … slices … not exactly k … long"
 abbrev pub letters-out-of-range : ℕ → List ℕ → Bool
-letters-out-of-range k masks = ltb k 1 || (ltb 16 k || not (eqb (length masks) k))
+letters-out-of-range k masks = ltb k 1 || (ltb most-letters k || not (eqb (length masks) k))
 
 -- 2, of a profile: "k, s or start out of range; … mask or move slices … not exactly k and s × k long"
 abbrev pub profile-out-of-range : Profile → Bool
 profile-out-of-range p =
-    letters-out-of-range (p .k) (p .masks) || (ltb (p .s) 1 || (ltb 32 (p .s) || (leb (p .s) (p .start) || not (eqb (length (p .moves)) (p .s * p .k)))))
+    letters-out-of-range (p .k) (p .masks) || (ltb (p .s) 1 || (ltb most-states (p .s) || (leb (p .s) (p .start) || not (eqb (length (p .moves)) (p .s * p .k)))))
 
 -- 4: "A mask with a bit from k on, or its own bit"
 abbrev pub mask-bit : ℕ → List ℕ → Bool
@@ -65,10 +67,6 @@ mask-bit k masks = any (λ i. bit-from k (getD masks i 0) || independent masks i
 -- 6: "A move or the final set with a bit from s on"
 abbrev pub state-bit : Profile → Bool
 state-bit p = bit-from (p .s) (p .finals) || any (bit-from (p .s)) (p .moves)
-
--- "A log may have 4,000 letters"
-abbrev pub longest : ℕ
-longest = 4000
 
 -- 7: "Refusal 7 now starts at 4,001"
 abbrev pub long-log : List ℕ → Bool

@@ -3,6 +3,7 @@ use mathlib.Core.Bool.{Bool}
 use mathlib.Core.List.{List, [], _∷_, _++_, map}
 use Prim.Native.Nat.{ℕ, _+_, _*_, _/_, _%_, _^_, min}
 use lib.ListN.{getD, take, drop}
+use Rattle.profile.specs.Limits.{count-bits, count-numbers, counts-per-number, usable-numbers}
 use Rattle.profile.specs.Lists.{below, flat-map}
 use Rattle.profile.specs.Automata.{Automaton}
 use Rattle.profile.specs.Prefixes.{at, backward, by-total, forward, prefix-count}
@@ -15,7 +16,7 @@ pub record Layout : Type 0 where
 
 -- "counts take 16 bits, and a record takes ten numbers: eight with two counts each"
 abbrev pub layout : Layout
-layout = record { width = 16; per = 2; numbers = 8 }
+layout = record { width = count-bits; per = counts-per-number; numbers = count-numbers }
 
 -- "a record takes ten numbers": the counts, "then forward and backward"
 abbrev pub record-length : Layout → ℕ
@@ -46,4 +47,4 @@ table-of L may letter M k w before =
 
 -- "a rest below" ten, "and all numbers past the first 4,294,967,292, are unused": the records that a table of n numbers has place for
 abbrev pub capacity : Layout → ℕ → ℕ
-capacity L n = min n 4294967292 / record-length L
+capacity L n = min n usable-numbers / record-length L

@@ -1,4 +1,5 @@
 // The words of the judge: profiles, refusals, answers of a check. The definitions of `specs/` say what they mean.
+pub mod limits;
 
 // The numbers of a profile; its masks and moves are slices beside it.
 pub struct Shape {

@@ -8,9 +8,10 @@ ghost use Rattle.counts.specs.Counts.{words};
 ghost use Rattle.records.specs.Records.{counts-at, forward-at, last-at, put-record, records-in};
 use counts::Counts;
 use counts::NUMBERS;
+use profile::limits::RECORD_NUMBERS;
 
 // The numbers of a record.
-pub const RECORD: usize = 10;
+pub const RECORD: usize = RECORD_NUMBERS;
 
 // How many records a part of the table has.
 pub fn records_in(t: &[u32]) -> usize

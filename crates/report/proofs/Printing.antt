@@ -7,6 +7,7 @@ use Prim.Native.Nat.{ℕ, _+_, _-_, _≤_, _<_}
 use native.Mathlib.Omega.{arith}
 use lib.ListN.{length, take, drop}
 use lib.Seq.{take-at}
+use Rattle.profile.specs.Limits.{longest-input, program-numbers}
 use Rattle.profile.specs.Traces.{independent}
 use Rattle.profile.specs.Automata.{Profile, automaton}
 use Rattle.profile.specs.Prefixes.{prefix-count}
@@ -32,7 +33,7 @@ line-short word n h = omega (arith, length-three word (decimal n) (10 ∷ []), d
 
 -- ---- the judge, with places for the longest log and 16,380 numbers of table
 
-module _ (p : Profile) (w order order′ table table′ : List ℕ) (places : length order ≡ longest) (numbers : length table ≡ 16380) where
+module _ (p : Profile) (w order order′ table table′ : List ℕ) (places : length order ≡ longest) (numbers : length table ≡ program-numbers) where
   abbrev told : Option Refusal → List ℕ
   told q = unless-refused q (verdict-text (prefix-count (independent (p .masks)) (λ a. a) (p .k) w) (accepted-order (independent (p .masks)) (λ a. a) (automaton p) w))
 
@@ -87,8 +88,8 @@ log-told f e = ap (λ q. unless q (file-log f) []) e
 
 -- ---- the input
 
-pub printed-long : (f : List ℕ) → 65536 < length f → printed f ≡ too-long-line
-printed-long f h = let e = lt-ltb 65536 (length f) h in rw (e, printed)
+pub printed-long : (f : List ℕ) → longest-input < length f → printed f ≡ too-long-line
+printed-long f h = let e = lt-ltb longest-input (length f) h in rw (e, printed)
 
-pub printed-file : (f : List ℕ) → length f ≤ 65536 → printed f ≡ file-text f
-printed-file f h = let e = le-ltb 65536 (length f) h in rw (e, printed)
+pub printed-file : (f : List ℕ) → length f ≤ longest-input → printed f ≡ file-text f
+printed-file f h = let e = le-ltb longest-input (length f) h in rw (e, printed)

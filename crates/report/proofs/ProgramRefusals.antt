@@ -8,6 +8,7 @@ use Prim.Native.Nat.{ℕ}
 use native.Mathlib.Nat.{mul-le-mul}
 use native.Mathlib.Omega.{arith}
 use lib.ListN.{length}
+use Rattle.profile.specs.Limits.{most-letters, most-moves}
 use Rattle.profile.specs.Automata.{Profile}
 use Rattle.profile.specs.Prefixes.{prefix-count}
 use Rattle.profile.specs.Refusals.{admission-refusals, full-table, judge-refusal, log-refusals, longest, lowest, profile-refusals, short-buffer}
@@ -20,12 +21,12 @@ use Rattle.logfile.proofs.Answers.{buffers-long}
 use Rattle.logfile.proofs.Sections.{content-log, content-profile, numbers-in, open-file}
 
 -- the reader, with 16 and 512 places, refuses by 1 to 8 alone
-pub read-by-eight : (f : List ℕ) → read-refusal f 16 512 ≡ lowest (file-refusals f)
+pub read-by-eight : (f : List ℕ) → read-refusal f most-letters most-moves ≡ lowest (file-refusals f)
 read-by-eight f = go (lowest (file-refusals f)) refl
   where
-    go : (q : Option Refusal) → lowest (file-refusals f) ≡ q → read-refusal f 16 512 ≡ lowest (file-refusals f)
-    go none e = let n = numbers-in f (open-file f e .0) in buffers-long f 16 512 e (n .0) (omega (arith, mul-le-mul (n .1) (n .0))) ∙ sym e
-    go (some r) e = lowest-first (file-refusals f) ((short-buffers f 16 512, ShortBuffer) ∷ []) e ∙ sym e
+    go : (q : Option Refusal) → lowest (file-refusals f) ≡ q → read-refusal f most-letters most-moves ≡ lowest (file-refusals f)
+    go none e = let n = numbers-in f (open-file f e .0) in buffers-long f most-letters most-moves e (n .0) (omega (arith, mul-le-mul (n .1) (n .0))) ∙ sym e
+    go (some r) e = lowest-first (file-refusals f) ((short-buffers f most-letters most-moves, ShortBuffer) ∷ []) e ∙ sym e
 
 module _ (f : List ℕ) (good : lowest (file-refusals f) ≡ none) where
   abbrev p : Profile

@@ -7,6 +7,7 @@ use Prim.Native.Nat.{ℕ, zero, suc, _+_, _/_, _%_, _≤_}
 use lib.Dec.{ltb}
 use lib.ListN.{length}
 use lib.Seq.{sets}
+use Rattle.profile.specs.Limits.{longest-input, most-letters, most-moves, program-numbers}
 use Rattle.profile.specs.Lists.{flat-map}
 use Rattle.profile.specs.Traces.{independent}
 use Rattle.profile.specs.Automata.{Profile, automaton}
@@ -72,16 +73,16 @@ unless-refused (some r) t = refusal-line r
 -- what is printed for a profile and a log, with an order buffer for the longest log and "a table of 16,380 numbers"
 abbrev pub judged-text : Profile → List ℕ → List ℕ
 judged-text p w =
-    unless-refused (judge-refusal p w longest 16380)
+    unless-refused (judge-refusal p w longest program-numbers)
     (verdict-text (prefix-count (independent (p .masks)) (λ a. a) (p .k) w) (accepted-order (independent (p .masks)) (λ a. a) (automaton p) w))
 
 -- what is printed for a file, whose masks and moves are read into buffers of 16 and 512 places
 abbrev pub file-text : List ℕ → List ℕ
-file-text f = unless-refused (read-refusal f 16 512) (judged-text (file-profile f) (file-log f))
+file-text f = unless-refused (read-refusal f most-letters most-moves) (judged-text (file-profile f) (file-log f))
 
 -- "reads up to 65,536 bytes …"; "Longer input prints the one line `too long`"
 abbrev pub printed : List ℕ → List ℕ
-printed f = elim (ltb 65536 (length f)) [ true ↦ too-long-line | false ↦ file-text f ]
+printed f = elim (ltb longest-input (length f)) [ true ↦ too-long-line | false ↦ file-text f ]
 
 -- the text is put from place `at` on, the other bytes stay, and r is the place behind it
 pub record Put (before : List ℕ) (at : ℕ) (text after : List ℕ) (r : ℕ) : Type 0 where

@@ -2,12 +2,17 @@
 ghost use mathlib.Core.Path.{_≡_};
 ghost use Prim.Native.Nat.{_+_, _*_, _≤_};
 ghost use lib.ListN.{length, take, drop};
+ghost use Rattle.profile.specs.Limits.{program-numbers, program-text};
 ghost use Rattle.profile.specs.Lists.{flat-map};
 ghost use Rattle.profile.specs.Automata.{profile-of};
 ghost use Rattle.report.specs.Report.{Put, decimal, file-text, judged-text, number-line, order-line, printed, refusal-line, spaced, verdict-lines};
 use logfile::Reading;
 use profile::Refusal;
 use profile::Shape;
+use profile::limits::LONGEST;
+use profile::limits::LONGEST_INPUT;
+use profile::limits::MOST_LETTERS;
+use profile::limits::MOST_MOVES;
 use verdict::Judged;
 
 // Puts the bytes from place `at` on, and tells the place behind them.
@@ -107,10 +112,10 @@ fn put_judged(
     out: &mut [u8],
     work: &mut [u32],
 ) -> usize
-    requires { ⌜ (16384 ≤ length (now out)) × (length (now work) ≡ 16380) ⌝ }
+    requires { ⌜ (program-text ≤ length (now out)) × (length (now work) ≡ program-numbers) ⌝ }
     ensures { λ r. ⌜ Put (now (out .entry)) 0 (judged-text (profile-of shape (now (masks .entry)) (now (moves .entry))) (now (log .entry))) (now (out .exit)) r ⌝ }
 {
-    let mut order = [0u8; 4000];
+    let mut order = [0u8; LONGEST];
     let judged = verdict::judge(shape, masks, moves, log, &mut order, work);
     match judged {
         Judged::Refused(r) => put_refused(out, r),
@@ -125,11 +130,11 @@ fn put_judged(
 
 // Puts what is printed for a file, and tells its length.
 fn put_file(file: &[u8], out: &mut [u8], work: &mut [u32]) -> usize
-    requires { ⌜ (16384 ≤ length (now out)) × (length (now work) ≡ 16380) ⌝ }
+    requires { ⌜ (program-text ≤ length (now out)) × (length (now work) ≡ program-numbers) ⌝ }
     ensures { λ r. ⌜ Put (now (out .entry)) 0 (file-text (now (file .entry))) (now (out .exit)) r ⌝ }
 {
-    let mut masks = [0u16; 16];
-    let mut moves = [0u32; 512];
+    let mut masks = [0u16; MOST_LETTERS];
+    let mut moves = [0u32; MOST_MOVES];
     let reading = logfile::read_file(file, &mut masks, &mut moves);
     match reading {
         Reading::Refused(r) => put_refused(out, r),
@@ -146,11 +151,11 @@ fn put_file(file: &[u8], out: &mut [u8], work: &mut [u32]) -> usize
 // Puts exactly what the program prints for its input, with a table of 16,380 numbers, and tells its length. The other bytes of `out` stay; what
 // the table holds afterwards is free.
 pub fn respond(input: &[u8], out: &mut [u8], work: &mut [u32]) -> usize
-    requires { ⌜ (16384 ≤ length (now out)) × (length (now work) ≡ 16380) ⌝ }
+    requires { ⌜ (program-text ≤ length (now out)) × (length (now work) ≡ program-numbers) ⌝ }
     ensures { λ r. ⌜ take r (now (out .exit)) ≡ printed (now (input .entry)) ⌝ }
     ensures { λ r. ⌜ (r ≤ length (now (out .entry))) × (drop r (now (out .exit)) ≡ drop r (now (out .entry))) ⌝ }
 {
-    if 65536 < input.len() {
+    if LONGEST_INPUT < input.len() {
         return put_bytes(out, 0, b"too long\n");
     }
     put_file(input, out, work)

@@ -7,6 +7,7 @@ use native.Mathlib.Omega.{arith}
 use borrow.Author.Tests.{lt-ltb}
 use lib.Dec.{T, ltb}
 use lib.ListN.{replicate}
+use Rattle.profile.specs.Limits.{most-letters, most-moves, most-states}
 use Rattle.profile.specs.Automata.{backward-step, forward-step, meets, row, union}
 use Rattle.profile.specs.Lists.{below, filter}
 use Rattle.profile.specs.Traces.{bit}
@@ -21,13 +22,13 @@ meets-one S q = T-eq (meets S (2 ^ q)) (bit S q)
     (λ t. let m = meets-at S (2 ^ q) t in subst (λ z. T (bit S z)) (sym (bit-single q (m .0) (m .2))) (m .1))
     (λ t. meets-of S (2 ^ q) q t (bit-self q))
 
-module _ (k s : ℕ) (moves rows : List ℕ) (e : rows ≡ by-letter k s moves) (letters : k ≤ 16) (states : s ≤ 32) (a : ℕ) (h : a < k) where
+module _ (k s : ℕ) (moves rows : List ℕ) (e : rows ≡ by-letter k s moves) (letters : k ≤ most-letters) (states : s ≤ most-states) (a : ℕ) (h : a < k) where
   led-same : (q : ℕ) → q < s → led-by rows a q ≡ row k moves q a
   unfolding by-letter
   led-same q l =
-      let m : (32 * a + q) % 32 ≡ q = omega arith in
-      let d : (32 * a + q) / 32 ≡ a = omega arith in
-      ap (λ r. led-by r a q) e ∙ front-at (led k s moves) (replicate 512 0) (32 * k) (omega arith) (32 * a + q) (omega arith)
+      let m : (most-states * a + q) % most-states ≡ q = omega arith in
+      let d : (most-states * a + q) / most-states ≡ a = omega arith in
+      ap (λ r. led-by r a q) e ∙ front-at (led k s moves) (replicate most-moves 0) (most-states * k) (omega arith) (most-states * a + q) (omega arith)
       ∙ ap₂ (λ x y. cond (ltb x s) (row k moves x y) 0) m d ∙ ap (λ b. cond b (row k moves q a) 0) (lt-ltb q s l)
 
   pub forward-same : (S : ℕ) → forward-by s rows S a ≡ forward-step k s moves S a

@@ -4,21 +4,22 @@ use mathlib.Core.List.{List, _++_, map}
 use Prim.Native.Nat.{ℕ, _+_, _*_, _/_, _%_, _^_}
 use lib.Dec.{ltb}
 use lib.ListN.{drop, getD, replicate}
+use Rattle.profile.specs.Limits.{most-moves, most-states}
 use Rattle.profile.specs.Automata.{meets, row, union}
 use Rattle.profile.specs.Lists.{below, filter}
 use Rattle.profile.specs.Traces.{bit}
 
 -- number i: the states to which letter i / 32 may lead from state i % 32, none where this is no state
 abbrev pub led : ℕ → ℕ → List ℕ → ℕ → ℕ
-led k s moves i = cond (ltb (i % 32) s) (row k moves (i % 32) (i / 32)) 0
+led k s moves i = cond (ltb (i % most-states) s) (row k moves (i % most-states) (i / most-states)) 0
 
 -- the rows of k letters, and 0 behind them
 unfoldable pub by-letter : ℕ → ℕ → List ℕ → List ℕ
-by-letter k s moves = map (led k s moves) (below (32 * k)) ++ drop (32 * k) (replicate 512 0)
+by-letter k s moves = map (led k s moves) (below (most-states * k)) ++ drop (most-states * k) (replicate most-moves 0)
 
 -- the number of letter a and state q
 abbrev pub led-by : List ℕ → ℕ → ℕ → ℕ
-led-by rows a q = getD rows (32 * a + q) 0
+led-by rows a q = getD rows (most-states * a + q) 0
 
 -- a step by the rows
 abbrev pub forward-by : ℕ → List ℕ → ℕ → ℕ → ℕ

@@ -11,6 +11,7 @@ use lib.Dec.{T, eqb, eqb→eq, eqb-refl, leb, leb→le, ltb, ltb→lt}
 use lib.ListN.{drop, drop-of-length-le, getD, getD-replicate, length, length-set, replicate, set}
 use lib.Seq.{drop-cons, ext-getD, getD-set-other, getD-set-same}
 use borrow.Author.Tests.{ne-eqb}
+use Rattle.profile.specs.Limits.{most-letters, most-states, most-typed}
 use Rattle.profile.proofs.Lists.{fst-of, is-true, snd-of}
 use Rattle.expressions.specs.Positions.{typed-as, when}
 use Rattle.expressions.specs.Texts.{letter?}
@@ -69,7 +70,7 @@ closes-some zero h = absurd (h refl)
 closes-some (suc d) h = let e : d ≡ suc d - 1 = omega arith in ap (after false) e
 
 -- a letter's byte
-pub letter-byte : (k c : ℕ) → k ≤ 16 → letter? k c ≡ true → (97 ≤ c) × (c - 97 < 16)
+pub letter-byte : (k c : ℕ) → k ≤ most-letters → letter? k c ≡ true → (97 ≤ c) × (c - 97 < most-letters)
 letter-byte k c few e =
     let t = true-T (letter? k c) e in
     let a = leb→le 97 c (fst-of (leb 97 c) (ltb c (97 + k)) t) in
@@ -92,7 +93,7 @@ abbrev Counts : ℕ → ℕ → Option Place → Type 0
 Counts c d none = Unit {0}
 Counts c d (some s) = s .depth ≡ open-after c d
 
-counted : (k c : ℕ) → k ≤ 16 → (g : Sign) → Means k c g → (w : Bool) (d : ℕ) → Counts c d (next g w d)
+counted : (k c : ℕ) → k ≤ most-letters → (g : Sign) → Means k c g → (w : Bool) (d : ℕ) → Counts c d (next g w d)
 counted k c few letter m w d = let b = letter-byte k c few (is-true (letter? k c) m) in open-other c d (λ e. omega (arith, b .0)) (λ e. omega (arith, b .0))
 counted k c few opens m w d = ap (λ c. open-after c d) (sym m)
 counted k c few closes m true d = tt
@@ -104,7 +105,7 @@ counted k c few parts m true d = tt
 counted k c few parts m false d = open-other c d (λ e. omega arith) (λ e. omega arith)
 counted k c few other m w d = tt
 
-next-open : (k c : ℕ) → k ≤ 16 → (w v : Bool) (d e : ℕ) → next (sign k c) w d ≡ after v e → e ≡ open-after c d
+next-open : (k c : ℕ) → k ≤ most-letters → (w v : Bool) (d e : ℕ) → next (sign k c) w d ≡ after v e → e ≡ open-after c d
 next-open k c few w v d e q = subst (Counts c d) q (counted k c few (sign k c) (sign-means k c) w d)
 
 -- ---- the pass
@@ -167,7 +168,7 @@ module _ (k : ℕ) (u : List ℕ) (w : Bool) (d m n i : ℕ) (p : Passed k u w d
         broken (p .place ∙ (ap (λ l. shift i (fault-from k w d l)) (from-here u i h) ∙ (ap (shift i) (fault-stops k (getD u i 0) w d (drop (i + 1) u) q) ∙ shift-here i)))
 
     -- … or good
-    pub passed-goes : k ≤ 16 → (v : Bool) (e m′ n′ : ℕ) → next (sign k (getD u i 0)) w d ≡ after v e → m′ ≡ max m d → n′ ≡ n + length (letters-of k (getD u i 0 ∷ [])) → Passed k u v e m′ n′ (i + 1)
+    pub passed-goes : k ≤ most-letters → (v : Bool) (e m′ n′ : ℕ) → next (sign k (getD u i 0)) w d ≡ after v e → m′ ≡ max m d → n′ ≡ n + length (letters-of k (getD u i 0 ∷ [])) → Passed k u v e m′ n′ (i + 1)
     passed-goes few v e m′ n′ q a b =
         let c = getD u i 0 in
         let rest = drop (i + 1) u in
@@ -239,17 +240,17 @@ module _ (k : ℕ) (u : List ℕ) where
 
 -- what is put so far, with what is still to come, is the whole
 pub record Filled (k : ℕ) (u sets : List ℕ) (n i : ℕ) : Type 0 where
-  pub long : length sets ≡ 16
+  pub long : length sets ≡ most-letters
   pub numbers : n + length (letters-of k (drop i u)) ≡ 1 + length (letters-of k u)
-  pub each : (a : ℕ) → a < 16 → bitOr (getD sets a 0) (typed-as a n (letters-of k (drop i u))) ≡ typed-as a 1 (letters-of k u)
+  pub each : (a : ℕ) → a < most-letters → bitOr (getD sets a 0) (typed-as a n (letters-of k (drop i u))) ≡ typed-as a 1 (letters-of k u)
 
 pub filled-end : (k : ℕ) (u sets : List ℕ) (n i : ℕ) → length u ≤ i → Filled k u sets n i → sets ≡ sets-of k u
 filled-end k u sets n i h f =
-    ext-getD 0 sets (sets-of k u) (f .long ∙ sym (length-range (λ a. typed-as a 1 (letters-of k u)) 16 0)) (λ a b.
-    let lt : a < 16 = subst (λ m. a < m) (f .long) b in
+    ext-getD 0 sets (sets-of k u) (f .long ∙ sym (length-range (λ a. typed-as a 1 (letters-of k u)) most-letters 0)) (λ a b.
+    let lt : a < most-letters = subst (λ m. a < m) (f .long) b in
     let z : 0 + a ≡ a = omega arith in
     sym (or-zero-r (getD sets a 0)) ∙ (ap (λ l. bitOr (getD sets a 0) (typed-as a n l)) (sym (ap (letters-of k) (drop-of-length-le u {i = i} h))) ∙ (f .each a lt
-    ∙ sym (at-map (λ a. typed-as a 1 (letters-of k u)) 16 0 a lt ∙ ap (λ a. typed-as a 1 (letters-of k u)) z))))
+    ∙ sym (at-map (λ a. typed-as a 1 (letters-of k u)) most-letters 0 a lt ∙ ap (λ a. typed-as a 1 (letters-of k u)) z))))
 
 module _ (k : ℕ) (u sets : List ℕ) (n i : ℕ) (h : i < length u) (f : Filled k u sets n i) where
   typed-here : letter? k (getD u i 0) ≡ true → letters-of k (drop i u) ≡ (getD u i 0 - 97) ∷ letters-of k (drop (i + 1) u)
@@ -264,10 +265,10 @@ module _ (k : ℕ) (u sets : List ℕ) (n i : ℕ) (h : i < length u) (f : Fille
         each = λ a b. ap (λ l. bitOr (getD sets a 0) (typed-as a n l)) (sym q) ∙ f .each a b;
       }
 
-  pub filled-few : letter? k (getD u i 0) ≡ true → length (letters-of k u) ≤ 31 → n < 32
+  pub filled-few : letter? k (getD u i 0) ≡ true → length (letters-of k u) ≤ most-typed → n < most-states
   filled-few e b = omega (arith, f .numbers, ap length (typed-here e))
 
-  pub filled-yes : letter? k (getD u i 0) ≡ true → getD u i 0 - 97 < 16 → Filled k u (set sets (getD u i 0 - 97) (bitOr (getD sets (getD u i 0 - 97) 0) (2 ^ n))) (n + 1) (i + 1)
+  pub filled-yes : letter? k (getD u i 0) ≡ true → getD u i 0 - 97 < most-letters → Filled k u (set sets (getD u i 0 - 97) (bitOr (getD sets (getD u i 0 - 97) 0) (2 ^ n))) (n + 1) (i + 1)
   filled-yes e b =
       let x = getD u i 0 - 97 in
       let q = typed-here e in
@@ -278,7 +279,7 @@ module _ (k : ℕ) (u sets : List ℕ) (n i : ℕ) (h : i < length u) (f : Fille
         each = λ a lt. go a lt (eqb x a) refl;
       }
     where
-      go : (a : ℕ) → a < 16 → (t : Bool) → eqb (getD u i 0 - 97) a ≡ t
+      go : (a : ℕ) → a < most-letters → (t : Bool) → eqb (getD u i 0 - 97) a ≡ t
           → bitOr (getD (set sets (getD u i 0 - 97) (bitOr (getD sets (getD u i 0 - 97) 0) (2 ^ n))) a 0) (typed-as a (n + 1) (letters-of k (drop (i + 1) u))) ≡ typed-as a 1 (letters-of k u)
       go a lt true s =
           let x = getD u i 0 - 97 in
@@ -299,9 +300,9 @@ module _ (k : ℕ) (u sets : List ℕ) (n i : ℕ) (h : i < length u) (f : Fille
           ∙ (ap (λ t. bitOr (getD sets a 0) (bitOr (when t (2 ^ n)) (typed-as a (suc n) R))) (sym s)
           ∙ (ap (λ l. bitOr (getD sets a 0) (typed-as a n l)) (sym (typed-here e)) ∙ f .each a lt))
 
-pub filled-start : (k : ℕ) (u : List ℕ) → Filled k u (replicate 16 0) 1 0
+pub filled-start : (k : ℕ) (u : List ℕ) → Filled k u (replicate most-letters 0) 1 0
 filled-start k u = record {
   long = refl;
   numbers = refl;
-  each = λ a lt. ap (λ S. bitOr S (typed-as a 1 (letters-of k u))) (getD-replicate 16 a 0 0 lt);
+  each = λ a lt. ap (λ S. bitOr S (typed-as a 1 (letters-of k u))) (getD-replicate most-letters a 0 0 lt);
 }

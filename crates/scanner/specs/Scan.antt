@@ -4,6 +4,7 @@ use mathlib.Core.List.{List, map}
 use mathlib.Core.Option.{Option, none, some}
 use Prim.Native.Nat.{ℕ}
 use lib.ListN.{length}
+use Rattle.profile.specs.Limits.{most-letters}
 use Rattle.profile.specs.Lists.{below}
 use Rattle.expressions.specs.Positions.{typed-as}
 use Rattle.expressions.specs.Passes.{Place, after, deepest, fault, letters-of}
@@ -29,4 +30,4 @@ scanned k u = scanned-as (fault k u) (deepest 0 u) (length (letters-of k u))
 
 -- for each letter the numbers, from 1 on, under which it is typed
 abbrev pub sets-of : ℕ → List ℕ → List ℕ
-sets-of k u = map (λ a. typed-as a 1 (letters-of k u)) (below 16)
+sets-of k u = map (λ a. typed-as a 1 (letters-of k u)) (below most-letters)

@@ -5,6 +5,7 @@ ghost use mathlib.Core.List.{[], _∷_};
 ghost use Prim.Native.Nat.{_+_, _-_, _^_, _<_, _≤_, max};
 ghost use lib.Bits.{bitOr};
 ghost use lib.ListN.{getD, length, replicate, set};
+ghost use Rattle.profile.specs.Limits.{most-letters, most-states, most-typed};
 ghost use Rattle.expressions.specs.Texts.{letter?};
 ghost use Rattle.expressions.specs.Passes.{letters-of, next, sign};
 ghost use Rattle.scanner.specs.Scan.{placed, scanned, sets-of};
@@ -24,7 +25,7 @@ pub enum Scanned {
 
 // The byte types a letter below k.
 pub fn is_letter(k: usize, c: u8) -> bool
-    requires { ⌜ k ≤ 16 ⌝ }
+    requires { ⌜ k ≤ most-letters ⌝ }
     ensures { λ r. ⌜ r ≡ letter? k c ⌝ }
 {
     let n = c as usize;
@@ -36,7 +37,7 @@ pub fn is_letter(k: usize, c: u8) -> bool
 
 // Where the pass stands after one byte more.
 fn step(k: usize, c: u8, want: bool, depth: usize) -> Stand
-    requires { ⌜ (k ≤ 16) × (depth + 1 < 18446744073709551616) ⌝ }
+    requires { ⌜ (k ≤ most-letters) × (depth + 1 < 18446744073709551616) ⌝ }
     ensures { λ r. ⌜ placed r ≡ next (sign k c) want depth ⌝ }
 {
     if is_letter(k, c) {
@@ -103,7 +104,7 @@ fn larger(a: usize, b: usize) -> usize
 
 // How many letters a byte types.
 fn letters_in(k: usize, c: u8) -> usize
-    requires { ⌜ k ≤ 16 ⌝ }
+    requires { ⌜ k ≤ most-letters ⌝ }
     ensures { λ r. ⌜ r ≡ length (letters-of k (c ∷ [])) ⌝ }
 {
     if is_letter(k, c) { 1 } else { 0 }
@@ -111,7 +112,7 @@ fn letters_in(k: usize, c: u8) -> usize
 
 // The pass over a text: 11 is decided over the whole of it, before depth and letters are looked at.
 pub fn scan(k: usize, text: &[u8]) -> Scanned
-    requires { ⌜ k ≤ 16 ⌝ }
+    requires { ⌜ k ≤ most-letters ⌝ }
     ensures { λ r. ⌜ r ≡ scanned k (now (text .entry)) ⌝ }
 {
     let mut want = true;
@@ -145,7 +146,7 @@ pub fn scan(k: usize, text: &[u8]) -> Scanned
 
 // Puts number n into the set of the letter that the byte types.
 fn add_number(sets: &mut [u32], c: u8, n: usize)
-    requires { ⌜ (97 ≤ c) × (c - 97 < length (now sets)) × (n < 32) ⌝ }
+    requires { ⌜ (97 ≤ c) × (c - 97 < length (now sets)) × (n < most-states) ⌝ }
     ensures { λ r. ⌜ now (sets .exit) ≡ set (now (sets .entry)) (c - 97) (bitOr (getD (now (sets .entry)) (c - 97) 0) (2 ^ n)) ⌝ }
 {
     let a = (c as usize) - 97;
@@ -154,7 +155,7 @@ fn add_number(sets: &mut [u32], c: u8, n: usize)
 
 // For each letter the set of the numbers, from 1 on, under which it is typed; `sets` was all 0.
 pub fn letter_sets(k: usize, text: &[u8], sets: &mut [u32])
-    requires { ⌜ (k ≤ 16) × (length (letters-of k (now text)) ≤ 31) × (now sets ≡ replicate 16 0) ⌝ }
+    requires { ⌜ (k ≤ most-letters) × (length (letters-of k (now text)) ≤ most-typed) × (now sets ≡ replicate most-letters 0) ⌝ }
     ensures { λ r. ⌜ now (sets .exit) ≡ sets-of k (now (text .entry)) ⌝ }
 {
     let mut n = 1usize;

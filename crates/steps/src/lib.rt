@@ -2,6 +2,7 @@
 ghost use mathlib.Core.Path.{_≡_};
 ghost use Prim.Native.Nat.{_≤_, _<_};
 ghost use lib.ListN.{getD};
+ghost use Rattle.profile.specs.Limits.{most-letters, most-states};
 ghost use Rattle.profile.specs.Automata.{forward-step, meets, row as row-at};
 
 // The states to which letter a leads: number a of a state's row, where the row has it.
@@ -13,7 +14,7 @@ fn leads(row: &[u32], a: usize) -> u32
 
 // The states to which letter a may lead from state q.
 pub fn leads_from(moves: &[u32], k: usize, q: usize, a: usize) -> u32
-    requires { ⌜ (k ≤ 16) × (q < 32) ⌝ }
+    requires { ⌜ (k ≤ most-letters) × (q < most-states) ⌝ }
     ensures { λ r. ⌜ r ≡ row-at k (now (moves .entry)) q a ⌝ }
 {
     let at = q * k;
@@ -26,7 +27,7 @@ pub fn leads_from(moves: &[u32], k: usize, q: usize, a: usize) -> u32
 
 // The states to which letter a leads from the states of a set: each turn takes the lowest state out of those that are left.
 pub fn step_forward(moves: &[u32], k: usize, s: usize, set: u32, a: usize) -> u32
-    requires { ⌜ (k ≤ 16) × (s ≤ 32) ⌝ }
+    requires { ⌜ (k ≤ most-letters) × (s ≤ most-states) ⌝ }
     ensures { λ r. ⌜ r ≡ forward-step k s (now (moves .entry)) set a ⌝ }
 {
     let mut out = 0u32;

@@ -9,6 +9,12 @@ use forward::Filled as Pass;
 use profile::Check;
 use profile::Refusal;
 use profile::Shape;
+use profile::limits::MOST_LETTERS;
+use profile::limits::MOST_PLACES;
+use profile::limits::MOST_RECORDS;
+use profile::limits::Place;
+use profile::limits::USABLE_NUMBERS;
+use records::RECORD;
 
 // The answer of building: P and looks, or the refusal.
 pub enum Built {
@@ -21,7 +27,11 @@ fn capacity(table: &[u32]) -> usize
     ensures { λ r. ⌜ r ≡ capacity-of layout (length (now (table .entry))) ⌝ }
 {
     let n = table.len();
-    if 4294967292 < n { 429496729 } else { n / 10 }
+    if USABLE_NUMBERS < n {
+        MOST_RECORDS
+    } else {
+        n / RECORD
+    }
 }
 
 // Puts the records of all prefixes, with the letters that can be added in the place of the backward sets; `room` records fit.
@@ -37,8 +47,8 @@ fn put_records(
     ensures { λ r. ⌜ Forward (profile-of shape (now (masks .entry)) (now (moves .entry))) (now (log .entry)) room (now (table .entry)) (now (table .exit)) r ⌝ }
 {
     let k = shape.k;
-    let mut starts = [0u16; 16];
-    let mut places = [0u16; 4016];
+    let mut starts: [Place; MOST_LETTERS] = [0; MOST_LETTERS];
+    let mut places: [Place; MOST_PLACES] = [0; MOST_PLACES];
     places::place_events(log, k, &mut starts, &mut places);
     forward::fill_forward(table, room, shape, masks, moves, log, &starts, &places)
 }

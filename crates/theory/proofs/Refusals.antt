@@ -11,6 +11,7 @@ use lib.Pow.{pow-pos, shr-shr}
 use lib.Dec.{T, not-T, eqb, eqb→eq, ltb, lt→ltb, leb, leb→le, nleb→lt}
 use borrow.Author.Tests.{ltb-false, leb-false, eqb-true, not-false}
 use lib.ListN.{length, getD, List·getD-eq-default}
+use Rattle.profile.specs.Limits.{most-letters, most-states}
 use Rattle.profile.specs.Lists.{Mem, all, any, below}
 use Rattle.profile.specs.Traces.{bit, independent, letters-below}
 use Rattle.profile.specs.Automata.{Profile}
@@ -114,7 +115,7 @@ none-of p e m t = rw e at (any-of p m t)
 -- masks of which 2 and 4 hold of none: letters that may be exchanged are below k and different
 pub record Relation (k : ℕ) (masks : List ℕ) : Type 0 where
   pub least : 1 ≤ k
-  pub most : k ≤ 16
+  pub most : k ≤ most-letters
   pub long : length masks ≡ k
   pub inside : (i j : ℕ) → T (independent masks i j) → (i < k) × (j < k)
   pub own : (i : ℕ) → T (independent masks i i) → ⊥
@@ -124,11 +125,11 @@ neither : (x y : Bool) → (x || y) ≡ false → (x ≡ false) × (y ≡ false)
 neither true y e = absurd (true≢false e)
 neither false y e = (refl, e)
 
-letters-in-range : (k : ℕ) (masks : List ℕ) → letters-out-of-range k masks ≡ false → (1 ≤ k) × (k ≤ 16) × (length masks ≡ k)
+letters-in-range : (k : ℕ) (masks : List ℕ) → letters-out-of-range k masks ≡ false → (1 ≤ k) × (k ≤ most-letters) × (length masks ≡ k)
 letters-in-range k masks e =
-    let n = neither (ltb k 1) (ltb 16 k || not (eqb (length masks) k)) e in
-    let m = neither (ltb 16 k) (not (eqb (length masks) k)) (n .1) in
-    (ltb-false k 1 (n .0), ltb-false 16 k (m .0), eqb-true (length masks) k (not-false (eqb (length masks) k) (m .1)))
+    let n = neither (ltb k 1) (ltb most-letters k || not (eqb (length masks) k)) e in
+    let m = neither (ltb most-letters k) (not (eqb (length masks) k)) (n .1) in
+    (ltb-false k 1 (n .0), ltb-false most-letters k (m .0), eqb-true (length masks) k (not-false (eqb (length masks) k) (m .1)))
 
 relation-of : (k : ℕ) (masks : List ℕ) → letters-out-of-range k masks ≡ false → mask-bit k masks ≡ false → Relation k masks
 relation-of k masks e₂ e₄ = let n = letters-in-range k masks e₂ in record {
@@ -159,7 +160,7 @@ relation-at k masks e =
 -- a profile of which 2, 4 and 6 hold of none
 pub record GoodProfile (p : Profile) : Type 0 where
   pub relation : Relation (p .k) (p .masks)
-  pub states : (1 ≤ p .s) × (p .s ≤ 32)
+  pub states : (1 ≤ p .s) × (p .s ≤ most-states)
   pub starts : p .start < p .s
   pub long : length (p .moves) ≡ p .s * p .k
   pub finals-inside : p .finals < 2 ^ p .s
@@ -169,14 +170,14 @@ pub profile-at : (p : Profile) → lowest (profile-refusals p) ≡ none → Good
 profile-at p e =
     let h = lowest-none (profile-refusals p) .0 e in
     let lens = eqb (length (p .moves)) (p .s * p .k) in
-    let n₁ = neither (letters-out-of-range (p .k) (p .masks)) (ltb (p .s) 1 || (ltb 32 (p .s) || (leb (p .s) (p .start) || not lens))) (h _ (List·Memᴰ·head refl)) in
-    let n₂ = neither (ltb (p .s) 1) (ltb 32 (p .s) || (leb (p .s) (p .start) || not lens)) (n₁ .1) in
-    let n₃ = neither (ltb 32 (p .s)) (leb (p .s) (p .start) || not lens) (n₂ .1) in
+    let n₁ = neither (letters-out-of-range (p .k) (p .masks)) (ltb (p .s) 1 || (ltb most-states (p .s) || (leb (p .s) (p .start) || not lens))) (h _ (List·Memᴰ·head refl)) in
+    let n₂ = neither (ltb (p .s) 1) (ltb most-states (p .s) || (leb (p .s) (p .start) || not lens)) (n₁ .1) in
+    let n₃ = neither (ltb most-states (p .s)) (leb (p .s) (p .start) || not lens) (n₂ .1) in
     let n₄ = neither (leb (p .s) (p .start)) (not lens) (n₃ .1) in
     let f = neither (bit-from (p .s) (p .finals)) (any (bit-from (p .s)) (p .moves)) (h _ (List·Memᴰ·tail (List·Memᴰ·tail (List·Memᴰ·head refl)))) in
     record {
       relation = relation-of (p .k) (p .masks) (n₁ .0) (h _ (List·Memᴰ·tail (List·Memᴰ·head refl)));
-      states = (ltb-false (p .s) 1 (n₂ .0), ltb-false 32 (p .s) (n₃ .0));
+      states = (ltb-false (p .s) 1 (n₂ .0), ltb-false most-states (p .s) (n₃ .0));
       starts = leb-false (p .s) (p .start) (n₄ .0);
       long = eqb-true (length (p .moves)) (p .s * p .k) (not-false lens (n₄ .1));
       finals-inside = leb-false (2 ^ p .s) (p .finals) (f .0);

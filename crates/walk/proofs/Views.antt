@@ -10,6 +10,7 @@ use lib.Bits.{bitOr, or-self}
 use lib.Dec.{T, eqb, eqb→eq, leb, ltb, leb→le, ltb→lt}
 use lib.ListN.{drop, getD, length, length-append, length-drop}
 use lib.Seq.{drop-append-seam, drop-cons, drop-drop}
+use Rattle.profile.specs.Limits.{most-letters, most-states}
 use Rattle.profile.specs.Traces.{bit}
 use Rattle.profile.proofs.Lists.{either, fst-of, is-false, or-right, snd-of}
 use Rattle.profile.proofs.Sets.{or-assoc}
@@ -56,7 +57,7 @@ begun (t-sequence t) = begun t
 begun {k} (t-choice {u = u} {v = v} s t) = begun-more k u (124 ∷ v) (begun s)
 
 -- a first byte is no sign of the end
-begun-apart : (k c : ℕ) → k ≤ 16 → T (letter? k c) ⊎ (c ≡ 40) → (c ≡ 41 → ⊥) × (c ≡ 42 → ⊥) × (c ≡ 124 → ⊥)
+begun-apart : (k c : ℕ) → k ≤ most-letters → T (letter? k c) ⊎ (c ≡ 40) → (c ≡ 41 → ⊥) × (c ≡ 42 → ⊥) × (c ≡ 124 → ⊥)
 begun-apart k c h (inl t) =
     let a = leb→le 97 c (fst-of (leb 97 c) (ltb c (97 + k)) t) in
     let b = ltb→lt c (97 + k) (snd-of (leb 97 c) (ltb c (97 + k)) t) in ((λ e. omega arith), (λ e. omega arith), λ e. omega arith)
@@ -209,7 +210,7 @@ stop-sign text i [] e t h f g = here-none text i e h
 stop-sign text i (c ∷ u) e t h f g =
     ⊎-elim (λ a. f (here-byte text i c u e ∙ eqb→eq c 124 a)) (λ a. g (here-byte text i c u e ∙ eqb→eq c 41 a)) (either (eqb c 124) (eqb c 41) t)
 
-factor-stop : (k : ℕ) → k ≤ 16 → (u v : List ℕ) → Begun k u → T (stops factor (u ++ v))
+factor-stop : (k : ℕ) → k ≤ most-letters → (u v : List ℕ) → Begun k u → T (stops factor (u ++ v))
 factor-stop k h u v (c, w, p, b) = subst (λ x. T (stops factor (x ++ v))) (sym p) (not-eqb c 42 (begun-apart k c h b .1))
 
 module _ (text : List ℕ) (at n : ℕ) where
@@ -401,7 +402,7 @@ module _ (text : List ℕ) (at n : ℕ) where
 
   abbrev Letter : Comes factor text at n → Type 0
   Letter s =
-      (n < 32)
+      (n < most-states)
       × ((z : Part) (t0 t1 : List ℕ) → z ≡ starred-part (stars (drop (at + 1) text)) (at + 1) (letter-part-of (at + 1) n) → t1 ≡ starred-rows (stars (drop (at + 1) text)) (letter-part-of (at + 1) n) t0
       → Reads n (s .tree) (at + length (s .part)) z t0 t1)
 
@@ -413,7 +414,7 @@ module _ (text : List ℕ) (at n : ℕ) where
           let d : drop at text ≡ c ∷ (row-of m ++ s .rest) = s .here ∙ ap (λ x. x ++ s .rest) (p ∙ ap (λ x. x ++ row-of m) q) in
           let d1 = here-next text at c (row-of m ++ s .rest) d in
           let b : stars (drop (at + 1) text) ≡ m = ap stars d1 ∙ row-stars m (s .rest) (s .stop) in
-          let lt : n < 32 = omega (arith, s .room, ap size e, size-starry n f m, ap size a) in
+          let lt : n < most-states = omega (arith, s .room, ap size e, size-starry n f m, ap size a) in
           let end : at + 1 + m ≡ at + length (s .part) = omega (arith, ap length (p ∙ ap (λ x. x ++ row-of m) q), row-length m) in (
             lt,
             λ z t0 t1 y l. reads-at n z t0 t1 (sym (e ∙ ap (starry m) a)) end

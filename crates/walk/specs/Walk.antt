@@ -5,6 +5,7 @@ use mathlib.Core.List.{List, [], _∷_, _++_}
 use Prim.Native.Nat.{ℕ, _+_, _≤_}
 use lib.Dec.{T, eqb}
 use lib.ListN.{drop, length}
+use Rattle.profile.specs.Limits.{most-letters, most-states}
 use Rattle.expressions.specs.Expressions.{Expr, numbered, size}
 use Rattle.expressions.specs.Positions.{follows}
 use Rattle.expressions.specs.Texts.{Level, Typed, expression, factor, sequence}
@@ -21,14 +22,14 @@ stops expression (c ∷ u) = eqb c 41
 -- a factor, a sequence, an expression comes at a place of the text; the numbers of its letters begin with n and stay below 32
 pub record Comes (l : Level) (text : List ℕ) (at n : ℕ) : Type 0 where
   pub k : ℕ
-  pub few : k ≤ 16
+  pub few : k ≤ most-letters
   pub part : List ℕ
   pub rest : List ℕ
   pub tree : Expr
   pub typed : Typed k l part tree
   pub here : drop at text ≡ part ++ rest
   pub stop : T (stops l rest)
-  pub room : n + size tree ≤ 32
+  pub room : n + size tree ≤ most-states
 
 -- the part that was read is e, numbered from n on, and ends at `end`; what follows in it is added to the rows
 pub record Reads (n : ℕ) (e : Expr) (end : ℕ) (r : Part) (before after : List ℕ) : Type 0 where

@@ -5,6 +5,7 @@ use mathlib.Core.List.{List, _++_}
 use native.Mathlib.Omega.{arith}
 use lib.ListN.{length, getD, set, drop, getD-replicate}
 use borrow.Author.Needs.{needs}
+use Rattle.profile.specs.Limits.{most-letters}
 use Rattle.profile.specs.Automata.{Profile, profile-of}
 use Rattle.profile.specs.Tables.{layout, record-length}
 use Rattle.backward.proofs.Parts.{Halfway, behind-total, halfway-back, halfway-end, halfway-leads, halfway-next, halfway-start}
@@ -15,7 +16,7 @@ use Rattle.records.specs.Drafts.{drafted, filled, of-total}
 
 abbrev Inv-loop : tie.InvT-loop
 Inv-loop part₀ len t shape masks moves rows log cursors₀ j₀ part cursors j =
-    (j ≤ len) × (length part ≡ length part₀) × (length cursors ≡ 16)
+    (j ≤ len) × (length part ≡ length part₀) × (length cursors ≡ most-letters)
     × Halfway (profile-of shape masks moves) log t part (drop (record-length layout * len) part₀) j (λ x. getD cursors x 0)
 
 abbrev μ-loop : tie.MeasureT-loop
@@ -49,7 +50,7 @@ loop-holds c =
       refl,
       halfway-start (profile s) (word s) (a .t) (a .part .now) (drop (record-length layout * a .len) (a .part .now)) _
           (s .pre .0 .written ∙ ap (λ l. drafted (profile s) (word s) (of-total (profile s) (word s) (a .t)) ++ l) (sym (next s)))
-          (λ x h. getD-replicate 16 x (a .len) 0 (omega (arith, s .pre .0 .profile .relation .most)) ∙ s .pre .0 .whole),
+          (λ x h. getD-replicate most-letters x (a .len) 0 (omega (arith, s .pre .0 .profile .relation .most)) ∙ s .pre .0 .whole),
     )
 
 slice-aggregate-back-of : tie.Need-slice-aggregate-back-of Inv-loop μ-loop

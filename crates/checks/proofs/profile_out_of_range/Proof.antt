@@ -6,6 +6,7 @@ use mathlib.Core.Bool.{false}
 use Prim.Native.Nat.{_≤_}
 use native.Mathlib.Nat.{mul-le-mul}
 use native.Mathlib.Omega.{arith}
+use Rattle.profile.specs.Limits.{most-letters, most-states}
 use Rattle.profile.specs.Refusals.{letters-out-of-range}
 use Rattle.checks.proofs.Ranges.{few-letters}
 use Rattle.checks.proofs.profile_out_of_range.Statement.{statement}
@@ -33,8 +34,8 @@ mul-result : tie.Need-mul-result
 mul-result c =
     let b = c .before .before .before in
     let a = b .before .before .before .before .args in
-    let s : a .shape .s ≤ 32 = omega arith in
-    let k : a .shape .k ≤ 16 = few-letters _ (a .masks .now) (in-range b) in
+    let s : a .shape .s ≤ most-states = omega arith in
+    let k : a .shape .k ≤ most-letters = few-letters _ (a .masks .now) (in-range b) in
     omega (arith, mul-le-mul s k)
 
 returns-5 : tie.Need-returns-5

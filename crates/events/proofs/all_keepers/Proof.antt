@@ -5,6 +5,7 @@ use mathlib.Core.List.{_++_, map, append-nil}
 use Prim.Native.Nat.{_-_, _≤_}
 use native.Mathlib.Omega.{arith}
 use lib.ListN.{drop, replicate, set}
+use Rattle.profile.specs.Limits.{most-letters}
 use Rattle.profile.specs.Lists.{below}
 use Rattle.profile.specs.Traces.{independent}
 use Rattle.theory.proofs.Fronts.{front-put}
@@ -13,10 +14,10 @@ use Rattle.events.proofs.all_keepers.Statement.{statement}
 use Rattle.events.proofs.all_keepers.Tie as tie
 
 abbrev Inv-loop : tie.InvT-loop
-Inv-loop masks k sets₀ x₀ sets x = (x ≤ 16) × (sets ≡ map (keepers (independent masks) k) (below x) ++ drop x (replicate 16 0))
+Inv-loop masks k sets₀ x₀ sets x = (x ≤ most-letters) × (sets ≡ map (keepers (independent masks) k) (below x) ++ drop x (replicate most-letters 0))
 
 abbrev μ-loop : tie.MeasureT-loop
-μ-loop masks k sets₀ x₀ sets x = 16 - x
+μ-loop masks k sets₀ x₀ sets x = most-letters - x
 
 loop-holds : tie.Need-loop-holds Inv-loop μ-loop
 loop-holds c = (search needs, refl)
@@ -41,7 +42,7 @@ loop-again c =
     let a = c .before .before .before .before .args in
     let l = c .before .before .loop in (
       search needs,
-      ap₂ (λ r n. set r (l .x) n) (l .inv .1) (c .keepers-of .ensures) ∙ front-put (keepers (independent (a .masks .now)) (a .k)) (replicate 16 0) (l .x) (omega arith),
+      ap₂ (λ r n. set r (l .x) n) (l .inv .1) (c .keepers-of .ensures) ∙ front-put (keepers (independent (a .masks .now)) (a .k)) (replicate most-letters 0) (l .x) (omega arith),
     )
 
 returns : tie.Need-returns Inv-loop μ-loop
@@ -49,8 +50,8 @@ unfolding all-keepers
 returns c =
     let a = c .before .before .before .args in
     let f = keepers (independent (a .masks .now)) (a .k) in
-    let e : c .before .loop .x ≡ 16 = omega arith in
-    c .before .loop .inv .1 ∙ ap (λ n. map f (below n) ++ drop n (replicate 16 0)) e ∙ append-nil (map f (below 16))
+    let e : c .before .loop .x ≡ most-letters = omega arith in
+    c .before .loop .inv .1 ∙ ap (λ n. map f (below n) ++ drop n (replicate most-letters 0)) e ∙ append-nil (map f (below most-letters))
 
 pub all-keepers-spec : {M : Type 1} → statement M
 all-keepers-spec = tie.close (tie.spec Inv-loop μ-loop loop-holds keepers-of-requires mul-sets array-write-sets add-x loop-less loop-again returns)

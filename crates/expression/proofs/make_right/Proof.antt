@@ -2,6 +2,7 @@
 use Prim.Native.Nat.{_+_, _≤_}
 use native.Mathlib.Nat.{mul-le-mul}
 use native.Mathlib.Omega.{arith}
+use Rattle.profile.specs.Limits.{most-states}
 use Rattle.expression.proofs.Answers.{makes-deep, makes-equal, makes-long, makes-profile, makes-short, right-text}
 use borrow.Author.Needs.{needs}
 use Rattle.expression.proofs.make_right.Statement.{statement}
@@ -29,7 +30,7 @@ add-s c = search needs
 mul-if3 : tie.Need-mul-if3
 mul-if3 c =
     let a = c .before .before .before .before .args in
-    let n : a .n + 1 ≤ 32 = omega (arith, c .if2 .left) in
+    let n : a .n + 1 ≤ most-states = omega (arith, c .if2 .left) in
     let m = mul-le-mul n (c .before .before .before .before .pre .1) in
     search needs
 

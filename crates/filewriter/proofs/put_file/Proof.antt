@@ -5,6 +5,7 @@ use Prim.Native.Nat.{_+_, _-_, _*_, _≤_}
 use native.Mathlib.Omega.{arith}
 use lib.ListN.{length}
 use lib.Seq.{sets}
+use Rattle.profile.specs.Limits.{trailer-length}
 use Rattle.profile.specs.Automata.{Profile, profile-of}
 use Rattle.profile.specs.Lists.{flat-map}
 use Rattle.profile.proofs.Lists.{flat-map-length}
@@ -21,7 +22,7 @@ called c = let a = c .args in profile-of (a .shape) (a .masks .now) (a .moves .n
 -- the output has place for all of it
 room : (c : tie.Start) → let a = c .args in
     (0 + 2 * length (a .masks .now) ≤ length (a .out .now))
-    × (2 * length (a .masks .now) + 4 * length (a .moves .now) + length (a .log .now) + 16 ≤ length (a .out .now))
+    × (2 * length (a .masks .now) + 4 * length (a .moves .now) + length (a .log .now) + trailer-length ≤ length (a .out .now))
 unfolding called
 room c = let h = c .pre .room in let e = file-length (called c) (c .args .log .now) in omega arith
 

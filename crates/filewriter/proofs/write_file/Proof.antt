@@ -8,6 +8,7 @@ use Prim.Native.Nat.{ℕ, _≤_}
 use native.Mathlib.Nat.{mul-le-mul}
 use native.Mathlib.Omega.{arith}
 use lib.ListN.{length}
+use Rattle.profile.specs.Limits.{most-letters, most-moves}
 use Rattle.profile.specs.Automata.{Profile, profile-of}
 use Rattle.profile.specs.Refusals.{checked, log-refusals, longest, lowest, profile-refusals, short-buffer}
 use Rattle.profile.specs.declared.Refusal.{Refusal}
@@ -36,7 +37,7 @@ good-log c = sym (c .before .before .check-log .ensures) ∙ ap checked (c .enum
 
 -- the file is small
 small : (c : tie.After-enum-told2) → let a = entry (c .before .before .before) .args in
-    (length (a .masks .now) ≤ 16) × (length (a .moves .now) ≤ 512) × (length (a .log .now) ≤ longest)
+    (length (a .masks .now) ≤ most-letters) × (length (a .moves .now) ≤ most-moves) × (length (a .log .now) ≤ longest)
 small c =
     let s = entry (c .before .before .before) in
     let g = profile-at (called s) (good-profile (c .before .before .before)) in

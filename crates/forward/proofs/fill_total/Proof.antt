@@ -4,6 +4,7 @@ use Prim.Native.Nat.{_+_, _-_}
 use native.Mathlib.Omega.{arith}
 use borrow.Author.Needs.{needs}
 use lib.ListN.{replicate}
+use Rattle.profile.specs.Limits.{most-letters}
 use Rattle.profile.specs.Automata.{profile-of}
 use Rattle.forward.specs.Forward.{Ready}
 use Rattle.forward.specs.Merging.{Steps}
@@ -26,7 +27,7 @@ loop-holds : tie.Need-loop-holds Inv-loop μ-loop
 loop-holds c =
     let a = c .before .before .before .before .before .before .before .before .args in
     let h = c .before .before .before .before .before .before .before .before .pre .0 in
-    subst (Filling (profile-of (a .part .shape) (a .masks .now) (a .moves .now)) (a .log .now) (a .table .now) (a .table .now) (a .part .room) (a .part .t) (a .part .first) 0 0) (sym (c .first-cursors .ensures)) (filling-start (h .0) (h .1) (replicate 16 0) refl)
+    subst (Filling (profile-of (a .part .shape) (a .masks .now) (a .moves .now)) (a .log .now) (a .table .now) (a .table .now) (a .part .room) (a .part .t) (a .part .first) 0 0) (sym (c .first-cursors .ensures)) (filling-start (h .0) (h .1) (replicate most-letters 0) refl)
 
 slice-aggregate-merge-next : tie.Need-slice-aggregate-merge-next Inv-loop μ-loop
 slice-aggregate-merge-next c = search needs

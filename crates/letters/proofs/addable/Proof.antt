@@ -11,6 +11,7 @@ use lib.Bits.{bitOr}
 use lib.Dec.{T}
 use lib.ListN.{length, drop, replicate, length-append}
 use lib.Pow.{shl-exact}
+use Rattle.profile.specs.Limits.{most-letters}
 use Rattle.profile.specs.Automata.{union}
 use Rattle.profile.specs.Lists.{below, filter}
 use Rattle.profile.specs.Traces.{independent}
@@ -90,11 +91,11 @@ returns c =
     let l = c .before .loop in
     let e : l .x ≡ a .k = omega arith in
     let may = independent (a .masks .now) in
-    let places : ℕ → List ℕ = λ n. next-by n (a .starts .now) (a .places .now) (words (a .c)) ++ drop n (replicate 16 0) in
+    let places : ℕ → List ℕ = λ n. next-by n (a .starts .now) (a .places .now) (words (a .c)) ++ drop n (replicate most-letters 0) in
     let f : filter (comes-next? may (a .k) (a .n) (c .before .before .before .next-places .last .1 .1 .1 .1 .0)) (below (l .x))
     ≡ letters-by may (a .k) (a .n) (a .starts .now) (a .places .now) (words (a .c)) =
     ap₂ (λ m x. filter (comes-next? may (a .k) (a .n) m) (below x)) (c .before .before .before .next-places .ensures ∙ ap places (l .inv .0 .1)) e
-    ∙ letters-first may (a .k) (a .n) (a .starts .now) (a .places .now) (words (a .c)) (drop (a .k) (replicate 16 0)) in
+    ∙ letters-first may (a .k) (a .n) (a .starts .now) (a .places .now) (words (a .c)) (drop (a .k) (replicate most-letters 0)) in
     (l .inv .2 ∙ ap (union (λ y. 2 ^ y)) f, l .inv .3 ∙ ap length f)
 
 pub addable-spec : {M : Type 1} → statement M

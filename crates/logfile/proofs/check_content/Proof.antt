@@ -4,6 +4,7 @@ use mathlib.Core.Path.{_≡_, sym, _∙_, ap, ap₂}
 use Prim.Native.Nat.{_+_, _-_, _*_, _≤_}
 use native.Mathlib.Omega.{arith}
 use lib.ListN.{length, take, drop, replicate}
+use Rattle.profile.specs.Limits.{letters-byte, masks-byte, most-letters, most-moves, moves-byte, states-byte}
 use Rattle.profile.specs.Automata.{profile-of}
 use Rattle.profile.specs.Refusals.{checked, log-refusals, lowest, profile-refusals}
 use Rattle.logfile.specs.Files.{field, file-log, file-masks, file-moves, file-profile, file-shape, section}
@@ -18,7 +19,7 @@ shaped c = c .before .before .before .before .before .before .before .before .be
 
 -- k and s are the file's, and in range
 known : (c : tie.After-shape-of) → let f = c .before .before .args .f .now in let h = c .shape-of .result in
-    (h .k ≡ field f 0) × (h .s * h .k ≡ field f 1 * field f 0) × (h .k ≤ 16) × (h .s * h .k ≤ 512)
+    (h .k ≡ field f letters-byte) × (h .s * h .k ≡ field f states-byte * field f letters-byte) × (h .k ≤ most-letters) × (h .s * h .k ≤ most-moves)
 known c = shape-known (c .before .before .args .f .now) (c .shape-of .ensures) (c .before .before .pre .0)
 
 -- what is checked is the file's profile
@@ -32,10 +33,10 @@ profile-checked c =
     let l = m .fill-masks .last .1 .1 .1 .0 in
     let r = v .fill-moves .last .1 .1 .1 .0 in
     let h = b .shape-of .result in
-    let masks = first-part (file-masks f) (replicate 16 0) l (m .fill-masks .ensures ∙ numbers-put 2 f (replicate 16 0) (m .before .before .section-at .ensures) (n .0))
-    (numbers-length 2 f (section f 4) (field f 0) ∙ sym (n .0)) in
-    let moves = first-part (file-moves f) (replicate 512 0) r (v .fill-moves .ensures ∙ numbers-put 4 f (replicate 512 0) (v .before .before .section-at2 .ensures) (n .1))
-    (numbers-length 4 f (section f 6) (field f 1 * field f 0) ∙ sym (n .1)) in
+    let masks = first-part (file-masks f) (replicate most-letters 0) l (m .fill-masks .ensures ∙ numbers-put 2 f (replicate most-letters 0) (m .before .before .section-at .ensures) (n .0))
+    (numbers-length 2 f (section f masks-byte) (field f letters-byte) ∙ sym (n .0)) in
+    let moves = first-part (file-moves f) (replicate most-moves 0) r (v .fill-moves .ensures ∙ numbers-put 4 f (replicate most-moves 0) (v .before .before .section-at2 .ensures) (n .1))
+    (numbers-length 4 f (section f moves-byte) (field f states-byte * field f letters-byte) ∙ sym (n .1)) in
     c .check-profile .ensures
     ∙ ap (λ g. lowest (profile-refusals (profile-of g (take (h .k - 0) (drop 0 l)) (take (h .s * h .k - 0) (drop 0 r))))) (b .shape-of .ensures)
     ∙ ap₂ (λ x y. lowest (profile-refusals (profile-of (file-shape f) x y))) masks moves

@@ -3,6 +3,7 @@ use borrow.Author.Needs.{needs}
 use mathlib.Core.Path.{_≡_, sym, _∙_, ap, ap₂}
 use mathlib.Core.Bool.{_||_, not}
 use lib.Dec.{eqb}
+use Rattle.profile.specs.Limits.{zero-byte}
 use Rattle.profile.specs.Refusals.{profile-out-of-range}
 use Rattle.logfile.specs.Files.{field, file-profile}
 use Rattle.logfile.proofs.Sections.{range-eq}
@@ -30,7 +31,7 @@ tested c =
 returns : tie.Need-returns
 returns c =
     let f = c .before .before .before .before .before .before .args .f .now in
-    sym (ap (λ t. t || not (eqb (field f 11) 0)) (tested (c .before) ∙ c .if1 .taken))
+    sym (ap (λ t. t || not (eqb (field f zero-byte) 0)) (tested (c .before) ∙ c .if1 .taken))
 
 field-at-requires-4 : tie.Need-field-at-requires-4
 field-at-requires-4 c κs = search needs

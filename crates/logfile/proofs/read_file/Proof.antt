@@ -6,6 +6,7 @@ use mathlib.Core.List.{[], _∷_}
 use Prim.Native.Nat.{_*_, _≤_}
 use native.Mathlib.Omega.{arith}
 use lib.ListN.{length}
+use Rattle.profile.specs.Limits.{letters-byte, most-letters, most-moves, states-byte}
 use Rattle.profile.specs.Refusals.{checked, lowest}
 use Rattle.profile.specs.declared.Refusal.the-variants.{ShortBuffer}
 use Rattle.theory.proofs.Refusals.{lowest-first}
@@ -23,7 +24,7 @@ entry c = c .before .before .before .before .before .before .before
 
 -- k and s are the file's, and in range
 known : (c : tie.After-shape-of) → let f = entry c .args .file .now in let h = c .shape-of .result in
-    (h .k ≡ field f 0) × (h .s * h .k ≡ field f 1 * field f 0) × (h .k ≤ 16) × (h .s * h .k ≤ 512)
+    (h .k ≡ field f letters-byte) × (h .s * h .k ≡ field f states-byte * field f letters-byte) × (h .k ≤ most-letters) × (h .s * h .k ≤ most-moves)
 known c = let f = entry c .args .file .now in shape-known f (c .shape-of .ensures) (open-file f (good (c .before)) .0)
 
 check-file-requires : tie.Need-check-file-requires

@@ -4,6 +4,7 @@ use mathlib.Core.Path.{refl, _∙_}
 use Prim.Native.Nat.{_-_}
 use lib.ListN.{replicate}
 use lib.Seq.{length-take-le}
+use Rattle.profile.specs.Limits.{most-letters}
 use Rattle.theory.proofs.Refusals.{log-at, relation-at}
 use Rattle.order.proofs.First.{getD-zeros}
 use native.Mathlib.Omega.{arith}
@@ -54,9 +55,9 @@ put-letters-requires c κs =
         room = p .2;
         start = (_, e .0);
         place = (_, e .1);
-        wide = let m = relation-at (a .k) (a .masks .now) (p .0) .most in length-take-le (a .k - 0) (replicate 16 0) (omega arith) ∙ omega arith;
+        wide = let m = relation-at (a .k) (a .masks .now) (p .0) .most in length-take-le (a .k - 0) (replicate most-letters 0) (omega arith) ∙ omega arith;
         long = relation-at (a .k) (a .masks .now) (p .0) .most;
-        unused = getD-zeros 16;
+        unused = getD-zeros most-letters;
       },
       c .before .before .before .before .before .before .before .before .before .before .before .all-keepers .ensures,
     )

@@ -4,6 +4,7 @@ use mathlib.Core.Path.{_≡_, refl, _∙_, ap}
 use mathlib.Core.List.{map}
 use Prim.Native.Nat.{_+_, _-_, _≤_, _<_}
 use lib.ListN.{length, getD, length-set}
+use Rattle.profile.specs.Limits.{most-letters}
 use Rattle.profile.specs.Lists.{below}
 use Rattle.profile.specs.Refusals.{longest}
 use Rattle.theory.proofs.Refusals.{log-at, relation-at}
@@ -38,7 +39,7 @@ least-next-requires c κs =
 -- what is known of the letter that is chosen
 letter-of : (c : tie.After-least-next Inv-loop μ-loop)
     → (c .least-next .result < c .before .before .before .before .before .before .before .before .before .before .before .before .before .before .before .args .k)
-    × (c .before .before .before .before .before .before .before .before .before .before .before .before .before .before .before .args .k ≤ 16)
+    × (c .before .before .before .before .before .before .before .before .before .before .before .before .before .before .before .args .k ≤ most-letters)
     × (c .least-next .result < length (c .before .before .before .loop .used)) × (c .least-next .result < length (c .before .before .before .loop .next))
     × (getD (c .before .before .before .loop .used) (c .least-next .result) 0 + 1 ≤ longest)
 letter-of c =

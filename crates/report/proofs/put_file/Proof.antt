@@ -6,6 +6,7 @@ use mathlib.Core.Option.{none}
 use Prim.Native.Nat.{ℕ, _-_, _*_, _≤_}
 use native.Mathlib.Omega.{arith}
 use lib.ListN.{take, drop, replicate}
+use Rattle.profile.specs.Limits.{letters-byte, masks-byte, most-letters, most-moves, moves-byte, states-byte}
 use Rattle.profile.specs.Automata.{profile-of}
 use Rattle.profile.specs.Refusals.{lowest}
 use Rattle.logfile.specs.Files.{field, file-log, file-masks, file-moves, file-profile, file-refusals, file-shape, filled, log-length, log-part-of, read-refusal, section}
@@ -21,18 +22,18 @@ abbrev entry : tie.After-reading2 → tie.Start
 entry c = c .before .before .before .before .before .before .before .before .before .before
 
 -- nothing is refused, and the numbers are the file's
-told : (c : tie.After-reading2) → let f = entry c .args .file .now in (read-refusal f 16 512 ≡ none) × (c .reading2 .given .0 .0 ≡ file-shape f)
+told : (c : tie.After-reading2) → let f = entry c .args .file .now in (read-refusal f most-letters most-moves ≡ none) × (c .reading2 .given .0 .0 ≡ file-shape f)
 told c =
     let f = entry c .args .file .now in
     let e = sym (c .before .before .before .before .read-file .ensures .0) ∙ c .reading2 .given .1 in
-    (refusal-read (read-refusal f 16 512) (file-shape f) (log-length f) e, sym (shape-read (read-refusal f 16 512) (file-shape f) (log-length f) e))
+    (refusal-read (read-refusal f most-letters most-moves) (file-shape f) (log-length f) e, sym (shape-read (read-refusal f most-letters most-moves) (file-shape f) (log-length f) e))
 
 good : (c : tie.After-reading2) → lowest (file-refusals (entry c .args .file .now)) ≡ none
-good c = file-good (entry c .args .file .now) 16 512 (told c .0)
+good c = file-good (entry c .args .file .now) most-letters most-moves (told c .0)
 
 -- k and s are in range
 known : (c : tie.After-reading2) → let f = entry c .args .file .now in let h = c .reading2 .given .0 .0 in
-    (h .k ≡ field f 0) × (h .s * h .k ≡ field f 1 * field f 0) × (h .k ≤ 16) × (h .s * h .k ≤ 512)
+    (h .k ≡ field f letters-byte) × (h .s * h .k ≡ field f states-byte * field f letters-byte) × (h .k ≤ most-letters) × (h .s * h .k ≤ most-moves)
 known c = let f = entry c .args .file .now in shape-known f (told c .1) (open-file f (good c) .0)
 
 -- what is judged is the file's profile and log
@@ -46,9 +47,9 @@ profile-read c {w} e =
     let t = told c in
     let l = r .last .1 .0 in
     let v = r .last .1 .1 .0 in
-    let masks = first-part (file-masks f) (replicate 16 0) l (r .ensures .1 ∙ ap (λ q. filled q (file-masks f) (replicate 16 0)) (t .0)) (numbers-length 2 f (section f 4) (field f 0) ∙ sym (n .0)) in
-    let moves = first-part (file-moves f) (replicate 512 0) v (r .ensures .2 ∙ ap (λ q. filled q (file-moves f) (replicate 512 0)) (t .0))
-    (numbers-length 4 f (section f 6) (field f 1 * field f 0) ∙ sym (n .1)) in
+    let masks = first-part (file-masks f) (replicate most-letters 0) l (r .ensures .1 ∙ ap (λ q. filled q (file-masks f) (replicate most-letters 0)) (t .0)) (numbers-length 2 f (section f masks-byte) (field f letters-byte) ∙ sym (n .0)) in
+    let moves = first-part (file-moves f) (replicate most-moves 0) v (r .ensures .2 ∙ ap (λ q. filled q (file-moves f) (replicate most-moves 0)) (t .0))
+    (numbers-length 4 f (section f moves-byte) (field f states-byte * field f letters-byte) ∙ sym (n .1)) in
     ap (λ g. judged-text (profile-of g (take (h .k - 0) (drop 0 l)) (take (h .s * h .k - 0) (drop 0 v))) w) (t .1)
     ∙ ap₂ (λ x y. judged-text (profile-of (file-shape f) x y) w) masks moves ∙ ap (judged-text (file-profile f)) (e ∙ log-told f (good c))
     ∙ sym (ap (λ q. unless-refused q (judged-text (file-profile f) (file-log f))) (t .0))
@@ -105,7 +106,7 @@ returns : tie.Need-returns
 returns c =
     let r = c .before .before .before .before .before .before .before .before .before .read-file in
     let f = c .before .before .before .before .before .before .before .before .before .before .before .before .before .before .before .args .file .now in
-    let e = refusal-read (read-refusal f 16 512) (file-shape f) (log-length f) (sym (r .ensures .0) ∙ c .before .before .before .before .before .reading .given .1) in
+    let e = refusal-read (read-refusal f most-letters most-moves) (file-shape f) (log-length f) (sym (r .ensures .0) ∙ c .before .before .before .before .before .reading .given .1) in
     put-as (sym (ap (λ q. unless-refused q (judged-text (file-profile f) (file-log f))) e)) (c .before .before .put-refused .ensures)
 
 same-length-2 : tie.Need-same-length-2

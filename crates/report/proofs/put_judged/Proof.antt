@@ -4,6 +4,7 @@ use mathlib.Core.Path.{refl, sym, subst}
 use Prim.Native.Nat.{_-_, _≤_}
 use native.Mathlib.Omega.{arith}
 use lib.ListN.{length, replicate, length-take}
+use Rattle.profile.specs.Limits.{longest}
 use Rattle.profile.specs.Automata.{Profile, profile-of}
 use Rattle.verdict.specs.Verdict.{Promise}
 use Rattle.verdict.specs.declared.Judged.{Judged}
@@ -20,15 +21,15 @@ entry b = b .before .before .before .before .before .before .before .before
 
 -- what the judge promises of an answer
 abbrev promised : tie.After-judge → Judged → Type 0
-promised b = let s = entry b in Promise (called s) (s .args .log .now) (replicate 4000 0) (b .judge .last .1 .1 .1 .1 .0) (s .args .work .now) (b .judge .last .1 .1 .1 .1 .1 .0)
+promised b = let s = entry b in Promise (called s) (s .args .log .now) (replicate longest 0) (b .judge .last .1 .1 .1 .1 .0) (s .args .work .now) (b .judge .last .1 .1 .1 .1 .1 .0)
 
 -- an order has place
-room : (c : tie.After-judged3) → length (entry (c .before .before .before .before .before) .args .log .now) ≤ 4000
+room : (c : tie.After-judged3) → length (entry (c .before .before .before .before .before) .args .log .now) ≤ longest
 room c =
     let b = c .before .before .before .before .before in
     let s = entry b in
     let g = c .judged3 .given in
-    order-room (called s) (s .args .log .now) (replicate 4000 0) (b .judge .last .1 .1 .1 .1 .0) (s .args .work .now) (b .judge .last .1 .1 .1 .1 .1 .0) refl (s .pre .1) (g .0 .0) (g .0 .1 .0) (subst (promised b) (g .1) (b .judge .ensures))
+    order-room (called s) (s .args .log .now) (replicate longest 0) (b .judge .last .1 .1 .1 .1 .0) (s .args .work .now) (b .judge .last .1 .1 .1 .1 .1 .0) refl (s .pre .1) (g .0 .0) (g .0 .1 .0) (subst (promised b) (g .1) (b .judge .ensures))
 
 slice-aggregate-judge : tie.Need-slice-aggregate-judge
 slice-aggregate-judge c = search needs
@@ -80,7 +81,7 @@ returns c =
     let b = c .before .before .before .before .before .before .before .before .before .before in
     let s = entry b in
     let g = c .before .before .before .before .before .judged .given in
-    put-as (sym (text-refused (called s) (s .args .log .now) (replicate 4000 0) (b .judge .last .1 .1 .1 .1 .0) (s .args .work .now) (b .judge .last .1 .1 .1 .1 .1 .0) refl (s .pre .1) (g .0 .0) (subst (promised b) (g .1) (b .judge .ensures)))) (c .before .before .put-refused .ensures)
+    put-as (sym (text-refused (called s) (s .args .log .now) (replicate longest 0) (b .judge .last .1 .1 .1 .1 .0) (s .args .work .now) (b .judge .last .1 .1 .1 .1 .1 .0) refl (s .pre .1) (g .0 .0) (subst (promised b) (g .1) (b .judge .ensures)))) (c .before .before .put-refused .ensures)
 
 same-length-3 : tie.Need-same-length-3
 same-length-3 c = search needs
@@ -93,7 +94,7 @@ returns-2 c =
     let b = c .before .before .before .before .before .before .before .before .before .before in
     let s = entry b in
     let g = c .before .before .before .before .before .judged2 .given in
-    put-as (sym (text-none (called s) (s .args .log .now) (replicate 4000 0) (b .judge .last .1 .1 .1 .1 .0) (s .args .work .now) (b .judge .last .1 .1 .1 .1 .1 .0) refl (s .pre .1) (g .0 .0) (g .0 .1 .0) (subst (promised b) (g .1) (b .judge .ensures)))) (c .before .before .put-verdict .ensures .0)
+    put-as (sym (text-none (called s) (s .args .log .now) (replicate longest 0) (b .judge .last .1 .1 .1 .1 .0) (s .args .work .now) (b .judge .last .1 .1 .1 .1 .1 .0) refl (s .pre .1) (g .0 .0) (g .0 .1 .0) (subst (promised b) (g .1) (b .judge .ensures)))) (c .before .before .put-verdict .ensures .0)
 
 same-length-5 : tie.Need-same-length-5
 same-length-5 c = search needs
@@ -106,7 +107,7 @@ returns-3 c =
     let b = c .before .before .before .before .before .before .before .before .before .before .before .before .before .before .before .before in
     let s = entry b in
     let g = c .before .before .before .before .before .before .before .before .before .before .before .judged3 .given in
-    put-as (sym (text-some (called s) (s .args .log .now) (replicate 4000 0) (b .judge .last .1 .1 .1 .1 .0) (s .args .work .now) (b .judge .last .1 .1 .1 .1 .1 .0) refl (s .pre .1) (g .0 .0) (g .0 .1 .0) (subst (promised b) (g .1) (b .judge .ensures))))
+    put-as (sym (text-some (called s) (s .args .log .now) (replicate longest 0) (b .judge .last .1 .1 .1 .1 .0) (s .args .work .now) (b .judge .last .1 .1 .1 .1 .1 .0) refl (s .pre .1) (g .0 .0) (g .0 .1 .0) (subst (promised b) (g .1) (b .judge .ensures))))
     (put-then (c .before .before .before .before .before .before .before .before .put-verdict2 .ensures .0) (c .before .before .put-order .ensures))
 
 pub put-judged-spec : {M : Type 1} → statement M

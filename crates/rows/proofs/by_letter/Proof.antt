@@ -5,6 +5,7 @@ use Prim.Native.Nat.{_*_, _-_, _≤_}
 use native.Mathlib.Omega.{arith}
 use borrow.Author.Needs.{needs}
 use lib.ListN.{drop, replicate, set}
+use Rattle.profile.specs.Limits.{most-moves, most-states}
 use Rattle.profile.specs.Lists.{below}
 use Rattle.rows.specs.Rows.{by-letter, led}
 use Rattle.theory.proofs.Fronts.{front-put}
@@ -12,7 +13,7 @@ use Rattle.rows.proofs.by_letter.Statement.{statement}
 use Rattle.rows.proofs.by_letter.Tie as tie
 
 abbrev Inv-loop : tie.InvT-loop
-Inv-loop moves k s rows₀ end i₀ rows i = (i ≤ end) × (rows ≡ map (led k s moves) (below i) ++ drop i (replicate 512 0))
+Inv-loop moves k s rows₀ end i₀ rows i = (i ≤ end) × (rows ≡ map (led k s moves) (below i) ++ drop i (replicate most-moves 0))
 
 abbrev μ-loop : tie.MeasureT-loop
 μ-loop moves k s rows₀ end i₀ rows i = end - i
@@ -43,15 +44,15 @@ loop-again c =
     let a = c .before .before .before .before .args in
     let l = c .before .before .loop in (
       search needs,
-      ap₂ (λ r n. set r (l .i) n) (l .inv .1) (c .led .ensures) ∙ front-put (led (a .k) (a .s) (a .moves .now)) (replicate 512 0) (l .i) (omega arith),
+      ap₂ (λ r n. set r (l .i) n) (l .inv .1) (c .led .ensures) ∙ front-put (led (a .k) (a .s) (a .moves .now)) (replicate most-moves 0) (l .i) (omega arith),
     )
 
 returns : tie.Need-returns Inv-loop μ-loop
 unfolding by-letter
 returns c =
     let a = c .before .before .before .args in
-    let e : c .before .loop .i ≡ 32 * a .k = omega arith in
-    c .before .loop .inv .1 ∙ ap (λ n. map (led (a .k) (a .s) (a .moves .now)) (below n) ++ drop n (replicate 512 0)) e
+    let e : c .before .loop .i ≡ most-states * a .k = omega arith in
+    c .before .loop .inv .1 ∙ ap (λ n. map (led (a .k) (a .s) (a .moves .now)) (below n) ++ drop n (replicate most-moves 0)) e
 
 pub by-letter-spec : {M : Type 1} → statement M
 by-letter-spec =

@@ -4,6 +4,7 @@ use mathlib.Core.Bool.{cond}
 use borrow.Author.Needs.{needs}
 use borrow.Author.Tests.{le-ltb, lt-ltb}
 use Prim.Native.Nat.{_/_, _%_}
+use Rattle.profile.specs.Limits.{most-states}
 use Rattle.profile.specs.Automata.{row}
 use Rattle.rows.proofs.led.Statement.{statement}
 use Rattle.rows.proofs.led.Tie as tie
@@ -14,12 +15,12 @@ leads-from-requires c κs = search needs
 returns : tie.Need-returns
 returns c =
     let a = c .before .before .before .args in
-    c .leads-from .ensures ∙ ap (λ b. cond b (row (a .k) (a .moves .now) (a .i % 32) (a .i / 32)) 0) (sym (lt-ltb (a .i % 32) (a .s) (c .before .if1 .taken)))
+    c .leads-from .ensures ∙ ap (λ b. cond b (row (a .k) (a .moves .now) (a .i % most-states) (a .i / most-states)) 0) (sym (lt-ltb (a .i % most-states) (a .s) (c .before .if1 .taken)))
 
 returns-2 : tie.Need-returns-2
 returns-2 c =
     let a = c .before .before .args in
-    sym (ap (λ b. cond b (row (a .k) (a .moves .now) (a .i % 32) (a .i / 32)) 0) (le-ltb (a .i % 32) (a .s) (c .if1 .left)))
+    sym (ap (λ b. cond b (row (a .k) (a .moves .now) (a .i % most-states) (a .i / most-states)) 0) (le-ltb (a .i % most-states) (a .s) (c .if1 .left)))
 
 pub led-spec : {M : Type 1} → statement M
 led-spec = tie.close (tie.spec leads-from-requires returns returns-2)

@@ -6,14 +6,15 @@ use native.Mathlib.Nat.{mul-le-mul}
 use native.Mathlib.Omega.{arith}
 use lib.ListN.{drop, getD, length, length-drop, List·getD-eq-default}
 use lib.Seq.{getD-drop, take-all}
+use Rattle.profile.specs.Limits.{most-letters, most-states}
 use Rattle.steps.proofs.leads_from.Statement.{statement}
 use Rattle.steps.proofs.leads_from.Tie as tie
 
 mul-at : tie.Need-mul-at
 mul-at c =
     let a = c .before .args in
-    let q : a .q ≤ 32 = omega arith in
-    let k : a .k ≤ 16 = omega arith in
+    let q : a .q ≤ most-states = omega arith in
+    let k : a .k ≤ most-letters = omega arith in
     omega (arith, mul-le-mul q k)
 
 mul-leads : tie.Need-mul-leads

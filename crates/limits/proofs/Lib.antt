@@ -1,0 +1,2 @@
+-- What the code relies on among the limits.
+pub mod Relations
