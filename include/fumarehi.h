@@ -15,11 +15,11 @@
  *    7  the log has more than 4,000 letters; in a file too, before 8 is looked for
  *    8  a letter of the log is k or more; its first place in the log is told, from 0
  *    9  an output buffer is shorter than what it must receive
- *   10  the records of all prefixes do not fit the work table
+ *   10  the records of all prefixes do not fit the work table, or the table of a running judge
  *
  * Each call writes every element of 'told'. Element 0 is the refusal's place (fumarehi_find tells none): 0 but for refusals 8 and 11, and 0 where
  * nothing is refused. After a refusal the other elements are 0 (fumarehi_same also tells the log). Each array lent as a buffer is unchanged after a
- * refusal, but for the work table after refusal 10, whose content is then free.
+ * refusal, but for the work table of fumarehi_judge and fumarehi_table after refusal 10, whose content is then free.
  *
  * Arguments. A slice is a pointer and its length in elements. No argument is out of bounds for these functions: they answer for all numbers and all
  * lengths. What the caller owes, since nothing here can test it:
@@ -167,6 +167,52 @@ uint32_t fumarehi_expression(size_t k,
                              const uint8_t *text, size_t text_len,
                              uint32_t *moves, size_t moves_len,
                              uint64_t told[4]);
+
+/* A running judge: the verdict while events come in. Its record belongs to the caller: P, then the number of events taken. Start it once, then give it
+ * events and ask it at any moment, with the same profile, and with the record and the table lent each time as the last call left them:
+ *
+ *     uint64_t record[2], place, told[4];
+ *     refused = fumarehi_run_start(k, s, start, finals, masks, k, moves, s * k, record, table, table_len, &place);
+ *     while (!refused && more_events()) {
+ *         refused = fumarehi_run_event(k, s, start, finals, masks, k, moves, s * k, next_letter(), record, table, table_len, &place);
+ *         if (!refused && !fumarehi_run_question(k, s, start, finals, masks, k, moves, s * k, record, table, table_len, told))
+ *             show(told[1], told[2], told[3]);
+ *     }
+ *
+ * What a question tells is then what fumarehi_judge tells for the list of events taken, refused ones left out, and its length. The table has the
+ * records of fumarehi_table, but in order of arrival: those of one event stand behind all earlier ones, in the order of the records that the event is
+ * added to. Number 9 of a record is never written. An event costs time for the records that stand, and not for the events taken.
+ * A refused call leaves the record and the whole table. With a record or table not as left, or another profile, a call still answers; 10 is then given
+ * where the record's P does not fit the table and nothing before it in the list applies, and what it tells and writes otherwise is free. The table may
+ * be longer or shorter than at the call before, as long as the records stand in it. */
+
+/* Starts a running judge. told: place. The record becomes 1, 0, and the table's first record that of the empty prefix.
+ * Refused by 2, 4, 6 and 10: no place for one record. */
+uint32_t fumarehi_run_start(size_t k, size_t s, size_t start, uint32_t finals,
+                            const uint16_t *masks, size_t masks_len,
+                            const uint32_t *moves, size_t moves_len,
+                            uint64_t record[2],
+                            uint32_t *table, size_t table_len,
+                            uint64_t told[1]);
+
+/* Takes an event. told: place, which at 8 is the number of events taken.
+ * Refused by 2, 4, 6, 7: 4,000 events are taken, 8: the letter is k or more, and 10: the record's P, or P after the event, does not fit the table. */
+uint32_t fumarehi_run_event(size_t k, size_t s, size_t start, uint32_t finals,
+                            const uint16_t *masks, size_t masks_len,
+                            const uint32_t *moves, size_t moves_len,
+                            uint8_t letter,
+                            uint64_t record[2],
+                            uint32_t *table, size_t table_len,
+                            uint64_t told[1]);
+
+/* Asks for the verdict. told: place, verdict, P, number of events taken. Nothing is written but 'told'.
+ * Refused by 2, 4, 6 and 10: the record's P does not fit the table. */
+uint32_t fumarehi_run_question(size_t k, size_t s, size_t start, uint32_t finals,
+                               const uint16_t *masks, size_t masks_len,
+                               const uint32_t *moves, size_t moves_len,
+                               const uint64_t record[2],
+                               const uint32_t *table, size_t table_len,
+                               uint64_t told[4]);
 
 #ifdef __cplusplus
 }

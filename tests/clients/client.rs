@@ -1,7 +1,7 @@
 //! A Rust client of the static library: client SAMPLE.log ...
 //!
-//! Judges the samples by the safe wrappers as the program `judge` does and compares with SAMPLE.txt, writes and reads back what was read, judges
-//! logs by typed courses, and makes refused calls, which must leave their buffers as they were.
+//! Judges the samples by the safe wrappers as the program `judge` does and compares with SAMPLE.txt, also event by event, writes and reads back what
+//! was read, judges logs by typed courses, and makes refused calls, which must leave their buffers as they were.
 
 mod fumarehi;
 
@@ -101,8 +101,21 @@ fn sample(compared: &mut Compared, path: &str) {
     let printed = if file.len() > 65_536 { "too long\n".into() } else { text(&answer) };
     compared.expect(printed == expected, &format!("{path} gives {printed}"));
     if let Ok(read) = &read {
+        let standing = event_by_event(read);
+        let judged = answer.as_ref().map(|(prefixes, order)| (order.is_some(), *prefixes)).map_err(|refused| *refused);
+        compared.expect(standing == judged, &format!("{path}: event by event {standing:?}"));
         held(compared, path, &file, read, answer.ok().and_then(|(_, order)| order).as_deref());
     }
+}
+
+/// What a running judge tells once it has taken the log: verdict and P, or the refusal of an event that does not fit.
+fn event_by_event(read: &Read) -> Result<(bool, u64), Refused> {
+    let (p, mut table) = (read.profile(), [0; 16_380]);
+    let mut running = fumarehi::run_start(&p, &mut table)?;
+    read.log.iter().try_for_each(|&letter| running.event(&p, letter, &mut table))?;
+    let standing = running.question(&p, &table)?;
+    assert_eq!(standing.taken, read.log.len() as u64);
+    Ok((standing.has_order, standing.prefixes))
 }
 
 // Refused calls. Alt is the profile of document 01's file.

@@ -66,6 +66,31 @@ mod c {
             moves: *mut u32, moves_len: usize,
             told: *mut u64,
         ) -> u32;
+        pub fn fumarehi_run_start(
+            k: usize, s: usize, start: usize, finals: u32,
+            masks: *const u16, masks_len: usize,
+            moves: *const u32, moves_len: usize,
+            record: *mut u64,
+            table: *mut u32, table_len: usize,
+            told: *mut u64,
+        ) -> u32;
+        pub fn fumarehi_run_event(
+            k: usize, s: usize, start: usize, finals: u32,
+            masks: *const u16, masks_len: usize,
+            moves: *const u32, moves_len: usize,
+            letter: u8,
+            record: *mut u64,
+            table: *mut u32, table_len: usize,
+            told: *mut u64,
+        ) -> u32;
+        pub fn fumarehi_run_question(
+            k: usize, s: usize, start: usize, finals: u32,
+            masks: *const u16, masks_len: usize,
+            moves: *const u32, moves_len: usize,
+            record: *const u64,
+            table: *const u32, table_len: usize,
+            told: *mut u64,
+        ) -> u32;
     }
 }
 
@@ -291,6 +316,46 @@ pub mod numbers {
     pub fn expression(k: usize, text: &[u8], moves: &mut [u32], told: &mut [u64; 4]) -> u32 {
         unsafe { c::fumarehi_expression(k, text.as_ptr(), text.len(), moves.as_mut_ptr(), moves.len(), told.as_mut_ptr()) }
     }
+
+    pub fn run_start(p: &Profile, record: &mut [u64; 2], table: &mut [u32], told: &mut [u64; 1]) -> u32 {
+        unsafe {
+            c::fumarehi_run_start(
+                p.k, p.s, p.start, p.finals,
+                p.masks.as_ptr(), p.masks.len(),
+                p.moves.as_ptr(), p.moves.len(),
+                record.as_mut_ptr(),
+                table.as_mut_ptr(), table.len(),
+                told.as_mut_ptr(),
+            )
+        }
+    }
+
+    pub fn run_event(p: &Profile, letter: u8, record: &mut [u64; 2], table: &mut [u32], told: &mut [u64; 1]) -> u32 {
+        unsafe {
+            c::fumarehi_run_event(
+                p.k, p.s, p.start, p.finals,
+                p.masks.as_ptr(), p.masks.len(),
+                p.moves.as_ptr(), p.moves.len(),
+                letter,
+                record.as_mut_ptr(),
+                table.as_mut_ptr(), table.len(),
+                told.as_mut_ptr(),
+            )
+        }
+    }
+
+    pub fn run_question(p: &Profile, record: &[u64; 2], table: &[u32], told: &mut [u64; 4]) -> u32 {
+        unsafe {
+            c::fumarehi_run_question(
+                p.k, p.s, p.start, p.finals,
+                p.masks.as_ptr(), p.masks.len(),
+                p.moves.as_ptr(), p.moves.len(),
+                record.as_ptr(),
+                table.as_ptr(), table.len(),
+                told.as_mut_ptr(),
+            )
+        }
+    }
 }
 
 fn answer<T>(number: u32, place: u64, log: u64, value: impl FnOnce() -> T) -> Result<T, Refused> {
@@ -391,5 +456,45 @@ impl Iterator for Events<'_> {
             END => None,
             letter => Some(letter as u8),
         }
+    }
+}
+
+/// The record of a running judge: its caller keeps it beside the table, and lends both to the next call as the last one left them.
+#[derive(Clone, Copy, Debug, PartialEq, Eq)]
+pub struct Running {
+    pub prefixes: u64,
+    pub taken: u64,
+}
+
+/// What a running judge tells of the events taken so far.
+#[derive(Clone, Copy, Debug, PartialEq, Eq)]
+pub struct Standing {
+    /// Verdict 1: some log that exchanges reach is accepted.
+    pub has_order: bool,
+    pub prefixes: u64,
+    pub taken: u64,
+}
+
+/// Starts a running judge.
+pub fn run_start(p: &Profile, table: &mut [u32]) -> Result<Running, Refused> {
+    let (mut record, mut told) = ([0; 2], [0; 1]);
+    let number = numbers::run_start(p, &mut record, table, &mut told);
+    answer(number, told[0], 0, || Running { prefixes: record[0], taken: record[1] })
+}
+
+impl Running {
+    /// Takes an event; where it is refused, record and table stay.
+    pub fn event(&mut self, p: &Profile, letter: u8, table: &mut [u32]) -> Result<(), Refused> {
+        let (mut record, mut told) = ([self.prefixes, self.taken], [0; 1]);
+        let number = numbers::run_event(p, letter, &mut record, table, &mut told);
+        [self.prefixes, self.taken] = record;
+        answer(number, told[0], 0, || ())
+    }
+
+    pub fn question(&self, p: &Profile, table: &[u32]) -> Result<Standing, Refused> {
+        let mut told = [0; 4];
+        let number = numbers::run_question(p, &[self.prefixes, self.taken], table, &mut told);
+        let [place, verdict, prefixes, taken] = told;
+        answer(number, place, 0, || Standing { has_order: verdict == 1, prefixes, taken })
     }
 }

@@ -3,11 +3,12 @@
 //! Valid calls of small size, calls with damage, files laid out freely and damaged, texts right and wrong. Every call is made twice, by the
 //! header's numbers and by the safe wrapper, on buffers with random content and random guards around; every buffer is compared whole afterwards,
 //! only the lent part of the work table is left out after refusal 10. Logs are judged by the courses that right texts type. All short texts are
-//! tried too. A refusal that a function can give and never gave is a failure.
+//! tried too. Lists of calls of the running judge are in `running.rs`. A refusal that a function can give and never gave is a failure.
 
 mod courses;
 mod fumarehi;
 mod reference;
+mod running;
 mod texts;
 
 use fumarehi::numbers;
@@ -501,7 +502,7 @@ fn file(random: &mut Random) -> Vec<u8> {
 
 // What was met.
 
-const FUNCTIONS: [(&str, &[usize]); 10] = [
+const FUNCTIONS: [(&str, &[usize]); 13] = [
     ("judge", &[2, 4, 6, 7, 8, 9, 10]),
     ("table", &[2, 4, 6, 7, 8, 10]),
     ("same", &[2, 4, 7, 8]),
@@ -512,6 +513,9 @@ const FUNCTIONS: [(&str, &[usize]); 10] = [
     ("next_event", &[]),
     ("expression", &[2, 9, 11, 12, 13]),
     ("find", &[2]),
+    ("run_start", &[2, 4, 6, 10]),
+    ("run_event", &[2, 4, 6, 7, 8, 10]),
+    ("run_question", &[2, 4, 6, 10]),
 ];
 
 #[derive(Default)]
@@ -537,6 +541,7 @@ struct Seen {
     most_typed: [u64; 2],
     /// Texts up to `LISTED_TEXT` bytes, wrong and right.
     listed: [u64; 2],
+    running: running::Met,
 }
 
 impl Seen {
@@ -554,11 +559,11 @@ impl Seen {
     }
 
     fn print(&self) {
-        print!("{:<12}{:>9}", "function", "answered");
+        print!("{:<14}{:>9}", "function", "answered");
         (1..=REFUSALS).for_each(|number| print!("{number:>7}"));
         println!("{:>9}", "calls");
         for ((name, possible), answers) in FUNCTIONS.iter().zip(&self.answers) {
-            print!("{name:<12}{:>9}", answers[0]);
+            print!("{name:<14}{:>9}", answers[0]);
             for number in 1..=REFUSALS {
                 if possible.contains(&number) { print!("{:>7}", answers[number]) } else { print!("{:>7}", "-") }
             }
@@ -577,6 +582,7 @@ impl Seen {
         println!("typed courses: logs described {yes}, not {no}; with independent letters a described log reached {yes_reached}, none {no_reached}");
         let ([letters, brackets], [wrong, right]) = (self.most_typed, self.listed);
         println!("texts answered with 31 letters: {letters}, 16 deep: {brackets}; all texts up to {LISTED_TEXT} bytes: right {right}, wrong {wrong}");
+        self.running.print();
     }
 
     /// What a test of full size has met.
@@ -614,6 +620,7 @@ impl Seen {
         if self.orders[1] == 0 || self.refused_log[1..].contains(&0) {
             missing.push("no order other than log and first order, or a log that same never named".into());
         }
+        missing.extend(self.running.missing());
         missing
     }
 }
@@ -1084,7 +1091,7 @@ fn check_listed(random: &mut Random, seen: &mut Seen) -> Checked {
 }
 
 fn check(random: &mut Random, seen: &mut Seen) -> Checked {
-    match random.below(114) {
+    match random.below(118) {
         0..=29 => check_judge(random, seen),
         30..=46 => check_table(random, seen),
         47..=58 => check_same(random, seen),
@@ -1094,7 +1101,8 @@ fn check(random: &mut Random, seen: &mut Seen) -> Checked {
         90..=97 => check_write_file(random, seen),
         98..=99 => check_next_event(random, seen),
         100..=109 => check_expression(random, seen),
-        _ => check_find(random, seen),
+        110..=113 => check_find(random, seen),
+        _ => running::check(random, seen),
     }
 }
 
@@ -1123,6 +1131,6 @@ fn main() -> ExitCode {
     seen.print();
     let missing = if failures < ENOUGH { seen.missing() } else { vec![] };
     missing.iter().for_each(|what| println!("FAILED: {what}"));
-    println!("fuzz: seed {seed}, {} of {calls} calls, each by numbers and by wrapper: {failures} failed", seen.calls());
+    println!("fuzz: seed {seed}, {calls} cases, {} calls, each by numbers and by wrapper: {failures} failed", seen.calls());
     if failures == 0 && missing.is_empty() { ExitCode::SUCCESS } else { ExitCode::FAILURE }
 }

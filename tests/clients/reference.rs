@@ -85,7 +85,7 @@ fn relation(k: usize, masks: &[u16]) -> Result<(), Refused> {
     mask_bits(masks)
 }
 
-fn profile(p: &Profile) -> Result<(), Refused> {
+pub fn profile(p: &Profile) -> Result<(), Refused> {
     letters_in_range(p.k, &p.masks)?;
     states_in_range(p)?;
     mask_bits(&p.masks)?;

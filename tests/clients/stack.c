@@ -39,7 +39,7 @@ enum { EVENTS = 4000, NUMBERS = 10 * 4400 }; /* the log has 4,251 prefixes */
 static uint32_t moves[512], table[NUMBERS];
 static uint8_t log[EVENTS], order[EVENTS], file[6144], text[4096];
 static size_t text_len, file_len;
-static uint64_t told[6];
+static uint64_t told[6], record[2];
 static uint32_t answer;
 
 static void nothing(void) {}
@@ -50,6 +50,10 @@ static void first_order(void) { answer = fumarehi_first_order(16, masks, 16, log
 static void write_file(void) { answer = fumarehi_write_file(16, 32, 0, 1, masks, 16, moves, 512, log, EVENTS, file, sizeof file, told); }
 static void read_file(void) { answer = fumarehi_read_file(file, file_len, masks, 16, moves, 512, told); }
 static void log_part(void) { answer = fumarehi_log_part(file, file_len, told); }
+static void run_event_of(uint8_t letter) { answer = fumarehi_run_event(16, 32, 0, 1, masks, 16, moves, 512, letter, record, table, NUMBERS, told); }
+static void run_start(void) { answer = fumarehi_run_start(16, 32, 0, 1, masks, 16, moves, 512, record, table, NUMBERS, told); }
+static void run_event(void) { run_event_of(0); }
+static void run_question(void) { answer = fumarehi_run_question(16, 32, 0, 1, masks, 16, moves, 512, record, table, NUMBERS, told); }
 static void expression(void) { answer = fumarehi_expression(16, text, text_len, moves, 512, told); }
 
 static void type(const char *part, size_t count)
@@ -95,6 +99,11 @@ int main(void)
     file_len = told[1];
     print("read_file", read_file);
     print("log_part", log_part);
+    print("run_start", run_start);
+    for (size_t i = 0; i < EVENTS - 1; i++)
+        run_event_of(log[i]);
+    print("run_event", run_event);
+    print("run_question", run_question);
     type_nested("a", 0);
     print("expression, 31 letters in a row", expression);
     type_nested("a|", 0);

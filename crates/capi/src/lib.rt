@@ -10,6 +10,7 @@ ghost use Rattle.filewriter.specs.Written.{file-bytes, write-refusal, writing};
 ghost use Rattle.logreader.specs.Events.{event-of, place-behind};
 ghost use Rattle.expression.specs.Making.{made-buffer, making};
 ghost use Rattle.capi.specs.Numbers.{Building, Finding, Judging, compared-code, compared-told, event-number, located-code, located-told, made-code, made-told, ordered-code, ordered-told, reading-code, reading-told, writing-code, writing-told};
+ghost use Rattle.calls.specs.Calls.{Asking, Starting, Stepping};
 use comparison::Compared;
 use expression::Made;
 use filewriter::Writing;
@@ -302,4 +303,77 @@ pub extern "C" fn fumarehi_expression(
             0
         }
     }
+}
+
+// The running judge's start: `held` is its record, P and the number of events taken.
+#[no_mangle]
+pub extern "C" fn fumarehi_run_start(
+    k: usize,
+    s: usize,
+    start: usize,
+    finals: u32,
+    masks: &[u16],
+    moves: &[u32],
+    held: &mut [u64; 2],
+    table: &mut [u32],
+    told: &mut [u64; 1],
+) -> u32
+    ensures { λ r. ⌜ Starting (profile-of (record { k = k; s = s; start = start; finals = finals }) (now (masks .entry)) (now (moves .entry))) (now (held .entry)) (now (held .exit)) (now (table .entry)) (now (table .exit)) r (now (told .exit)) ⌝ }
+{
+    let shape = Shape {
+        k: k,
+        s: s,
+        start: start,
+        finals: finals,
+    };
+    calls::start(shape, masks, moves, held, table, told)
+}
+
+// The running judge's event.
+#[no_mangle]
+pub extern "C" fn fumarehi_run_event(
+    k: usize,
+    s: usize,
+    start: usize,
+    finals: u32,
+    masks: &[u16],
+    moves: &[u32],
+    letter: u8,
+    held: &mut [u64; 2],
+    table: &mut [u32],
+    told: &mut [u64; 1],
+) -> u32
+    ensures { λ r. ⌜ Stepping (profile-of (record { k = k; s = s; start = start; finals = finals }) (now (masks .entry)) (now (moves .entry))) letter (now (held .entry)) (now (held .exit)) (now (table .entry)) (now (table .exit)) r (now (told .exit)) ⌝ }
+{
+    let shape = Shape {
+        k: k,
+        s: s,
+        start: start,
+        finals: finals,
+    };
+    calls::event(shape, masks, moves, letter, held, table, told)
+}
+
+// The running judge's question.
+#[no_mangle]
+pub extern "C" fn fumarehi_run_question(
+    k: usize,
+    s: usize,
+    start: usize,
+    finals: u32,
+    masks: &[u16],
+    moves: &[u32],
+    held: &[u64; 2],
+    table: &[u32],
+    told: &mut [u64; 4],
+) -> u32
+    ensures { λ r. ⌜ Asking (profile-of (record { k = k; s = s; start = start; finals = finals }) (now (masks .entry)) (now (moves .entry))) (now (held .entry)) (now (table .entry)) r (now (told .exit)) ⌝ }
+{
+    let shape = Shape {
+        k: k,
+        s: s,
+        start: start,
+        finals: finals,
+    };
+    calls::question(shape, masks, moves, held, table, told)
 }

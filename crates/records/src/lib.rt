@@ -3,12 +3,14 @@ ghost use mathlib.Core.Path.{_≡_};
 ghost use mathlib.Core.List.{[], _∷_, _++_};
 ghost use Prim.Native.Nat.{_+_, _*_, _≤_};
 ghost use lib.ListN.{length, set};
-ghost use Rattle.profile.specs.Tables.{layout, record-length};
+ghost use Rattle.profile.specs.Tables.{capacity as capacity-of, layout, record-length};
 ghost use Rattle.counts.specs.Counts.{words};
 ghost use Rattle.records.specs.Records.{counts-at, forward-at, last-at, put-record, records-in};
 use counts::Counts;
 use counts::NUMBERS;
+use profile::limits::MOST_RECORDS;
 use profile::limits::RECORD_NUMBERS;
+use profile::limits::USABLE_NUMBERS;
 
 // The numbers of a record.
 pub const RECORD: usize = RECORD_NUMBERS;
@@ -18,6 +20,18 @@ pub fn records_in(t: &[u32]) -> usize
     ensures { λ r. ⌜ r ≡ records-in (now (t .entry)) ⌝ }
 {
     t.len() / RECORD
+}
+
+// How many records the table has place for; "a rest below" ten, "and all numbers past the first 4,294,967,292, are unused".
+pub fn capacity(table: &[u32]) -> usize
+    ensures { λ r. ⌜ r ≡ capacity-of layout (length (now (table .entry))) ⌝ }
+{
+    let n = table.len();
+    if USABLE_NUMBERS < n {
+        MOST_RECORDS
+    } else {
+        n / RECORD
+    }
 }
 
 // The counts of record j.

@@ -1,8 +1,6 @@
 // The table of prefixes: document 01, "Prefixes and their table".
-ghost use mathlib.Core.Path.{_≡_};
 ghost use lib.ListN.{length};
 ghost use Rattle.profile.specs.Automata.{profile-of};
-ghost use Rattle.profile.specs.Tables.{capacity as capacity-of, layout};
 ghost use Rattle.table.specs.Table.{Promise, Sound};
 ghost use Rattle.forward.specs.Forward.{Forward};
 use forward::Filled as Pass;
@@ -11,27 +9,12 @@ use profile::Refusal;
 use profile::Shape;
 use profile::limits::MOST_LETTERS;
 use profile::limits::MOST_PLACES;
-use profile::limits::MOST_RECORDS;
 use profile::limits::Place;
-use profile::limits::USABLE_NUMBERS;
-use records::RECORD;
 
 // The answer of building: P and looks, or the refusal.
 pub enum Built {
     Refused(Refusal),
     Filled { prefixes: usize, looks: u64 },
-}
-
-// How many records the table has place for.
-fn capacity(table: &[u32]) -> usize
-    ensures { λ r. ⌜ r ≡ capacity-of layout (length (now (table .entry))) ⌝ }
-{
-    let n = table.len();
-    if USABLE_NUMBERS < n {
-        MOST_RECORDS
-    } else {
-        n / RECORD
-    }
 }
 
 // Puts the records of all prefixes, with the letters that can be added in the place of the backward sets; `room` records fit.
@@ -91,6 +74,6 @@ pub fn build(shape: Shape, masks: &[u16], moves: &[u32], log: &[u8], table: &mut
     if let Check::Bad(r) = letters {
         return Built::Refused(r);
     }
-    let room = capacity(table);
+    let room = records::capacity(table);
     fill(table, room, shape, masks, moves, log)
 }

@@ -38,7 +38,7 @@ use trial::tally;
 use trial::tally::Tally;
 
 // The states to which some order of the marked events leads from the start.
-fn forward_of(shape: Shape, masks: &[u16], moves: &[u32], log: &[u8], marks: usize) -> u32 {
+pub fn forward_of(shape: Shape, masks: &[u16], moves: &[u32], log: &[u8], marks: usize) -> u32 {
     let mut word = [0u8; 8];
     let mut rows = [0u8; 16384];
     let n = take_events(log, marks, true, &mut word);
