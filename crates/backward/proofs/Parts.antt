@@ -10,16 +10,17 @@ use native.Mathlib.Omega.{arith}
 use lib.Dec.{T, ltb, lt→ltb}
 use lib.ListN.{length, getD, set, take, drop, length-append, length-drop}
 use lib.Seq.{drop-at, drop-cons, drop-length, getD-append-add, length-take-le, split-at, take-length, take-suc}
-use Rattle.profile.specs.Automata.{Profile, automaton, backward-step, union}
+use Rattle.profile.specs.Rules.{Rules}
+use Rattle.profile.specs.Automata.{automaton, backward-step, union}
 use Rattle.profile.specs.Lists.{Mem, below, equal?, filter, flat-map}
 use Rattle.profile.specs.Prefixes.{total}
 use Rattle.profile.specs.Tables.{layout, packed, record-length}
-use Rattle.profile.specs.Traces.{bit, independent}
+use Rattle.profile.specs.Traces.{bit}
 use Rattle.theory.proofs.Levels.{bump, le-total, level-next}
 use Rattle.profile.proofs.Lists.{all-of, below-at, below-of, filter-agree, filter-at, filter-of, is-false, is-true, mem-getD, test}
 use Rattle.theory.proofs.Merge.{Behind, backward-level, behind-find, behind-skip, extends?, level-at, level-grown, level-left, seek}
-use Rattle.theory.proofs.Profiles.{distinct, lawful}
-use Rattle.theory.proofs.Refusals.{GoodLog, GoodProfile}
+use Rattle.theory.proofs.Profiles.{lawful}
+use Rattle.theory.proofs.Refusals.{GoodEvents, GoodProfile}
 use Rattle.profile.proofs.Sets.{T-eq, bit-self, bit-single, union-agree, union-at, union-of}
 use Rattle.counts.specs.Counts.{add-count}
 use Rattle.counts.proofs.Packed.{Small, add-packed, same-packed}
@@ -58,20 +59,20 @@ letters-in q k x h = T-eq (bit (union (λ y. 2 ^ y) (filter q (below k))) x) (q 
 
 -- total n halfway, in the part t of the table that begins at it, with `tail` behind its records: the last numbers of the records before record j are put, and the
 -- cursor of each letter, in the next total's records, has not passed what a later record leads to by that letter
-pub record Halfway (p : Profile) (w : List ℕ) (n : ℕ) (t tail : List ℕ) (j : ℕ) (from : ℕ → ℕ) : Type 0 where
+pub record Halfway (p : Rules) (w : List ℕ) (n : ℕ) (t tail : List ℕ) (j : ℕ) (from : ℕ → ℕ) : Type 0 where
   pub written : t ≡ filled p w (take j (of-total p w n)) ++ (drafted p w (drop j (of-total p w n)) ++ tail)
-  pub behind : (x : ℕ) → x < p .k
+  pub behind : (x : ℕ) → x < p .profile .k
       → (length (of-total p w n) ≤ from x)
-      × Behind (of-total p w (suc n)) (extends? (independent (p .masks)) (λ a. a) w) x (drop j (of-total p w n)) (from x - length (of-total p w n))
+      × Behind (of-total p w (suc n)) (extends? (p .may) (p .letter) w) x (drop j (of-total p w n)) (from x - length (of-total p w n))
 
-module _ (p : Profile) (w : List ℕ) (n : ℕ) where
+module _ (p : Rules) (w : List ℕ) (n : ℕ) where
   -- what stands behind the records of total n
   pub behind-total : (t rest : List ℕ) → t ≡ drafted p w (of-total p w n) ++ rest → drop (record-length layout * length (of-total p w n)) t ≡ rest
   behind-total t rest e = ap (drop (record-length layout * length (of-total p w n))) e
       ∙ drop-at (drafted p w (of-total p w n)) rest (record-length layout * length (of-total p w n)) (drafts-length (forward-set p w) (letters-set p w) (of-total p w n))
 
   -- no last number is put, and every cursor stands at the next total's first record
-  pub halfway-start : (t tail : List ℕ) (from : ℕ → ℕ) → t ≡ drafted p w (of-total p w n) ++ tail → ((x : ℕ) → x < p .k → from x ≡ length (of-total p w n))
+  pub halfway-start : (t tail : List ℕ) (from : ℕ → ℕ) → t ≡ drafted p w (of-total p w n) ++ tail → ((x : ℕ) → x < p .profile .k → from x ≡ length (of-total p w n))
       → Halfway p w n t tail 0 from
   halfway-start t tail from e f = record {
     written = e;
@@ -85,15 +86,15 @@ module _ (p : Profile) (w : List ℕ) (n : ℕ) where
 
 -- ---- a good profile and a good log
 
-module _ {p : Profile} {w : List ℕ} (good : GoodProfile p) (log : GoodLog (p .k) w) where
-  pub apart : (a b : ℕ) → T (independent (p .masks) a b) → a ≢ b
-  apart = distinct (p .masks) (good .relation .own)
+module _ {p : Rules} {w : List ℕ} (good : GoodProfile (p .profile)) (log : GoodEvents p w) where
+  pub apart : (a b : ℕ) → T (p .may a b) → p .letter a ≢ p .letter b
+  apart = log .apart
 
   -- the counts of a prefix: one for each letter, and each below 65,536
-  pub counted : (n : ℕ) (c : List ℕ) → Mem c (of-total p w n) → (length c ≡ p .k) × (length c ≤ layout .per * layout .numbers) × Small layout c × (total c ≡ n)
+  pub counted : (n : ℕ) (c : List ℕ) → Mem c (of-total p w n) → (length c ≡ p .profile .k) × (length c ≤ layout .per * layout .numbers) × Small layout c × (total c ≡ n)
   counted n c m =
-      let l = level-at (independent (p .masks)) (λ a. a) (p .k) w n c (log .letters) m in
-      let left = level-left (independent (p .masks)) (λ a. a) (p .k) w n c (log .letters) m in (
+      let l = level-at (p .may) (p .letter) (p .profile .k) w n c (log .letters) m in
+      let left = level-left (p .may) (p .letter) (p .profile .k) w n c (log .letters) m in (
         l .0,
         omega (arith, l .0, good .relation .most),
         all-of (λ v. ltb v (2 ^ layout .width)) c (λ v q. lt→ltb v (2 ^ layout .width) (omega (arith, le-total q, l .2, left, log .short))),
@@ -104,10 +105,10 @@ module _ {p : Profile} {w : List ℕ} (good : GoodProfile p) (log : GoodLog (p .
 
   module _ (n : ℕ) (inside : n < length w) where
     -- the record of c with one x more
-    more-packed : (c : List ℕ) → Mem c (of-total p w n) → (x : ℕ) → x < p .k → T (extends? (independent (p .masks)) (λ a. a) w x c)
+    more-packed : (c : List ℕ) → Mem c (of-total p w n) → (x : ℕ) → x < p .profile .k → T (extends? (p .may) (p .letter) w x c)
         → (e : List ℕ) → Mem e (of-total p w (suc n)) → equal? (packed layout e) (add-count layout (packed layout c) x) ≡ equal? e (bump c x)
     more-packed c m x h t e i =
-        let up = level-next (independent (p .masks)) (λ a. a) apart (p .k) w (log .letters) n x c m h t in
+        let up = level-next (p .may) (p .letter) apart (p .profile .k) w (log .letters) n x c m h t in
         let a = counted n c m in
         let b = counted (suc n) (bump c x) up in
         let d = counted (suc n) e i in
@@ -126,7 +127,7 @@ module _ {p : Profile} {w : List ℕ} (good : GoodProfile p) (log : GoodLog (p .
       c = getD C j []
 
       abbrev add : ℕ → List ℕ → Bool
-      add = extends? (independent (p .masks)) (λ a. a) w
+      add = extends? (p .may) (p .letter) w
 
       abbrev same : ℕ → List ℕ → Bool
       same x e = equal? e (bump c x)
@@ -149,8 +150,8 @@ module _ {p : Profile} {w : List ℕ} (good : GoodProfile p) (log : GoodLog (p .
       last-j = ap (last-at t) (sym (add-zero j))
           ∙ last-behind (forward-set p w) (letters-set p w) (filled p w (take j C)) (c ∷ drop (suc j) C) tail t j from-c before-length 0 (omega arith)
 
-      letter-j : (x : ℕ) → x < p .k → bit (last-at t j) x ≡ add x c
-      letter-j x l = ap (λ S. bit S x) last-j ∙ letters-in (λ x. add x c) (p .k) x l
+      letter-j : (x : ℕ) → x < p .profile .k → bit (last-at t j) x ≡ add x c
+      letter-j x l = ap (λ S. bit S x) last-j ∙ letters-in (λ x. add x c) (p .profile .k) x l
 
       -- the records of the next total
       abbrev both : List ℕ
@@ -186,13 +187,13 @@ module _ {p : Profile} {w : List ℕ} (good : GoodProfile p) (log : GoodLog (p .
       )
 
       -- where the cursor of letter x moves to
-      module _ (x : ℕ) (l : x < p .k) (y : T (add x c)) where
+      module _ (x : ℕ) (l : x < p .profile .k) (y : T (add x c)) where
         abbrev q : ℕ
         q = from x - length C
 
         found : (seek (same x) E q < length E) × (getD E (seek (same x) E q) [] ≡ bump c x) × Behind E add x (drop (suc j) C) (seek (same x) E q)
         found =
-            behind-find (level-grown (independent (p .masks)) (λ a. a) apart (p .k) w (log .letters) n) (take j C) c (drop (suc j) C) (split-at C j [] lt) x q l y
+            behind-find (level-grown (p .may) (p .letter) apart (p .profile .k) w (log .letters) n) (take j C) c (drop (suc j) C) (split-at C j [] lt) x q l y
             (subst (λ R. Behind E add x R q) (drop-cons C j [] lt) (h .behind x l .1))
 
         next-is : next-at t j x (from x) ≡ length C + seek (same x) E q
@@ -205,21 +206,21 @@ module _ {p : Profile} {w : List ℕ} (good : GoodProfile p) (log : GoodLog (p .
         last-is : last-at t (next-at t j x (from x)) ≡ backward-set p w (bump c x)
         last-is = ap (last-at t) next-is ∙ last-next (seek (same x) E q) (found .0) ∙ ap (backward-set p w) (found .1)
 
-      pub halfway-leads : Leads t j (p .k) from
+      pub halfway-leads : Leads t j (p .profile .k) from
       halfway-leads = record {
         inside = omega (arith, room);
         finds = λ x l b. let y : T (add x c) = subst T (letter-j x l) b in omega (arith, next-is x l y, found x l y .0, room);
       }
 
-      pub halfway-back : back-from t j (p .k) (p .k) (p .s) (p .moves) from ≡ backward-set p w c
+      pub halfway-back : back-from t j (p .profile .k) (p .profile .k) (p .profile .s) (p .profile .moves) from ≡ backward-set p w c
       halfway-back =
-          let f : ℕ → ℕ = λ x. backward-step (p .k) (p .s) (p .moves) (last-at t (next-at t j x (from x))) x in
-          ap (union f) (filter-agree (bit (last-at t j)) (λ x. add x c) (below (p .k)) (λ x m. letter-j x (below-at (p .k) x m)))
-          ∙ union-agree f (λ x. backward-step (p .k) (p .s) (p .moves) (backward-set p w (bump c x)) x) (filter (λ x. add x c) (below (p .k)))
+          let f : ℕ → ℕ = λ x. backward-step (p .profile .k) (p .profile .s) (p .profile .moves) (last-at t (next-at t j x (from x))) x in
+          ap (union f) (filter-agree (bit (last-at t j)) (λ x. add x c) (below (p .profile .k)) (λ x m. letter-j x (below-at (p .profile .k) x m)))
+          ∙ union-agree f (λ x. backward-step (p .profile .k) (p .profile .s) (p .profile .moves) (backward-set p w (bump c x)) x) (filter (λ x. add x c) (below (p .profile .k)))
           (λ x m.
-          let d = filter-at (λ x. add x c) (below (p .k)) m in
-          ap (λ S. backward-step (p .k) (p .s) (p .moves) S x) (last-is x (below-at (p .k) x (d .0)) (d .1)))
-          ∙ sym (backward-level (independent (p .masks)) (λ a. a) apart (p .k) w (log .letters) (automaton p) (lawful p) n c c-in inside)
+          let d = filter-at (λ x. add x c) (below (p .profile .k)) m in
+          ap (λ S. backward-step (p .profile .k) (p .profile .s) (p .profile .moves) S x) (last-is x (below-at (p .profile .k) x (d .0)) (d .1)))
+          ∙ sym (backward-level (p .may) (p .letter) apart (p .profile .k) w (log .letters) (automaton (p .profile)) (lawful (p .profile)) n c c-in inside)
 
       put-j : set t (record-length layout * j + (layout .numbers + 1)) (backward-set p w c)
           ≡ filled p w (take (suc j) C) ++ (drafted p w (drop (suc j) C) ++ tail)
@@ -231,7 +232,7 @@ module _ {p : Profile} {w : List ℕ} (good : GoodProfile p) (log : GoodLog (p .
           ∙ put-last-draft (forward-set p w) (letters-set p w) (backward-set p w) (take j C) c behind-c
           ∙ ap (λ l. filled p w l ++ behind-c) (sym (take-suc C j [] lt))
 
-      behind-j : (x : ℕ) → x < p .k → (length C ≤ moved t j from x) × Behind E add x (drop (suc j) C) (moved t j from x - length C)
+      behind-j : (x : ℕ) → x < p .profile .k → (length C ≤ moved t j from x) × Behind E add x (drop (suc j) C) (moved t j from x - length C)
       behind-j x l = ⊎-elim
           (λ y.
           let e : moved t j from x ≡ length C + seek (same x) E (from x - length C) =
@@ -243,13 +244,13 @@ module _ {p : Profile} {w : List ℕ} (good : GoodProfile p) (log : GoodLog (p .
           let b = h .behind x l in (
             omega (arith, e, b .0),
             subst (λ m. Behind E add x (drop (suc j) C) (m - length C)) (sym e)
-                (behind-skip (level-grown (independent (p .masks)) (λ a. a) apart (p .k) w (log .letters) n) x c (drop (suc j) C) (from x - length C)
+                (behind-skip (level-grown (p .may) (p .letter) apart (p .profile .k) w (log .letters) n) x c (drop (suc j) C) (from x - length C)
                 (subst (λ R. Behind E add x R (from x - length C)) (drop-cons C j [] lt) (b .1))),
           ))
           (test (add x c))
 
       -- one record more
-      pub halfway-next : (after : ℕ → ℕ) → ((x : ℕ) → x < p .k → after x ≡ moved t j from x)
+      pub halfway-next : (after : ℕ → ℕ) → ((x : ℕ) → x < p .profile .k → after x ≡ moved t j from x)
           → Halfway p w n (set t (record-length layout * j + (layout .numbers + 1)) (backward-set p w c)) tail (j + 1) after
       halfway-next after e = rw (add-one j) record {
         written = put-j;

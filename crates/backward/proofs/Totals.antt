@@ -8,16 +8,16 @@ use lib.ListN.{length, getD, set, take, drop, length-append, length-drop, drop-o
 use lib.Seq.{drop-at, getD-append-add, set-at, take-all, take-at}
 use borrow.Author.Tests.{eq-eqb, ne-eqb}
 use borrow.Rule.Slice.PartMut.{midOf, putMid}
-use Rattle.profile.specs.Automata.{Profile, automaton}
+use Rattle.profile.specs.Rules.{Rules}
+use Rattle.profile.specs.Automata.{automaton}
 use Rattle.profile.specs.Lists.{Mem, below, flat-map, range}
 use Rattle.profile.specs.Prefixes.{count, total}
 use Rattle.profile.specs.Tables.{layout, packed, record-length}
-use Rattle.profile.specs.Traces.{independent}
 use Rattle.theory.proofs.Levels.{by-total-length}
 use Rattle.profile.proofs.Lists.{below-at, below-suc, flat-map-append, flat-map-at, mem-getD}
 use Rattle.theory.proofs.Merge.{backward-whole, level-whole}
 use Rattle.theory.proofs.Profiles.{lawful}
-use Rattle.theory.proofs.Refusals.{GoodLog, GoodProfile}
+use Rattle.theory.proofs.Refusals.{GoodEvents, GoodProfile}
 use Rattle.counts.specs.Counts.{counts-in}
 use Rattle.counts.proofs.Packed.{total-packed}
 use Rattle.records.proofs.Drafts.{counts-of-draft, drafts-length}
@@ -26,7 +26,7 @@ use Rattle.backward.proofs.Parts.{apart, behind-total, counted}
 use Rattle.backward.proofs.Scans.{row-is}
 use Rattle.records.specs.Drafts.{backward-set, draft, drafted, filled, forward-set, in-order, letters-set, of-total}
 
-module _ (p : Profile) (w : List ℕ) where
+module _ (p : Rules) (w : List ℕ) where
   -- the prefixes of the totals below n, and of the totals from n on
   abbrev pub lower : ℕ → List (List ℕ)
   lower n = flat-map (of-total p w) (below n)
@@ -47,12 +47,12 @@ module _ (p : Profile) (w : List ℕ) where
   filled-append C D = flat-map-append (draft (forward-set p w) (backward-set p w)) C D
 
 -- the records of the totals below n, of which there are `end`, are drafted in the table t, and those of the others filled; then comes `rest`
-pub record Down (p : Profile) (w : List ℕ) (n end : ℕ) (t rest : List ℕ) : Type 0 where
+pub record Down (p : Rules) (w : List ℕ) (n end : ℕ) (t rest : List ℕ) : Type 0 where
   pub ends : end ≡ length (lower p w n)
   pub written : t ≡ drafted p w (lower p w n) ++ (filled p w (upper p w n) ++ rest)
 
 -- so many records fit the table
-pub down-room : (p : Profile) (w : List ℕ) (n end : ℕ) (t rest : List ℕ) → Down p w n end t rest → record-length layout * end ≤ length t
+pub down-room : (p : Rules) (w : List ℕ) (n end : ℕ) (t rest : List ℕ) → Down p w n end t rest → record-length layout * end ≤ length t
 down-room p w n end t rest h = omega (
   arith,
   h .ends,
@@ -62,18 +62,18 @@ down-room p w n end t rest h = omega (
 )
 
 -- every total is filled
-pub down-end : (p : Profile) (w : List ℕ) (end : ℕ) (t rest : List ℕ) → Down p w 0 end t rest → t ≡ filled p w (in-order p w) ++ rest
+pub down-end : (p : Rules) (w : List ℕ) (end : ℕ) (t rest : List ℕ) → Down p w 0 end t rest → t ≡ filled p w (in-order p w) ++ rest
 down-end p w end t rest h =
     let e : suc (length w) - 0 ≡ suc (length w) = omega arith in h .written ∙ ap (λ m. filled p w (flat-map (of-total p w) (range 0 m)) ++ rest) e
 
-module _ {p : Profile} {w : List ℕ} (good : GoodProfile p) (log : GoodLog (p .k) w) where
+module _ {p : Rules} {w : List ℕ} (good : GoodProfile (p .profile)) (log : GoodEvents p w) where
   -- ---- the last total: its one record has the final states
 
   abbrev whole : List ℕ
-  whole = map (count (λ a. a) w) (below (p .k))
+  whole = map (count (p .letter) w) (below (p .profile .k))
 
   last-total : of-total p w (length w) ≡ whole ∷ []
-  last-total = level-whole (independent (p .masks)) (λ a. a) (apart good log) (p .k) w (log .letters)
+  last-total = level-whole (p .may) (p .letter) (apart good log) (p .profile .k) w (log .letters)
 
   lower-last : in-order p w ≡ lower p w (length w) ++ (whole ∷ [])
   lower-last = lower-suc p w (length w) ∙ ap (λ l. lower p w (length w) ++ l) last-total
@@ -88,15 +88,15 @@ module _ {p : Profile} {w : List ℕ} (good : GoodProfile p) (log : GoodLog (p .
 
   -- there are records
   pub some-record : (t : List ℕ) (records : ℕ) → Drafted p w t records → 1 ≤ records
-  some-record t records d = omega (arith, d .whole, by-total-length (independent (p .masks)) (λ a. a) (p .k) w (log .letters), records-length)
+  some-record t records d = omega (arith, d .whole, by-total-length (p .may) (p .letter) (p .profile .k) w (log .letters), records-length)
 
   pub down-start : (t : List ℕ) (records : ℕ) → Drafted p w t records
-      → Down p w (length w) (records - 1) (set t (record-length layout * (records - 1) + (layout .numbers + 1)) (p .finals)) (drop (record-length layout * records) t)
+      → Down p w (length w) (records - 1) (set t (record-length layout * (records - 1) + (layout .numbers + 1)) (p .profile .finals)) (drop (record-length layout * records) t)
   down-start t records d = record {
     ends = first-is;
     written =
-        ap (λ l. set l m (p .finals)) e ∙ set-at (A ++ front) (letters-set p w whole) R (p .finals) m len ∙ append-assoc A front (p .finals ∷ R)
-        ∙ ap (λ S. A ++ (front ++ (S ∷ R))) (sym (backward-whole (independent (p .masks)) (λ a. a) (apart good log) (p .k) w (log .letters) (automaton p) (lawful p)))
+        ap (λ l. set l m (p .profile .finals)) e ∙ set-at (A ++ front) (letters-set p w whole) R (p .profile .finals) m len ∙ append-assoc A front (p .profile .finals ∷ R)
+        ∙ ap (λ S. A ++ (front ++ (S ∷ R))) (sym (backward-whole (p .may) (p .letter) (apart good log) (p .profile .k) w (log .letters) (automaton (p .profile)) (lawful (p .profile))))
         ∙ ap (λ C. A ++ (filled p w C ++ R)) (sym upper-last);
   }
     where
@@ -113,7 +113,7 @@ module _ {p : Profile} {w : List ℕ} (good : GoodProfile p) (log : GoodLog (p .
       m = record-length layout * (records - 1) + (layout .numbers + 1)
 
       first-is : records - 1 ≡ length (lower p w (length w))
-      first-is = omega (arith, d .whole, by-total-length (independent (p .masks)) (λ a. a) (p .k) w (log .letters), records-length)
+      first-is = omega (arith, d .whole, by-total-length (p .may) (p .letter) (p .profile .k) w (log .letters), records-length)
 
       len : length (A ++ front) ≡ m
       len = omega (arith, length-append A front, drafts-length (forward-set p w) (letters-set p w) (lower p w (length w)), first-is)

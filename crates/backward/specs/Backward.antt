@@ -5,18 +5,19 @@ use mathlib.Core.List.{List, _++_}
 use Prim.Native.Nat.{ℕ, zero, suc, _*_, _≤_, _<_}
 use lib.Dec.{T, eqb}
 use lib.ListN.{length, drop}
-use Rattle.profile.specs.Automata.{Profile, backward-step, union}
+use Rattle.profile.specs.Rules.{Rules}
+use Rattle.profile.specs.Automata.{backward-step, union}
 use Rattle.profile.specs.Lists.{below, equal?, filter}
 use Rattle.profile.specs.Prefixes.{prefix-count, total}
 use Rattle.profile.specs.Tables.{layout, record-length}
-use Rattle.profile.specs.Traces.{bit, independent}
+use Rattle.profile.specs.Traces.{bit}
 use Rattle.theory.proofs.Merge.{seek}
-use Rattle.theory.proofs.Refusals.{GoodLog, GoodProfile}
+use Rattle.theory.proofs.Refusals.{GoodEvents, GoodProfile}
 use Rattle.counts.specs.Counts.{add-count, counts-in}
 use Rattle.records.specs.Records.{counts-at, last-at, records-in}
 use Rattle.records.specs.Drafts.{drafted, filled, in-order, of-total}
 
-module _ (p : Profile) (w : List ℕ) where
+module _ (p : Rules) (w : List ℕ) where
   -- the records of total n, and of all prefixes, filled
   abbrev pub filled-total : ℕ → List ℕ
   filled-total n = filled p w (of-total p w n)
@@ -25,17 +26,17 @@ module _ (p : Profile) (w : List ℕ) where
   filled-all = filled p w (in-order p w)
 
 -- a good profile and log, and a table t whose first records are those of all prefixes, drafted
-pub record Drafted (p : Profile) (w t : List ℕ) (records : ℕ) : Type 0 where
-  pub profile : GoodProfile p
-  pub log : GoodLog (p .k) w
-  pub whole : records ≡ prefix-count (independent (p .masks)) (λ a. a) (p .k) w
+pub record Drafted (p : Rules) (w t : List ℕ) (records : ℕ) : Type 0 where
+  pub profile : GoodProfile (p .profile)
+  pub log : GoodEvents p w
+  pub whole : records ≡ prefix-count (p .may) (p .letter) (p .profile .k) w
   pub fits : record-length layout * records ≤ length t
   pub written : t ≡ drafted p w (in-order p w) ++ drop (record-length layout * records) t
 
 -- the part t of the table that begins at total n: its `len` records are drafted, those of the next total are filled
-pub record FromTotal (p : Profile) (w t : List ℕ) (n len : ℕ) : Type 0 where
-  pub profile : GoodProfile p
-  pub log : GoodLog (p .k) w
+pub record FromTotal (p : Rules) (w t : List ℕ) (n len : ℕ) : Type 0 where
+  pub profile : GoodProfile (p .profile)
+  pub log : GoodEvents p w
   pub inside : n < length w
   pub whole : len ≡ length (of-total p w n)
   pub rest : List ℕ

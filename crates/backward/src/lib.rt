@@ -4,6 +4,7 @@ ghost use mathlib.Core.List.{_++_};
 ghost use Prim.Native.Nat.{ℕ, _*_, _≤_, _<_};
 ghost use lib.ListN.{length, getD, drop};
 ghost use Rattle.profile.specs.Limits.{most-letters, most-states};
+ghost use Rattle.profile.specs.Rules.{plain};
 ghost use Rattle.profile.specs.Automata.{profile-of};
 ghost use Rattle.profile.specs.Lists.{below, equal?};
 ghost use Rattle.profile.specs.Tables.{layout, record-length};
@@ -87,10 +88,10 @@ fn fill_total(
     rows: &[u32; MOST_MOVES],
     log: &[u8],
 )
-    requires { ⌜ FromTotal (profile-of shape (now masks) (now moves)) (now log) (now part) t len ⌝ }
+    requires { ⌜ FromTotal (plain (profile-of shape (now masks) (now moves))) (now log) (now part) t len ⌝ }
     requires { ⌜ now rows ≡ by-letter (shape .k) (shape .s) (now moves) ⌝ }
     ensures { λ _. ⌜ now (part .exit)
-        ≡ filled-total (profile-of shape (now (masks .entry)) (now (moves .entry))) (now (log .entry)) t
+        ≡ filled-total (plain (profile-of shape (now (masks .entry)) (now (moves .entry)))) (now (log .entry)) t
         ++ drop (record-length layout * len) (now (part .entry)) ⌝ }
 {
     let mut cursors = [len; MOST_LETTERS];
@@ -126,9 +127,9 @@ pub fn fill_backward(
     moves: &[u32],
     log: &[u8],
 )
-    requires { ⌜ Drafted (profile-of shape (now masks) (now moves)) (now log) (now table) records ⌝ }
+    requires { ⌜ Drafted (plain (profile-of shape (now masks) (now moves))) (now log) (now table) records ⌝ }
     ensures { λ _. ⌜ now (table .exit)
-        ≡ filled-all (profile-of shape (now (masks .entry)) (now (moves .entry))) (now (log .entry))
+        ≡ filled-all (plain (profile-of shape (now (masks .entry)) (now (moves .entry)))) (now (log .entry))
         ++ drop (record-length layout * records) (now (table .entry)) ⌝ }
 {
     let finals = shape.finals;

@@ -6,14 +6,14 @@ use Prim.Native.Nat.{ℕ, zero, suc, _+_, _*_, _^_, _≤_, _<_}
 use native.Mathlib.Omega.{arith}
 use lib.Dec.{T, eqb, eqb-refl, lt→ltb, ltb}
 use lib.ListN.{length, getD}
+use Rattle.profile.specs.Rules.{Rules}
 use Rattle.profile.specs.Lists.{Mem, below}
-use Rattle.profile.specs.Traces.{independent}
-use Rattle.profile.specs.Automata.{Profile, automaton}
+use Rattle.profile.specs.Automata.{automaton}
 use Rattle.profile.specs.Prefixes.{IsPrefix, at, backward, prefixes, total, unmarked}
 use Rattle.profile.specs.Tables.{layout, packed, record-length}
 use Rattle.profile.proofs.Lists.{all-of, filter-at, filter-of, mem-place}
 use Rattle.theory.proofs.Merge.{level-at, level-first, level-left}
-use Rattle.theory.proofs.Profiles.{distinct, lawful}
+use Rattle.theory.proofs.Profiles.{lawful}
 use Rattle.theory.proofs.Judgement.{Chosen}
 use Rattle.theory.proofs.Tables.{Holds, holds-backward, holds-counts, holds-find, holds-prefix, holds-rises}
 use Rattle.counts.specs.Counts.{counts-in}
@@ -25,22 +25,22 @@ use Rattle.records.specs.Drafts.{in-order, of-total}
 -- ---- of a profile and a log
 
 -- the backward set of counts; what is left of w behind them
-abbrev pub backward-of : Profile → List ℕ → (ℕ → ℕ) → ℕ
-backward-of p w c = backward (independent (p .masks)) (λ a. a) (automaton p) w c
+abbrev pub backward-of : Rules → List ℕ → (ℕ → ℕ) → ℕ
+backward-of p w c = backward (p .may) (p .letter) (automaton (p .profile)) w c
 
-abbrev pub left-of : List ℕ → (ℕ → ℕ) → List ℕ
-left-of w c = unmarked (λ a. a) w c
+abbrev pub left-of : Rules → List ℕ → (ℕ → ℕ) → List ℕ
+left-of p w c = unmarked (p .letter) w c
 
 -- u is chosen letter by letter from w, from the states S; R is reached and r is left
-abbrev pub ChosenFrom : Profile → ℕ → List ℕ → List ℕ → ℕ → List ℕ → Type 0
-ChosenFrom p S w u R r = Chosen (independent (p .masks)) (λ a. a) (automaton p) (lawful p) S w u R r
+abbrev pub ChosenFrom : Rules → ℕ → List ℕ → List ℕ → ℕ → List ℕ → Type 0
+ChosenFrom p S w u R r = Chosen (p .may) (p .letter) (automaton (p .profile)) (lawful (p .profile)) S w u R r
 
 -- letters that may be exchanged are different
-pub different : {p : Profile} {w t : List ℕ} → Table p w t → (a b : ℕ) → T (independent (p .masks) a b) → a ≢ b
-different {p} tab = distinct (p .masks) (tab .profile .relation .own)
+pub different : {p : Rules} {w t : List ℕ} → Table p w t → (a b : ℕ) → T (p .may a b) → p .letter a ≢ p .letter b
+different tab = tab .log .apart
 
 -- what the laws of such tables ask
-pub held : {p : Profile} {w t : List ℕ} (tab : Table p w t) → Holds layout (independent (p .masks)) (λ a. a) (automaton p) (p .k) w (tab .before) t
+pub held : {p : Rules} {w t : List ℕ} (tab : Table p w t) → Holds layout (p .may) (p .letter) (automaton (p .profile)) (p .profile .k) w (tab .before) t
 held tab = record { letters = tab .log .letters; written = tab .holds }
 
 -- ---- small counts
@@ -55,14 +55,14 @@ small-of v h = all-of (λ n. ltb n (2 ^ layout .width)) v (λ n m. let q = mem-p
 
 -- ---- the prefixes of one total
 
-module _ {p : Profile} {w t : List ℕ} (tab : Table p w t) where
+module _ {p : Rules} {w t : List ℕ} (tab : Table p w t) where
   -- a prefix of total n has k counts, which are a prefix of w, and n is at most the length of w
   pub of-total-at : (n : ℕ) (v : List ℕ) → Mem v (of-total p w n)
-      → (length v ≡ p .k) × IsPrefix (independent (p .masks)) (λ a. a) w (at v) × (total v ≡ n) × (n ≤ length w)
+      → (length v ≡ p .profile .k) × IsPrefix (p .may) (p .letter) w (at v) × (total v ≡ n) × (n ≤ length w)
   of-total-at n v m =
-      let may = independent (p .masks) in
-      let l = level-at may (λ a. a) (p .k) w n v (tab .log .letters) m in
-      (l .0, l .1, l .2, omega (arith, level-left may (λ a. a) (p .k) w n v (tab .log .letters) m))
+      let may = p .may in
+      let l = level-at may (p .letter) (p .profile .k) w n v (tab .log .letters) m in
+      (l .0, l .1, l .2, omega (arith, level-left may (p .letter) (p .profile .k) w n v (tab .log .letters) m))
 
   pub of-total-small : (n : ℕ) (v : List ℕ) → Mem v (of-total p w n) → Small layout v
   of-total-small n v m = small-of v (λ x. let l = of-total-at n v m in omega (arith, at-total v x, l .2, l .3, tab .log .short))
@@ -77,7 +77,7 @@ module _ {p : Profile} {w t : List ℕ} (tab : Table p w t) where
   record-of-total j h = filter-of (λ c. eqb (total c) (total (prefix-at j))) (holds-prefix (held tab) j h) (eqb-refl (total (prefix-at j)))
 
   pub find-record : (n : ℕ) (v : List ℕ) → Mem v (of-total p w n) → (j : ℕ) × (j < record-count p w) × (prefix-at j ≡ v)
-  find-record n v m = holds-find (held tab) v (filter-at (λ c. eqb (total c) n) (prefixes (independent (p .masks)) (λ a. a) (p .k) w) m .0)
+  find-record n v m = holds-find (held tab) v (filter-at (λ c. eqb (total c) n) (prefixes (p .may) (p .letter) (p .profile .k) w) m .0)
 
   module _ (j : ℕ) (h : j < record-count p w) where
     pub record-counts : counts-at t j ≡ packed layout (prefix-at j)
@@ -99,15 +99,15 @@ module _ {p : Profile} {w t : List ℕ} (tab : Table p w t) where
   -- ---- the first record
 
   -- the empty prefix is the only one of total 0
-  pub only-empty : (v : List ℕ) → Mem v (of-total p w 0) → v ≡ map (λ x. 0) (below (p .k))
+  pub only-empty : (v : List ℕ) → Mem v (of-total p w 0) → v ≡ map (λ x. 0) (below (p .profile .k))
   only-empty v m = ⊎-elim (λ e. e) (λ n. absurd (List·Memᴰ·not-nil n))
-      (List·Memᴰ·cases-cons (subst (Mem v) (level-first (independent (p .masks)) (λ a. a) (different tab) (p .k) w (tab .log .letters)) m))
+      (List·Memᴰ·cases-cons (subst (Mem v) (level-first (p .may) (p .letter) (different tab) (p .profile .k) w (tab .log .letters)) m))
 
   pub first-record : (0 < record-count p w) × Mem (prefix-at 0) (of-total p w 0)
   first-record =
-      let zeros : List ℕ = map (λ x. 0) (below (p .k)) in
+      let zeros : List ℕ = map (λ x. 0) (below (p .profile .k)) in
       let empty : Mem zeros (of-total p w 0) =
-      subst (Mem zeros) (sym (level-first (independent (p .masks)) (λ a. a) (different tab) (p .k) w (tab .log .letters))) (List·Memᴰ·head refl) in
+      subst (Mem zeros) (sym (level-first (p .may) (p .letter) (different tab) (p .profile .k) w (tab .log .letters))) (List·Memᴰ·head refl) in
       let n = find-record 0 zeros empty in
       let some : 0 < record-count p w = omega (arith, n .1) in
       let z : total (prefix-at 0) ≡ 0 = omega (arith, holds-rises (held tab) 0 (n .0) (omega arith) (n .1), ap total (n .2), of-total-at 0 zeros empty .2) in

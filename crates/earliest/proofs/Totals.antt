@@ -8,7 +8,7 @@ use native.Mathlib.Numerals.{add-one}
 use native.Mathlib.Omega.{arith}
 use lib.Dec.{eqb}
 use borrow.Author.Tests.{eqb-true, eqb-false}
-use Rattle.profile.specs.Automata.{Profile}
+use Rattle.profile.specs.Rules.{Rules}
 use Rattle.profile.specs.Prefixes.{total}
 use Rattle.profile.specs.Lists.{Mem}
 use Rattle.profile.proofs.Lists.{lt-or-le}
@@ -58,7 +58,7 @@ module _ (f : ℕ → Bool) where
 
 -- ---- the records of a total
 
-module _ {p : Profile} {w t : List ℕ} (tab : Table p w t) where
+module _ {p : Rules} {w t : List ℕ} (tab : Table p w t) where
   -- the records of total n begin at record a: those before it have smaller totals, the others do not
   pub record Begins (n a : ℕ) : Type 0 where
     pub inside : a ≤ record-count p w

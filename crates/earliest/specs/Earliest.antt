@@ -6,26 +6,25 @@ use mathlib.Core.Option.{Option, none, some}
 use Prim.Native.Nat.{ℕ, zero, suc, _+_, _*_, _-_, _%_, _^_, _≤_, min}
 use lib.Dec.{eqb, ltb}
 use lib.ListN.{length, drop}
+use Rattle.profile.specs.Rules.{Rules, prefixes-by, table-by}
 use Rattle.profile.specs.Lists.{below, equal?, first-place}
-use Rattle.profile.specs.Traces.{independent}
-use Rattle.profile.specs.Automata.{Profile, automaton, meets}
-use Rattle.profile.specs.Prefixes.{prefix-count, total}
-use Rattle.profile.specs.Tables.{layout, record-length, table-of}
-use Rattle.theory.proofs.Refusals.{GoodLog, GoodProfile}
-pub use Rattle.theory.proofs.Demands.{order-of}
+use Rattle.profile.specs.Automata.{meets}
+use Rattle.profile.specs.Prefixes.{total}
+use Rattle.profile.specs.Tables.{layout, record-length}
+use Rattle.theory.proofs.Refusals.{GoodEvents, GoodProfile}
 use Rattle.counts.specs.Counts.{add-count, counts-in}
 use Rattle.records.specs.Records.{counts-at, last-at}
 
 -- the number of prefixes of the log w
-abbrev pub record-count : Profile → List ℕ → ℕ
-record-count p w = prefix-count (independent (p .masks)) (λ a. a) (p .k) w
+abbrev pub record-count : Rules → List ℕ → ℕ
+record-count p w = prefixes-by p w
 
 -- the table t holds the prefixes of the log w
-pub record Table (p : Profile) (w t : List ℕ) : Type 0 where
-  pub profile : GoodProfile p
-  pub log : GoodLog (p .k) w
+pub record Table (p : Rules) (w t : List ℕ) : Type 0 where
+  pub profile : GoodProfile (p .profile)
+  pub log : GoodEvents p w
   pub before : List ℕ
-  pub holds : t ≡ table-of layout (independent (p .masks)) (λ a. a) (automaton p) (p .k) w before
+  pub holds : t ≡ table-by p w before
   pub room : record-length layout * record-count p w ≤ length t
 
 -- there is an order

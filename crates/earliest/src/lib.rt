@@ -4,12 +4,13 @@ ghost use mathlib.Core.Bool.{true};
 ghost use Prim.Native.Nat.{_+_, _*_, _-_, _≤_, _<_, min};
 ghost use lib.ListN.{length};
 ghost use Rattle.profile.specs.Limits.{most-letters, most-states};
+ghost use Rattle.profile.specs.Rules.{order-by, plain};
 ghost use Rattle.profile.specs.Lists.{equal?};
 ghost use Rattle.profile.specs.Automata.{forward-step, meets, profile-of};
 ghost use Rattle.profile.specs.Tables.{layout, record-length};
 ghost use Rattle.counts.specs.Counts.{words};
 ghost use Rattle.records.specs.Records.{last-at};
-ghost use Rattle.earliest.specs.Earliest.{Table, record-count, order-of, found?, with-order, grown-place, letter-in, added-letter, smallest, taken-letter, total-end};
+ghost use Rattle.earliest.specs.Earliest.{Table, record-count, found?, with-order, grown-place, letter-in, added-letter, smallest, taken-letter, total-end};
 use counts::Counts;
 use profile::Shape;
 use profile::limits::COUNT_BOUND;
@@ -23,8 +24,8 @@ const LETTERS: usize = MOST_LETTERS;
 
 // Some order of the log is accepted: the backward set of the empty prefix, the first record, has the start state.
 pub fn has_order(table: &[u32], shape: Shape, masks: &[u16], moves: &[u32], log: &[u8]) -> bool
-    requires { ⌜ Table (profile-of shape (now masks) (now moves)) (now log) (now table) ⌝ }
-    ensures { λ r. ⌜ r ≡ found? (order-of (profile-of shape (now (masks .entry)) (now (moves .entry))) (now (log .entry))) ⌝ }
+    requires { ⌜ Table (plain (profile-of shape (now masks) (now moves))) (now log) (now table) ⌝ }
+    ensures { λ r. ⌜ r ≡ found? (order-by (plain (profile-of shape (now (masks .entry)) (now (moves .entry)))) (now (log .entry))) ⌝ }
 {
     let start = shape.start;
     let backward = records::last_at(table, 0);
@@ -183,11 +184,11 @@ pub fn put_order(
     log: &[u8],
     order: &mut [u8],
 )
-    requires { ⌜ Table (profile-of shape (now masks) (now moves)) (now log) (now table) ⌝ }
-    requires { ⌜ records ≡ record-count (profile-of shape (now masks) (now moves)) (now log) ⌝ }
-    requires { ⌜ found? (order-of (profile-of shape (now masks) (now moves)) (now log)) ≡ true ⌝ }
+    requires { ⌜ Table (plain (profile-of shape (now masks) (now moves))) (now log) (now table) ⌝ }
+    requires { ⌜ records ≡ record-count (plain (profile-of shape (now masks) (now moves))) (now log) ⌝ }
+    requires { ⌜ found? (order-by (plain (profile-of shape (now masks) (now moves))) (now log)) ≡ true ⌝ }
     requires { ⌜ length (now log) ≤ length (now order) ⌝ }
-    ensures { λ _. ⌜ now (order .exit) ≡ with-order (order-of (profile-of shape (now (masks .entry)) (now (moves .entry))) (now (log .entry))) (now (order .entry)) ⌝ }
+    ensures { λ _. ⌜ now (order .exit) ≡ with-order (order-by (plain (profile-of shape (now (masks .entry)) (now (moves .entry)))) (now (log .entry))) (now (order .entry)) ⌝ }
 {
     let k = shape.k;
     let s = shape.s;

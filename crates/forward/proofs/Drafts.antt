@@ -7,7 +7,7 @@ use native.Mathlib.Omega.{arith}
 use borrow.Rule.Slice.PartMut.{midOf, postOf, putMid}
 use lib.ListN.{length, take, drop, length-append, length-drop, drop-of-length-le}
 use lib.Seq.{drop-append-add, drop-at, drop-drop, take-add, take-all, take-at}
-use Rattle.profile.specs.Automata.{Profile}
+use Rattle.profile.specs.Rules.{Rules}
 use Rattle.profile.specs.Lists.{below, flat-map}
 use Rattle.profile.specs.Tables.{layout, record-length}
 use Rattle.profile.proofs.Lists.{below-suc, flat-map-append, flat-map-length}
@@ -16,7 +16,7 @@ use Rattle.records.proofs.Drafts.{put-draft}
 use Rattle.forward.specs.Merging.{begun, totals}
 use Rattle.records.specs.Drafts.{draft, drafted, forward-set, letters-set, of-total}
 
-module _ (p : Profile) (w : List ℕ) where
+module _ (p : Rules) (w : List ℕ) where
   pub totals-suc : (t : ℕ) → totals p w (suc t) ≡ totals p w t ++ of-total p w t
   totals-suc t =
       ap (flat-map (of-total p w)) (below-suc t) ∙ flat-map-append (of-total p w) (below t) (t ∷ [])

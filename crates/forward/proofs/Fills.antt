@@ -9,11 +9,10 @@ use native.Mathlib.Omega.{arith}
 use lib.ListN.{length, getD, take, drop, length-append, length-map}
 use lib.Seq.{length-take-le, take-all, take-suc}
 use Rattle.profile.specs.Limits.{most-letters}
-use Rattle.profile.specs.Automata.{Profile}
+use Rattle.profile.specs.Rules.{Rules}
 use Rattle.profile.specs.Lists.{below, filter}
 use Rattle.profile.specs.Prefixes.{addable?, at, prefix-count}
 use Rattle.profile.specs.Tables.{layout, record-length}
-use Rattle.profile.specs.Traces.{independent}
 use Rattle.theory.proofs.Counting.{length-range}
 use Rattle.theory.proofs.Levels.{by-total-length}
 use Rattle.profile.proofs.Lists.{filter-no, filter-yes, test}
@@ -40,21 +39,21 @@ filter-length q (a ∷ l) =
     ⊎-elim (λ t. omega (arith, ap length (filter-yes q a l t), filter-length q l)) (λ t. omega (arith, ap length (filter-no q a l t), filter-length q l)) (test (q a))
 
 -- at most 16 letters to each
-pairs-few : (p : Profile) (w : List ℕ) → p .k ≤ most-letters → (C : List (List ℕ)) → pairs p w C ≤ most-letters * length C
+pairs-few : (p : Rules) (w : List ℕ) → p .profile .k ≤ most-letters → (C : List (List ℕ)) → pairs p w C ≤ most-letters * length C
 pairs-few p w few [] = omega arith
 pairs-few p w few (c ∷ C) = omega (
   arith,
-  pairs-cons (independent (p .masks)) (λ a. a) (p .k) w c C,
-  filter-length (addable? (independent (p .masks)) (λ a. a) w (at c)) (below (p .k)),
-  length-map (below (p .k)) (λ x. x),
-  length-range (λ x. x) (p .k) 0,
+  pairs-cons (p .may) (p .letter) (p .profile .k) w c C,
+  filter-length (addable? (p .may) (p .letter) w (at c)) (below (p .profile .k)),
+  length-map (below (p .profile .k)) (λ x. x),
+  length-range (λ x. x) (p .profile .k) 0,
   pairs-few p w few C,
 )
 
 -- ---- one total
 
 -- the table was `before`; the first j records of total t + 1 are put, and there are n pairs of them and a letter
-pub record Filling (p : Profile) (w before table : List ℕ) (room t first j n : ℕ) (cursors : List ℕ) : Type 0 where
+pub record Filling (p : Rules) (w before table : List ℕ) (room t first j n : ℕ) (cursors : List ℕ) : Type 0 where
   pub kept : length table ≡ length before
   pub inside : first + j ≤ room
   pub come : j ≤ length (of-total p w (suc t))
@@ -63,24 +62,24 @@ pub record Filling (p : Profile) (w before table : List ℕ) (room t first j n :
   pub sixteen : length cursors ≡ most-letters
   pub placed : Placed p w t j cursors
 
-module _ {p : Profile} {w : List ℕ} {m room : ℕ} {starts places : List ℕ} (r : Ready p w m room starts places) {before : List ℕ}
+module _ {p : Rules} {w : List ℕ} {m room : ℕ} {starts places : List ℕ} (r : Ready p w m room starts places) {before : List ℕ}
     {t from first : ℕ} (b : Begun p w before room t from first) where
   pub filling-start : (cursors : List ℕ) → length cursors ≡ most-letters
-      → Filling p w before before room t first 0 0 (started (p .k) (records-between before from first) cursors)
+      → Filling p w before before room t first 0 0 (started (p .profile .k) (records-between before from first) cursors)
   filling-start cursors e = record {
     kept = refl;
     inside = omega (arith, b .inside);
     come = omega arith;
     written = begun-none;
     paired = refl;
-    sixteen = front-whole (seek-from part 0) cursors (p .k) few ∙ e;
+    sixteen = front-whole (seek-from part 0) cursors (p .profile .k) few ∙ e;
     placed = placed-start r t part (level-part p w before t from first [] (b .before) (b .behind) begun-none) cursors few;
   }
     where
       part : List ℕ
       part = records-between before from first
 
-      few : p .k ≤ length cursors
+      few : p .profile .k ≤ length cursors
       few = omega (arith, r .profile .relation .most)
 
       begun-none : before ≡ begun p w (totals p w (suc t) ++ []) before
@@ -111,8 +110,8 @@ module _ {p : Profile} {w : List ℕ} {m room : ℕ} {starts places : List ℕ} 
       paired = omega (
         arith,
         ap (pairs p w) (take-suc E j [] (s .1)),
-        pairs-append (independent (p .masks)) (λ a. a) (p .k) w (take j E) (c ∷ []),
-        pairs-cons (independent (p .masks)) (λ a. a) (p .k) w c [],
+        pairs-append (p .may) (p .letter) (p .profile .k) w (take j E) (c ∷ []),
+        pairs-cons (p .may) (p .letter) (p .profile .k) w c [],
         f .paired,
         s .2,
       );
@@ -145,23 +144,23 @@ module _ {p : Profile} {w : List ℕ} {m room : ℕ} {starts places : List ℕ} 
 -- ---- all totals
 
 -- the table was `before`; the totals up to t are put, and there are n pairs of their records and a letter
-pub record Reaching (p : Profile) (w before table : List ℕ) (room t from first n : ℕ) : Type 0 where
+pub record Reaching (p : Rules) (w before table : List ℕ) (room t from first n : ℕ) : Type 0 where
   pub kept : length table ≡ length before
   pub up-to : t ≤ length w
   pub begins : Begun p w table room t from first
   pub written : table ≡ begun p w (totals p w (suc t)) before
   pub paired : n ≡ pairs p w (totals p w (suc t))
 
-pub reaching-start : {p : Profile} {w before : List ℕ} {room t from first : ℕ} (n : ℕ) → Begun p w before room t from first → t ≤ length w
+pub reaching-start : {p : Rules} {w before : List ℕ} {room t from first : ℕ} (n : ℕ) → Begun p w before room t from first → t ≤ length w
     → n ≡ pairs p w (totals p w (suc t)) → Reaching p w before before room t from first n
 reaching-start n b le e = record { kept = refl; up-to = le; begins = b; written = b .written; paired = e }
 
-module _ {p : Profile} {w : List ℕ} {m room : ℕ} {starts places : List ℕ} (r : Ready p w m room starts places) where
+module _ {p : Rules} {w : List ℕ} {m room : ℕ} {starts places : List ℕ} (r : Ready p w m room starts places) where
   -- records of all totals
-  order-count : length (in-order p w) ≡ prefix-count (independent (p .masks)) (λ a. a) (p .k) w
-  order-count = by-total-length (independent (p .masks)) (λ a. a) (p .k) w (r .log .letters)
+  order-count : length (in-order p w) ≡ prefix-count (p .may) (p .letter) (p .profile .k) w
+  order-count = by-total-length (p .may) (p .letter) (p .profile .k) w (r .log .letters)
 
-  pub some-prefix : 0 < prefix-count (independent (p .masks)) (λ a. a) (p .k) w
+  pub some-prefix : 0 < prefix-count (p .may) (p .letter) (p .profile .k) w
   some-prefix = omega (arith, order-count, totals-le p w 1 (suc (length w)) (omega arith), first-length r)
 
   module _ {before table : List ℕ} {t from first n : ℕ} (f : Reaching p w before table room t from first n) where
@@ -172,7 +171,7 @@ module _ {p : Profile} {w : List ℕ} {m room : ℕ} {starts places : List ℕ} 
     pub reaching-few : n ≤ most-letters * room
     reaching-few = omega (arith, f .paired, f .begins .inside, next-first, pairs-few p w (r .profile .relation .most) (totals p w (suc t)))
 
-    pub reaching-full : t < length w → (after : List ℕ) → Grows p w room t first table after total.Full → room < prefix-count (independent (p .masks)) (λ a. a) (p .k) w
+    pub reaching-full : t < length w → (after : List ℕ) → Grows p w room t first table after total.Full → room < prefix-count (p .may) (p .letter) (p .profile .k) w
     reaching-full lt after g = omega (
       arith,
       g,
@@ -200,7 +199,7 @@ module _ {p : Profile} {w : List ℕ} {m room : ℕ} {starts places : List ℕ} 
         f .paired,
         g .2,
         ap (pairs p w) (totals-suc p w (suc t)),
-        pairs-append (independent (p .masks)) (λ a. a) (p .k) w (totals p w (suc t)) (of-total p w (suc t)),
+        pairs-append (p .may) (p .letter) (p .profile .k) w (totals p w (suc t)) (of-total p w (suc t)),
       );
     })
       where
@@ -217,7 +216,7 @@ module _ {p : Profile} {w : List ℕ} {m room : ℕ} {starts places : List ℕ} 
         let P : first ≡ length (in-order p w) = next-first ∙ ap length whole in (
           P ∙ order-count,
           f .begins .inside,
-          f .paired ∙ ap (pairs p w) whole ∙ sym (looks-by-total (independent (p .masks)) (λ a. a) (p .k) w (r .log .letters)),
+          f .paired ∙ ap (pairs p w) whole ∙ sym (looks-by-total (p .may) (p .letter) (p .profile .k) w (r .log .letters)),
           f .written ∙ ap (λ C. begun p w C before) whole ∙ ap (λ i. drafted p w (in-order p w) ++ drop (record-length layout * i) before) (sym P),
         )
 

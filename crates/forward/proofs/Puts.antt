@@ -6,7 +6,8 @@ use Prim.Native.Nat.{ℕ, suc, _+_, _*_, _^_, _≤_, _<_}
 use native.Mathlib.Omega.{arith}
 use lib.ListN.{length, getD, take, length-append}
 use lib.Seq.{length-take-le, take-suc}
-use Rattle.profile.specs.Automata.{Profile, union}
+use Rattle.profile.specs.Rules.{Rules}
+use Rattle.profile.specs.Automata.{union}
 use Rattle.profile.specs.Tables.{layout, record-length}
 use Rattle.profile.specs.Traces.{independent}
 use Rattle.profile.proofs.Lists.{mem-getD}
@@ -23,7 +24,7 @@ use Rattle.forward.proofs.Totals.{found-letters, record-found}
 use Rattle.records.specs.Drafts.{drafted, of-total}
 
 -- the total before lies between records `from` and `first`, with records D behind it
-pub level-part : (p : Profile) (w table : List ℕ) (t from first : ℕ) (D : List (List ℕ)) → from ≡ length (totals p w t) → first ≡ from + length (of-total p w t)
+pub level-part : (p : Rules) (w table : List ℕ) (t from first : ℕ) (D : List (List ℕ)) → from ≡ length (totals p w t) → first ≡ from + length (of-total p w t)
     → table ≡ begun p w (totals p w (suc t) ++ D) table
     → records-between table from first ≡ drafted p w (of-total p w t)
 level-part p w table t from first D b e h =
@@ -31,7 +32,7 @@ level-part p w table t from first D b e h =
     begun-part p w (totals p w t) (of-total p w t) D table (record-length layout * from) (record-length layout * first)
     (h ∙ ap (λ C. begun p w (C ++ D) table) (totals-suc p w t)) (ap (λ n. record-length layout * n) b) (omega arith)
 
-module _ {p : Profile} {w : List ℕ} {room : ℕ} {starts places : List ℕ} {table : List ℕ} (r : Ready p w (length table) room starts places)
+module _ {p : Rules} {w : List ℕ} {room : ℕ} {starts places : List ℕ} {table : List ℕ} (r : Ready p w (length table) room starts places)
     {t from first j : ℕ} {cursors : List ℕ} (h : Merging p w table room t from first j cursors) where
   abbrev E : List (List ℕ)
   E = of-total p w (suc t)
@@ -42,13 +43,13 @@ module _ {p : Profile} {w : List ℕ} {room : ℕ} {starts places : List ℕ} {t
   part-drafted : part ≡ drafted p w (of-total p w t)
   part-drafted = level-part p w table t from first (take j E) (h .before) (h .behind) (h .written)
 
-  long : p .k ≤ length cursors
+  long : p .profile .k ≤ length cursors
   long = omega (arith, h .long, r .profile .relation .most)
 
-  pub merge-none : least-of part (p .k) cursors ≡ none → j ≡ length E
+  pub merge-none : least-of part (p .profile .k) cursors ≡ none → j ≡ length E
   merge-none = next-none r t part part-drafted cursors long j (h .placed) (h .come)
 
-  module _ (v : List ℕ) (least : least-of part (p .k) cursors ≡ some v) where
+  module _ (v : List ℕ) (least : least-of part (p .profile .k) cursors ≡ some v) where
     pub merge-full : room ≤ first + j → room < first + length E
     merge-full le = omega (arith, next-some r t part part-drafted cursors long j (h .placed) v least .0)
 
@@ -65,9 +66,9 @@ module _ {p : Profile} {w : List ℕ} {room : ℕ} {starts places : List ℕ} {t
     )
 
     pub merge-put : (S L n : ℕ) (after next : List ℕ) → first + j < room
-        → S ≡ united (p .k) (p .s) (p .moves) part cursors (givers part (p .k) cursors) → next ≡ advanced (p .k) part cursors (givers part (p .k) cursors)
-        → L ≡ union (λ x. 2 ^ x) (letters-by (independent (p .masks)) (p .k) (length w) starts places v)
-        → n ≡ length (letters-by (independent (p .masks)) (p .k) (length w) starts places v)
+        → S ≡ united (p .profile .k) (p .profile .s) (p .profile .moves) part cursors (givers part (p .profile .k) cursors) → next ≡ advanced (p .profile .k) part cursors (givers part (p .profile .k) cursors)
+        → L ≡ union (λ x. 2 ^ x) (letters-by (independent (p .profile .masks)) (p .profile .k) (length w) starts places v)
+        → n ≡ length (letters-by (independent (p .profile .masks)) (p .profile .k) (length w) starts places v)
         → after ≡ put-record table (first + j) (v ++ (S ∷ L ∷ []))
         → Steps p w room t first j table after next (Put n)
     merge-put S L n after next lt s a l m put =

@@ -6,9 +6,10 @@ use Prim.Native.Nat.{ℕ, _*_, _%_, _^_}
 use native.Mathlib.Nat.{one-mul}
 use native.Mathlib.Omega.{arith}
 use lib.Dec.{T, ltb, lt→ltb}
-use lib.ListN.{length, drop}
+use lib.ListN.{length}
 use lib.Pow.{shl-exact}
-use Rattle.profile.specs.Automata.{Profile, automaton, union}
+use Rattle.profile.specs.Rules.{Rules}
+use Rattle.profile.specs.Automata.{automaton, union}
 use Rattle.profile.specs.Lists.{Mem, below}
 use Rattle.profile.specs.Prefixes.{IsPrefix, at}
 use Rattle.profile.specs.Tables.{layout, packed}
@@ -17,10 +18,9 @@ use Rattle.profile.proofs.Lists.{all-of}
 use Rattle.theory.proofs.Looks.{pairs-cons}
 use Rattle.theory.proofs.Merge.{forward-first, level-at, level-first, level-left}
 use Rattle.theory.proofs.Packing.{packed-zero}
-use Rattle.theory.proofs.Profiles.{distinct, lawful}
+use Rattle.theory.proofs.Profiles.{lawful}
 use Rattle.counts.proofs.Packed.{Small}
 use Rattle.letters.specs.Letters.{letters-by}
-use Rattle.letters.proofs.Additions.{letters-placed}
 use Rattle.records.specs.Records.{put-record}
 use Rattle.forward.specs.Forward.{Ready}
 use Rattle.forward.specs.Merging.{begun, pairs, totals}
@@ -28,28 +28,26 @@ use Rattle.forward.proofs.Drafts.{begun-put}
 use Rattle.theory.proofs.Levels.{le-total}
 use Rattle.records.specs.Drafts.{draft, forward-set, letters-of, letters-set, of-total}
 
-module _ {p : Profile} {w : List ℕ} {m room : ℕ} {starts places : List ℕ} (r : Ready p w m room starts places) where
-  pub apart : (a b : ℕ) → T (independent (p .masks) a b) → a ≢ b
-  apart = distinct (p .masks) (r .profile .relation .own)
+module _ {p : Rules} {w : List ℕ} {m room : ℕ} {starts places : List ℕ} (r : Ready p w m room starts places) where
+  pub apart : (a b : ℕ) → T (p .may a b) → p .letter a ≢ p .letter b
+  apart = r .log .apart
 
   -- the counts of a prefix: one for each letter, and each below 65,536
-  pub counted : (n : ℕ) (c : List ℕ) → Mem c (of-total p w n) → (length c ≡ p .k) × Small layout c × IsPrefix (independent (p .masks)) (λ a. a) w (at c)
+  pub counted : (n : ℕ) (c : List ℕ) → Mem c (of-total p w n) → (length c ≡ p .profile .k) × Small layout c × IsPrefix (p .may) (p .letter) w (at c)
   counted n c i =
-      let l = level-at (independent (p .masks)) (λ a. a) (p .k) w n c (r .log .letters) i in
-      let left = level-left (independent (p .masks)) (λ a. a) (p .k) w n c (r .log .letters) i in
+      let l = level-at (p .may) (p .letter) (p .profile .k) w n c (r .log .letters) i in
+      let left = level-left (p .may) (p .letter) (p .profile .k) w n c (r .log .letters) i in
       (l .0, all-of (λ v. ltb v (2 ^ layout .width)) c (λ v q. lt→ltb v (2 ^ layout .width) (omega (arith, le-total q, l .2, left, r .log .short))), l .1)
 
   module _ (n : ℕ) (c : List ℕ) (i : Mem c (of-total p w n)) (v : List ℕ) (e : v ≡ packed layout c) where
     abbrev found : List ℕ
-    found = letters-by (independent (p .masks)) (p .k) (length w) starts places v
+    found = letters-by (independent (p .profile .masks)) (p .profile .k) (length w) starts places v
 
     -- the letters found by the places of the log's events
     pub found-letters : found ≡ letters-of p w c
     found-letters =
-        ap (letters-by (independent (p .masks)) (p .k) (length w) starts places) e
-        ∙ ap₂ (λ s q. letters-by (independent (p .masks)) (p .k) (length w) s q (packed layout c)) (r .starts-placed) (r .places-placed)
-        ∙ letters-placed (independent (p .masks)) (p .k) w c (drop (p .k) starts) _ (r .log .short) (r .profile .relation .most)
-        (counted n c i .2) apart (r .log .letters)
+        ap (letters-by (independent (p .profile .masks)) (p .profile .k) (length w) starts places) e
+        ∙ r .finds c (counted n c i .2)
 
     -- the record of c
     pub record-found : (S L : ℕ) → S ≡ forward-set p w c → L ≡ union (λ x. 2 ^ x) found
@@ -59,31 +57,31 @@ module _ {p : Profile} {w : List ℕ} {m room : ℕ} {starts places : List ℕ} 
   -- ---- the empty prefix
 
   abbrev empty : List ℕ
-  empty = map (λ x. 0) (below (p .k))
+  empty = map (λ x. 0) (below (p .profile .k))
 
   first-total : totals p w 1 ≡ empty ∷ []
-  first-total = append-nil (of-total p w 0) ∙ level-first (independent (p .masks)) (λ a. a) apart (p .k) w (r .log .letters)
+  first-total = append-nil (of-total p w 0) ∙ level-first (p .may) (p .letter) apart (p .profile .k) w (r .log .letters)
 
   pub first-length : length (totals p w 1) ≡ 1
   first-length = ap length first-total
 
   module _ (v : List ℕ) (e : v ≡ packed layout []) where
     empty-packed : v ≡ packed layout empty
-    empty-packed = e ∙ sym (packed-zero layout (p .k))
+    empty-packed = e ∙ sym (packed-zero layout (p .profile .k))
 
     empty-in : Mem empty (of-total p w 0)
     empty-in = subst (Mem empty) (sym (sym (append-nil (of-total p w 0)) ∙ first-total)) (List·Memᴰ·head refl)
 
-    pub first-record : (t : List ℕ) (S L : ℕ) → S ≡ 1 * 2 ^ p .start % 2 ^ 32 → L ≡ union (λ x. 2 ^ x) (letters-by (independent (p .masks)) (p .k) (length w) starts places v)
+    pub first-record : (t : List ℕ) (S L : ℕ) → S ≡ 1 * 2 ^ p .profile .start % 2 ^ 32 → L ≡ union (λ x. 2 ^ x) (letters-by (independent (p .profile .masks)) (p .profile .k) (length w) starts places v)
         → put-record t 0 (v ++ (S ∷ L ∷ [])) ≡ begun p w (totals p w 1) t
     first-record t S L s l =
-        let f : S ≡ forward-set p w empty = s ∙ (shl-exact {a = 1} 1 (p .start) 32 (omega arith) (omega (arith, r .profile .starts, r .profile .states .1)) ∙ one-mul (2 ^ p .start))
-        ∙ sym (forward-first (independent (p .masks)) (λ a. a) apart (p .k) w (r .log .letters) (automaton p) (lawful p)) in
+        let f : S ≡ forward-set p w empty = s ∙ (shl-exact {a = 1} 1 (p .profile .start) 32 (omega arith) (omega (arith, r .profile .starts, r .profile .states .1)) ∙ one-mul (2 ^ p .profile .start))
+        ∙ sym (forward-first (p .may) (p .letter) apart (p .profile .k) w (r .log .letters) (automaton (p .profile)) (lawful (p .profile))) in
         ap (put-record t 0) (record-found 0 empty empty-in v empty-packed S L f l)
         ∙ begun-put p w [] empty t refl
         ∙ ap (λ C. begun p w C t) (sym first-total)
 
-    pub first-pairs : (n : ℕ) → n ≡ length (letters-by (independent (p .masks)) (p .k) (length w) starts places v) → n ≡ pairs p w (totals p w 1)
+    pub first-pairs : (n : ℕ) → n ≡ length (letters-by (independent (p .profile .masks)) (p .profile .k) (length w) starts places v) → n ≡ pairs p w (totals p w 1)
     first-pairs n h =
         h ∙ ap length (found-letters 0 empty empty-in v empty-packed)
-        ∙ omega (arith, pairs-cons (independent (p .masks)) (λ a. a) (p .k) w empty [], ap (pairs p w) first-total)
+        ∙ omega (arith, pairs-cons (p .may) (p .letter) (p .profile .k) w empty [], ap (pairs p w) first-total)

@@ -4,6 +4,7 @@ ghost use mathlib.Core.List.{[], _∷_, _++_};
 ghost use Prim.Native.Nat.{suc, _+_, _*_, _≤_, _<_};
 ghost use lib.ListN.{length, replicate};
 ghost use Rattle.profile.specs.Limits.{most-letters, most-states};
+ghost use Rattle.profile.specs.Rules.{plain};
 ghost use Rattle.profile.specs.Automata.{profile-of};
 ghost use Rattle.profile.specs.Refusals.{longest};
 ghost use Rattle.profile.specs.Tables.{layout, record-length};
@@ -70,9 +71,9 @@ fn put_first(
     places: &[Place],
 ) -> u32
     requires { ⌜ now keepers ≡ all-keepers (independent (now masks)) (shape .k) ⌝ }
-    requires { ⌜ Ready (profile-of shape (now masks) (now moves)) (now log) (length (now table)) 1 (now starts) (now places) ⌝ }
-    ensures { λ r. ⌜ (r ≡ pairs (profile-of shape (now (masks .entry)) (now (moves .entry))) (now (log .entry)) (totals (profile-of shape (now (masks .entry)) (now (moves .entry))) (now (log .entry)) 1))
-        × (now (table .exit) ≡ begun (profile-of shape (now (masks .entry)) (now (moves .entry))) (now (log .entry)) (totals (profile-of shape (now (masks .entry)) (now (moves .entry))) (now (log .entry)) 1) (now (table .entry))) ⌝ }
+    requires { ⌜ Ready (plain (profile-of shape (now masks) (now moves))) (now log) (length (now table)) 1 (now starts) (now places) ⌝ }
+    ensures { λ r. ⌜ (r ≡ pairs (plain (profile-of shape (now (masks .entry)) (now (moves .entry)))) (now (log .entry)) (totals (plain (profile-of shape (now (masks .entry)) (now (moves .entry)))) (now (log .entry)) 1))
+        × (now (table .exit) ≡ begun (plain (profile-of shape (now (masks .entry)) (now (moves .entry)))) (now (log .entry)) (totals (plain (profile-of shape (now (masks .entry)) (now (moves .entry)))) (now (log .entry)) 1) (now (table .entry))) ⌝ }
 {
     let k = shape.k;
     let start = shape.start;
@@ -129,9 +130,9 @@ fn merge_next(
     places: &[Place],
     cursors: &mut [usize],
 ) -> Merged
-    requires { ⌜ Halfway (profile-of (part .shape) (now masks) (now moves)) (now log) (now table) part j (now cursors) (now starts) (now places) ⌝ }
-    requires { ⌜ Prepared (profile-of (part .shape) (now masks) (now moves)) (now rows) (now keepers) ⌝ }
-    ensures { λ r. ⌜ Steps (profile-of (part .shape) (now (masks .entry)) (now (moves .entry))) (now (log .entry)) (part .room) (part .t) (part .first) j (now (table .entry)) (now (table .exit)) (now (cursors .exit)) r ⌝ }
+    requires { ⌜ Halfway (plain (profile-of (part .shape) (now masks) (now moves))) (now log) (now table) part j (now cursors) (now starts) (now places) ⌝ }
+    requires { ⌜ Prepared (plain (profile-of (part .shape) (now masks) (now moves))) (now rows) (now keepers) ⌝ }
+    ensures { λ r. ⌜ Steps (plain (profile-of (part .shape) (now (masks .entry)) (now (moves .entry)))) (now (log .entry)) (part .room) (part .t) (part .first) j (now (table .entry)) (now (table .exit)) (now (cursors .exit)) r ⌝ }
 {
     let k = part.shape.k;
     let s = part.shape.s;
@@ -178,8 +179,8 @@ fn fill_total(
     starts: &[Place],
     places: &[Place],
 ) -> Total
-    requires { ⌜ Standing (profile-of (part .shape) (now masks) (now moves)) (now log) (now table) part (now starts) (now places) × Prepared (profile-of (part .shape) (now masks) (now moves)) (now rows) (now keepers) ⌝ }
-    ensures { λ r. ⌜ Grows (profile-of (part .shape) (now (masks .entry)) (now (moves .entry))) (now (log .entry)) (part .room) (part .t) (part .first) (now (table .entry)) (now (table .exit)) r ⌝ }
+    requires { ⌜ Standing (plain (profile-of (part .shape) (now masks) (now moves))) (now log) (now table) part (now starts) (now places) × Prepared (plain (profile-of (part .shape) (now masks) (now moves))) (now rows) (now keepers) ⌝ }
+    ensures { λ r. ⌜ Grows (plain (profile-of (part .shape) (now (masks .entry)) (now (moves .entry)))) (now (log .entry)) (part .room) (part .t) (part .first) (now (table .entry)) (now (table .exit)) r ⌝ }
 {
     let mut cursors = first_cursors(table, part, part.shape.k);
     let mut pairs = 0u64;
@@ -235,9 +236,9 @@ fn fill_totals(
     starts: &[Place],
     places: &[Place],
 ) -> Filled
-    requires { ⌜ Standing (profile-of (part .shape) (now masks) (now moves)) (now log) (now table) part (now starts) (now places) ⌝ }
-    requires { ⌜ ((part .t ≤ length (now log)) × (number ≡ pairs (profile-of (part .shape) (now masks) (now moves)) (now log) (totals (profile-of (part .shape) (now masks) (now moves)) (now log) (suc (part .t))))) × Prepared (profile-of (part .shape) (now masks) (now moves)) (now rows) (now keepers) ⌝ }
-    ensures { λ r. ⌜ Forward (profile-of (part .shape) (now (masks .entry)) (now (moves .entry))) (now (log .entry)) (part .room) (now (table .entry)) (now (table .exit)) r ⌝ }
+    requires { ⌜ Standing (plain (profile-of (part .shape) (now masks) (now moves))) (now log) (now table) part (now starts) (now places) ⌝ }
+    requires { ⌜ ((part .t ≤ length (now log)) × (number ≡ pairs (plain (profile-of (part .shape) (now masks) (now moves))) (now log) (totals (plain (profile-of (part .shape) (now masks) (now moves))) (now log) (suc (part .t))))) × Prepared (plain (profile-of (part .shape) (now masks) (now moves))) (now rows) (now keepers) ⌝ }
+    ensures { λ r. ⌜ Forward (plain (profile-of (part .shape) (now (masks .entry)) (now (moves .entry)))) (now (log .entry)) (part .room) (now (table .entry)) (now (table .exit)) r ⌝ }
 {
     let mut at = part;
     let mut looks = number as u64;
@@ -268,8 +269,8 @@ pub fn fill_forward(
     starts: &[Place],
     places: &[Place],
 ) -> Filled
-    requires { ⌜ Ready (profile-of shape (now masks) (now moves)) (now log) (length (now table)) room (now starts) (now places) ⌝ }
-    ensures { λ r. ⌜ Forward (profile-of shape (now (masks .entry)) (now (moves .entry))) (now (log .entry)) room (now (table .entry)) (now (table .exit)) r ⌝ }
+    requires { ⌜ Ready (plain (profile-of shape (now masks) (now moves))) (now log) (length (now table)) room (now starts) (now places) ⌝ }
+    ensures { λ r. ⌜ Forward (plain (profile-of shape (now (masks .entry)) (now (moves .entry)))) (now (log .entry)) room (now (table .entry)) (now (table .exit)) r ⌝ }
 {
     if room == 0 {
         return Filled::Full;

@@ -6,5 +6,6 @@ pub mod Automata
 pub mod Prefixes
 pub mod Tables
 pub mod Orders
+pub mod Rules
 pub mod Refusals
 pub mod Source

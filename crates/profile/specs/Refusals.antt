@@ -10,7 +10,7 @@ use Rattle.profile.specs.Limits.{most-letters, most-states}
 use Rattle.profile.specs.Lists.{any, below, first-place}
 use Rattle.profile.specs.Traces.{independent}
 use Rattle.profile.specs.Automata.{Profile}
-use Rattle.profile.specs.Prefixes.{prefix-count}
+use Rattle.profile.specs.Rules.{plain, prefixes-by}
 use Rattle.profile.specs.Tables.{capacity, layout}
 use Rattle.profile.specs.declared.Check.{Check}
 use Rattle.profile.specs.declared.Check.the-variants.{Good, Bad}
@@ -114,7 +114,7 @@ abbrev pub admission-refusals : Profile → List ℕ → ℕ → List (Bool × R
 admission-refusals p w n = profile-refusals p ++ (log-refusals (p .k) w ++ ((short-buffer n w, ShortBuffer) ∷ []))
 
 abbrev pub judge-refusals : Profile → List ℕ → ℕ → ℕ → List (Bool × Refusal)
-judge-refusals p w n m = admission-refusals p w n ++ ((full-table (prefix-count (independent (p .masks)) (λ a. a) (p .k) w) m, FullTable) ∷ [])
+judge-refusals p w n m = admission-refusals p w n ++ ((full-table (prefixes-by (plain p) w) m, FullTable) ∷ [])
 
 abbrev pub judge-refusal : Profile → List ℕ → ℕ → ℕ → Option Refusal
 judge-refusal p w n m = lowest (judge-refusals p w n m)

@@ -8,10 +8,8 @@ use native.Mathlib.Omega.{arith}
 use lib.ListN.{length, take, drop}
 use lib.Seq.{take-at}
 use Rattle.profile.specs.Limits.{longest-input, program-numbers}
-use Rattle.profile.specs.Traces.{independent}
-use Rattle.profile.specs.Automata.{Profile, automaton}
-use Rattle.profile.specs.Prefixes.{prefix-count}
-use Rattle.profile.specs.Orders.{accepted-order}
+use Rattle.profile.specs.Automata.{Profile}
+use Rattle.profile.specs.Rules.{order-by, plain, prefixes-by}
 use Rattle.profile.specs.Refusals.{judge-refusal, longest, lowest}
 use Rattle.profile.specs.declared.Shape.{Shape}
 use Rattle.profile.specs.declared.Refusal.{Refusal}
@@ -35,7 +33,7 @@ line-short word n h = omega (arith, length-three word (decimal n) (10 ∷ []), d
 
 module _ (p : Profile) (w order order′ table table′ : List ℕ) (places : length order ≡ longest) (numbers : length table ≡ program-numbers) where
   abbrev told : Option Refusal → List ℕ
-  told q = unless-refused q (verdict-text (prefix-count (independent (p .masks)) (λ a. a) (p .k) w) (accepted-order (independent (p .masks)) (λ a. a) (automaton p) w))
+  told q = unless-refused q (verdict-text (prefixes-by (plain p) w) (order-by (plain p) w))
 
   refusal-as : {q : Option Refusal} → q ≡ judge-refusal p w (length order) (length table) → judged-text p w ≡ told q
   refusal-as e = ap told (sym (e ∙ ap₂ (judge-refusal p w) places numbers))

@@ -10,9 +10,8 @@ use native.Mathlib.Omega.{arith}
 use lib.ListN.{length}
 use Rattle.profile.specs.Limits.{most-letters, most-moves}
 use Rattle.profile.specs.Automata.{Profile}
-use Rattle.profile.specs.Prefixes.{prefix-count}
+use Rattle.profile.specs.Rules.{plain, prefixes-by}
 use Rattle.profile.specs.Refusals.{admission-refusals, full-table, judge-refusal, log-refusals, longest, lowest, profile-refusals, short-buffer}
-use Rattle.profile.specs.Traces.{independent}
 use Rattle.profile.specs.declared.Refusal.{Refusal}
 use Rattle.profile.specs.declared.Refusal.the-variants.{FullTable, ShortBuffer}
 use Rattle.theory.proofs.Refusals.{log-at, lowest-append, lowest-first, lowest-none}
@@ -51,9 +50,9 @@ module _ (f : List ℕ) (good : lowest (file-refusals f) ≡ none) where
   log-good = sym (content-log f w (open-file f good .0) profile-good) ∙ content-good
 
   -- the judge, with places for the longest log and m numbers, refuses a file that is read by 10 alone
-  pub judged-by-ten : (m : ℕ) → judge-refusal p w longest m ≡ lowest ((full-table (prefix-count (independent (p .masks)) (λ a. a) (p .k) w) m, FullTable) ∷ [])
+  pub judged-by-ten : (m : ℕ) → judge-refusal p w longest m ≡ lowest ((full-table (prefixes-by (plain p) w) m, FullTable) ∷ [])
   judged-by-ten m =
       let s : List (Bool × Refusal) = (short-buffer longest w, ShortBuffer) ∷ [] in
-      lowest-append (admission-refusals p w longest) ((full-table (prefix-count (independent (p .masks)) (λ a. a) (p .k) w) m, FullTable) ∷ [])
+      lowest-append (admission-refusals p w longest) ((full-table (prefixes-by (plain p) w) m, FullTable) ∷ [])
       (lowest-append (profile-refusals p) (log-refusals (p .k) w ++ s) profile-good ∙ lowest-append (log-refusals (p .k) w) s log-good
       ∙ ap (λ b. lowest ((b, ShortBuffer) ∷ [])) (le-ltb longest (length w) (log-at (p .k) w log-good .short)))

@@ -9,10 +9,8 @@ use lib.ListN.{length}
 use lib.Seq.{sets}
 use Rattle.profile.specs.Limits.{longest-input, most-letters, most-moves, program-numbers}
 use Rattle.profile.specs.Lists.{flat-map}
-use Rattle.profile.specs.Traces.{independent}
-use Rattle.profile.specs.Automata.{Profile, automaton}
-use Rattle.profile.specs.Prefixes.{prefix-count}
-use Rattle.profile.specs.Orders.{accepted-order}
+use Rattle.profile.specs.Automata.{Profile}
+use Rattle.profile.specs.Rules.{order-by, plain, prefixes-by}
 use Rattle.profile.specs.Refusals.{judge-refusal, longest, refusal-number}
 use Rattle.profile.specs.declared.Refusal.{Refusal}
 use Rattle.logfile.specs.Files.{file-log, file-profile, read-refusal}
@@ -74,7 +72,7 @@ unless-refused (some r) t = refusal-line r
 abbrev pub judged-text : Profile → List ℕ → List ℕ
 judged-text p w =
     unless-refused (judge-refusal p w longest program-numbers)
-    (verdict-text (prefix-count (independent (p .masks)) (λ a. a) (p .k) w) (accepted-order (independent (p .masks)) (λ a. a) (automaton p) w))
+    (verdict-text (prefixes-by (plain p) w) (order-by (plain p) w))
 
 -- what is printed for a file, whose masks and moves are read into buffers of 16 and 512 places
 abbrev pub file-text : List ℕ → List ℕ

@@ -8,8 +8,7 @@ use lib.Dec.{leb}
 use lib.ListN.{length, replicate, take}
 use Rattle.profile.specs.Traces.{independent}
 use Rattle.profile.specs.Automata.{Profile, automaton}
-use Rattle.profile.specs.Prefixes.{prefix-count}
-use Rattle.profile.specs.Orders.{accepted-order}
+use Rattle.profile.specs.Rules.{order-by, plain, prefixes-by}
 use Rattle.profile.specs.Tables.{layout, record-length}
 use Rattle.profile.specs.Refusals.{full-table, longest, lowest, profile-refusals}
 use Rattle.profile.specs.declared.Refusal.{Refusal}
@@ -26,14 +25,14 @@ use Rattle.running.specs.declared.Told.the-variants.{Refused as NotTold,
 
 -- P of the judge for the list of events w, and its verdict: 1 exactly when there is an accepted order
 abbrev pub P-of : Profile → List ℕ → ℕ
-P-of p w = prefix-count (independent (p .masks)) (λ a. a) (p .k) w
+P-of p w = prefixes-by (plain p) w
 
 abbrev pub some? : Option (List ℕ) → Bool
 some? none = false
 some? (some v) = true
 
 abbrev pub verdict-of : Profile → List ℕ → Bool
-verdict-of p w = some? (accepted-order (independent (p .masks)) (λ a. a) (automaton p) w)
+verdict-of p w = some? (order-by (plain p) w)
 
 -- ---- what refuses a call
 

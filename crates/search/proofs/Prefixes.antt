@@ -9,12 +9,12 @@ use native.Mathlib.Omega.{arith}
 use lib.Dec.{T, eqb, lt→ltb, ltb}
 use lib.ListN.{length, getD, take, drop}
 use lib.Seq.{take-at}
-use Rattle.profile.specs.Automata.{Profile, automaton}
+use Rattle.profile.specs.Rules.{Rules, prefixes-by, table-by}
+use Rattle.profile.specs.Automata.{automaton}
 use Rattle.profile.specs.Lists.{Mem, below, filter, flat-map, range}
 use Rattle.profile.specs.Orders.{no-later?}
-use Rattle.profile.specs.Prefixes.{prefix-count, prefixes, ranked, total}
-use Rattle.profile.specs.Tables.{layout, packed, record-length, record-of, table-of}
-use Rattle.profile.specs.Traces.{independent}
+use Rattle.profile.specs.Prefixes.{prefixes, ranked, total}
+use Rattle.profile.specs.Tables.{layout, packed, record-length, record-of}
 use Rattle.profile.proofs.Lists.{all-of, filter-at, filter-no, filter-yes, flat-map-append, mem-getD, range-append, test}
 use Rattle.theory.proofs.Counting.{prefixes-at}
 use Rattle.theory.proofs.LetterOrder.{earlier-test}
@@ -23,7 +23,7 @@ use Rattle.theory.proofs.Merge.{Sorted}
 use Rattle.theory.proofs.Packing.{packed-inj}
 use Rattle.theory.proofs.Prefixes.{front-length, front-of-prefix}
 use Rattle.theory.proofs.RecordOrder.{by-total-sorted, level-ranked, ranked-getD}
-use Rattle.theory.proofs.Refusals.{GoodLog, GoodProfile}
+use Rattle.theory.proofs.Refusals.{GoodEvents, GoodProfile}
 use Rattle.counts.proofs.Packed.{Small, counts-in-packed, same-tail, total-packed, zeros}
 use Rattle.counts.specs.Counts.{counts-in}
 use Rattle.records.specs.Records.{counts-at, records-in}
@@ -47,30 +47,30 @@ filter-places f g b (c ∷ l) h =
     (test (g c))
 
 -- l is prefixes of a log, in order: all of them or those of one total
-module _ (p : Profile) (w : List ℕ) (good : GoodProfile p) (log : GoodLog (p .k) w) (l : List (List ℕ)) (sorted : Sorted (map ranked l))
-    (inside : (c : List ℕ) → Mem c l → Mem c (prefixes (independent (p .masks)) (λ a. a) (p .k) w)) where
+module _ (p : Rules) (w : List ℕ) (good : GoodProfile (p .profile)) (log : GoodEvents p w) (l : List (List ℕ)) (sorted : Sorted (map ranked l))
+    (inside : (c : List ℕ) → Mem c l → Mem c (prefixes (p .may) (p .letter) (p .profile .k) w)) where
   -- counts of a prefix: one for each letter, each small
-  long : (c : List ℕ) → Mem c l → length c ≡ p .k
-  long c m = prefixes-at (independent (p .masks)) (λ a. a) (p .k) w c (log .letters) (inside c m) .0
+  long : (c : List ℕ) → Mem c l → length c ≡ p .profile .k
+  long c m = prefixes-at (p .may) (p .letter) (p .profile .k) w c (log .letters) (inside c m) .0
 
   few : (c : List ℕ) → Mem c l → Small layout c
   few c m = all-of (λ n. ltb n (2 ^ layout .width)) c (λ n i.
-      let may = independent (p .masks) in
-      let q = prefixes-at may (λ a. a) (p .k) w c (log .letters) (inside c m) in
+      let may = p .may in
+      let q = prefixes-at may (p .letter) (p .profile .k) w c (log .letters) (inside c m) in
       lt→ltb n (2 ^ layout .width) (omega (
         arith,
         le-total i,
-        total-prefix may (λ a. a) (p .k) w c (log .letters) (inside c m),
-        front-length may (front-of-prefix may (λ a. a) (q .1)),
+        total-prefix may (p .letter) (p .profile .k) w c (log .letters) (inside c m),
+        front-length may (front-of-prefix may (p .letter) (q .1)),
         log .short,
       )))
 
   -- what stands before in the numbers is what stands before by total and counts
-  before-is : (c d : List ℕ) → length c ≡ p .k → length d ≡ p .k → Small layout c → Small layout d
+  before-is : (c d : List ℕ) → length c ≡ p .profile .k → length d ≡ p .profile .k → Small layout c → Small layout d
       → stands-before? (packed layout c) (packed layout d) ≡ not (no-later? (ranked d) (ranked c))
-  before-is c d e q small small′ = ap not (ap₂ no-later? (rank d q small′) (rank c e small) ∙ same-tail (ranked d) (ranked c) (zeros layout (p .k)) (ap suc (q ∙ sym e)))
+  before-is c d e q small small′ = ap not (ap₂ no-later? (rank d q small′) (rank c e small) ∙ same-tail (ranked d) (ranked c) (zeros layout (p .profile .k)) (ap suc (q ∙ sym e)))
     where
-      rank : (c : List ℕ) → length c ≡ p .k → Small layout c → ranked (counts-in layout (packed layout c)) ≡ ranked c ++ zeros layout (p .k)
+      rank : (c : List ℕ) → length c ≡ p .profile .k → Small layout c → ranked (counts-in layout (packed layout c)) ≡ ranked c ++ zeros layout (p .profile .k)
       rank c e small =
           let fits : length c ≤ layout .per * layout .numbers = omega (arith, good .relation .most) in
           ap₂ _∷_ (total-packed layout c fits small) (counts-in-packed layout c fits small ∙ ap (λ n. c ++ zeros layout n) e)
@@ -97,7 +97,7 @@ module _ (p : Profile) (w : List ℕ) (good : GoodProfile p) (log : GoodLog (p .
   found-prefix j h = ap (found-in (filled p w l)) (sym (counts-are j h)) ∙ found-record (filled p w l) records-ordered j (subst (λ n. j < n) (sym records-many) h)
 
   -- "or, exactly when none has, how many records stand before its place"
-  pub found-none : (c : List ℕ) → length c ≡ p .k → Small layout c → (Mem c l → ⊥)
+  pub found-none : (c : List ℕ) → length c ≡ p .profile .k → Small layout c → (Mem c l → ⊥)
       → found-in (filled p w l) (packed layout c) ≡ Absent (length (filter (λ d. not (no-later? (ranked c) (ranked d))) l))
   found-none c e small outside =
       found-absent (filled p w l) (packed layout c) (λ j k q.
@@ -115,34 +115,34 @@ module _ (p : Profile) (w : List ℕ) (good : GoodProfile p) (log : GoodLog (p .
 
 -- ---- the parts of a table
 
-module _ (p : Profile) (w : List ℕ) (log : GoodLog (p .k) w) where
+module _ (p : Rules) (w : List ℕ) (log : GoodEvents p w) where
   -- the two lists that the module above is about
   pub whole-sorted : Sorted (map ranked (in-order p w))
-  whole-sorted = by-total-sorted (independent (p .masks)) (λ a. a) (p .k) w
+  whole-sorted = by-total-sorted (p .may) (p .letter) (p .profile .k) w
 
-  pub whole-inside : (c : List ℕ) → Mem c (in-order p w) → Mem c (prefixes (independent (p .masks)) (λ a. a) (p .k) w)
-  whole-inside = by-total-at (independent (p .masks)) (λ a. a) (p .k) w
+  pub whole-inside : (c : List ℕ) → Mem c (in-order p w) → Mem c (prefixes (p .may) (p .letter) (p .profile .k) w)
+  whole-inside = by-total-at (p .may) (p .letter) (p .profile .k) w
 
   pub total-sorted : (n : ℕ) → Sorted (map ranked (of-total p w n))
-  total-sorted = level-ranked (independent (p .masks)) (λ a. a) (p .k) w
+  total-sorted = level-ranked (p .may) (p .letter) (p .profile .k) w
 
-  pub total-inside : (n : ℕ) (c : List ℕ) → Mem c (of-total p w n) → Mem c (prefixes (independent (p .masks)) (λ a. a) (p .k) w)
-  total-inside n c m = filter-at (λ d. eqb (total d) n) (prefixes (independent (p .masks)) (λ a. a) (p .k) w) m .0
+  pub total-inside : (n : ℕ) (c : List ℕ) → Mem c (of-total p w n) → Mem c (prefixes (p .may) (p .letter) (p .profile .k) w)
+  total-inside n c m = filter-at (λ d. eqb (total d) n) (prefixes (p .may) (p .letter) (p .profile .k) w) m .0
 
   -- the first P records of a table after an answer
-  pub whole-part : (before : List ℕ) → take (record-length layout * prefix-count (independent (p .masks)) (λ a. a) (p .k) w)
-      (table-of layout (independent (p .masks)) (λ a. a) (automaton p) (p .k) w before) ≡ filled p w (in-order p w)
-  whole-part before = take-at (filled p w (in-order p w)) (drop (record-length layout * prefix-count (independent (p .masks)) (λ a. a) (p .k) w) before)
-      (record-length layout * prefix-count (independent (p .masks)) (λ a. a) (p .k) w)
+  pub whole-part : (before : List ℕ) → take (record-length layout * prefixes-by p w)
+      (table-by p w before) ≡ filled p w (in-order p w)
+  whole-part before = take-at (filled p w (in-order p w)) (drop (record-length layout * prefixes-by p w) before)
+      (record-length layout * prefixes-by p w)
       (drafts-length (forward-set p w) (backward-set p w) (in-order p w)
-      ∙ ap (λ n. record-length layout * n) (by-total-length (independent (p .masks)) (λ a. a) (p .k) w (log .letters)))
+      ∙ ap (λ n. record-length layout * n) (by-total-length (p .may) (p .letter) (p .profile .k) w (log .letters)))
 
   -- the records of a total that some prefix may have stand together, behind those of the totals below it
   pub total-part : (n m : ℕ) → length w ≡ n + m
       → filled p w (in-order p w) ≡ filled p w (flat-map (of-total p w) (below n)) ++ (filled p w (of-total p w n) ++ filled p w (flat-map (of-total p w) (range (suc n) m)))
   total-part n m e =
       let at = of-total p w in
-      let r = record-of layout (independent (p .masks)) (λ a. a) (automaton p) w in
+      let r = record-of layout (p .may) (p .letter) (automaton (p .profile)) w in
       let all : suc (length w) ≡ n + suc m = omega arith in
       let z : 0 + n ≡ n = omega arith in
       ap (λ k. filled p w (flat-map at k)) (ap below all ∙ range-append 0 n (suc m) ∙ ap (λ k. below n ++ range k (suc m)) z)

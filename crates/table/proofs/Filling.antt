@@ -1,27 +1,27 @@
 -- Which refusal a table that is too small or large enough gets, and the table that the two passes leave.
 use mathlib.Core.Path.{_≡_, refl, sym, _∙_, ap}
 use mathlib.Core.Bool.{Bool}
-use mathlib.Core.List.{List, [], _∷_, _++_, append-assoc}
+use mathlib.Core.List.{List, [], _∷_, _++_}
 use mathlib.Core.Option.{none, some}
-use Prim.Native.Nat.{ℕ, _*_, _≤_, _<_}
+use Prim.Native.Nat.{ℕ, _*_, _≤_}
 use native.Mathlib.Omega.{arith}
 use borrow.Author.Tests.{lt-ltb, le-ltb}
 use lib.ListN.{length, drop}
 use lib.Seq.{drop-at}
-use Rattle.profile.specs.Traces.{independent}
 use Rattle.profile.specs.Automata.{Profile}
-use Rattle.profile.specs.Prefixes.{prefix-count}
+use Rattle.profile.specs.Rules.{Rules, plain, prefixes-by}
 use Rattle.profile.specs.Tables.{capacity, layout, record-length}
 use Rattle.profile.specs.Refusals.{full-table, log-refusals, lowest, profile-refusals}
 use Rattle.profile.specs.declared.Refusal.{Refusal}
 use Rattle.profile.specs.declared.Refusal.the-variants.{FullTable}
 use Rattle.theory.proofs.Levels.{by-total-length}
-use Rattle.theory.proofs.Refusals.{log-at, lowest-append, lowest-first, profile-at}
+use Rattle.theory.proofs.Refusals.{log-at, lowest-append, lowest-first, plain-events, profile-at}
 use Rattle.profile.proofs.Lists.{flat-map-length}
 use Rattle.forward.specs.Forward.{Forward}
 use Rattle.forward.specs.declared.Filled.the-variants.{Done, Full}
 use Rattle.backward.specs.Backward.{Drafted}
-use Rattle.table.specs.Table.{Promise, Sound, build-refusals}
+use Rattle.table.specs.Table.{Fills, Promise, Sound, build-refusals}
+use Rattle.table.specs.declared.Built.{Built}
 use Rattle.table.specs.declared.Built.the-variants.{Filled, Refused}
 use Rattle.records.specs.Drafts.{draft, drafted, filled, forward-set, in-order, letters-set}
 
@@ -29,35 +29,18 @@ use Rattle.records.specs.Drafts.{draft, drafted, filled, forward-set, in-order,
 pub behind-own : (a b l : List ℕ) (n : ℕ) → length a ≡ n → l ≡ a ++ b → l ≡ a ++ drop n l
 behind-own a b l n e q = q ∙ ap (λ r. a ++ r) (sym (ap (drop n) q ∙ drop-at a b n e))
 
--- ---- which refusal
-
--- the condition of 10
-abbrev tenth : Profile → List ℕ → ℕ → List (Bool × Refusal)
-tenth p w m = (full-table (prefix-count (independent (p .masks)) (λ a. a) (p .k) w) m, FullTable) ∷ []
-
--- a table that is too small, and one that is not
-module _ (p : Profile) (w : List ℕ) {m room : ℕ} (s : Sound p w m room) where
-  behind : lowest (build-refusals p w m) ≡ lowest (tenth p w m)
-  behind = ap lowest (sym (append-assoc (profile-refusals p) (log-refusals (p .k) w) (tenth p w m))) ∙ lowest-append (profile-refusals p ++ log-refusals (p .k) w) (tenth p w m) (s .unrefused)
-
-  pub refused-full : room < prefix-count (independent (p .masks)) (λ a. a) (p .k) w → lowest (build-refusals p w m) ≡ some FullTable
-  refused-full h = behind ∙ rw (lt-ltb (capacity layout m) (prefix-count (independent (p .masks)) (λ a. a) (p .k) w) (rw (s .place) at h), lowest)
-
-  pub unrefused : prefix-count (independent (p .masks)) (λ a. a) (p .k) w ≤ room → lowest (build-refusals p w m) ≡ none
-  unrefused h = behind ∙ rw (le-ltb (capacity layout m) (prefix-count (independent (p .masks)) (λ a. a) (p .k) w) (rw (s .place) at h), lowest)
-
 -- ---- the two passes
 
-module _ (p : Profile) (w before : List ℕ) {room : ℕ} (s : Sound p w (length before) room) where
+module _ (p : Rules) (w before : List ℕ) {room : ℕ} (s : Sound p w (length before) room) where
   -- the records do not fit
-  pub full : (after after′ : List ℕ) → Forward p w room before after Full → Promise p w before after′ (Refused FullTable)
-  full after after′ h = record { refused = sym (refused-full p w s h); table = λ ne. absurd (ne refl) }
+  pub full : (after after′ : List ℕ) → Forward p w room before after Full → Fills p w before after′ (Refused FullTable)
+  full after after′ h = record { answer = (refl, rw (s .place) at h); table = λ ne. absurd (ne refl) }
 
   module _ (P n : ℕ) (after : List ℕ) (h : Forward p w room before after (Done P n)) (kept : length after ≡ length before) where
-    -- the drafted records have 6 × P numbers
+    -- the drafted records have 10 × P numbers
     drafts : length (drafted p w (in-order p w)) ≡ record-length layout * P
     drafts = flat-map-length (draft (forward-set p w) (letters-set p w)) (record-length layout) (λ c. refl) (in-order p w)
-        ∙ ap (λ m. record-length layout * m) (by-total-length (independent (p .masks)) (λ a. a) (p .k) w (s .log .letters) ∙ sym (h .0))
+        ∙ ap (λ m. record-length layout * m) (by-total-length (p .may) (p .letter) (p .profile .k) w (s .log .letters) ∙ sym (h .0))
 
     -- what the backward pass asks
     pub ready : Drafted p w after P
@@ -70,9 +53,9 @@ module _ (p : Profile) (w before : List ℕ) {room : ℕ} (s : Sound p w (length
     }
 
     -- what it leaves
-    pub done : (last : List ℕ) → last ≡ filled p w (in-order p w) ++ drop (record-length layout * P) after → Promise p w before last (Filled P n)
+    pub done : (last : List ℕ) → last ≡ filled p w (in-order p w) ++ drop (record-length layout * P) after → Fills p w before last (Filled P n)
     done last e = record {
-      refused = sym (unrefused p w s (omega (arith, h .0, h .1)));
+      answer = let le : prefixes-by p w ≤ room = omega (arith, h .0, h .1) in rw (s .place) at le;
       table = (
         h .0,
         h .2,
@@ -85,6 +68,25 @@ module _ (p : Profile) (w before : List ℕ) {room : ℕ} (s : Sound p w (length
 
 -- ---- the checks
 
+-- the condition of 10
+abbrev tenth : Profile → List ℕ → ℕ → List (Bool × Refusal)
+tenth p w m = (full-table (prefixes-by (plain p) w) m, FullTable) ∷ []
+
+-- neither profile nor log is refused: what filling answers is the answer
+module _ (p : Profile) (w before after : List ℕ) (e : lowest (profile-refusals p) ≡ none) (q : lowest (log-refusals (p .k) w) ≡ none) where
+  behind : lowest (build-refusals p w (length before)) ≡ lowest (tenth p w (length before))
+  behind = lowest-append (profile-refusals p) (log-refusals (p .k) w ++ tenth p w (length before)) e ∙ lowest-append (log-refusals (p .k) w) (tenth p w (length before)) q
+
+  pub answered : (r : Built) → Fills (plain p) w before after r → Promise p w before after r
+  answered (Refused r) h = record {
+    refused = sym (behind ∙ (rw (lt-ltb (capacity layout (length before)) (prefixes-by (plain p) w) (h .answer .1), lowest)) ∙ ap some (sym (h .answer .0)));
+    table = h .table;
+  }
+  answered (Filled P n) h = record {
+    refused = sym (behind ∙ rw (le-ltb (capacity layout (length before)) (prefixes-by (plain p) w) (h .answer), lowest));
+    table = h .table;
+  }
+
 -- the profile is refused
 pub profile-refused : (p : Profile) (w before : List ℕ) (r : Refusal) → lowest (profile-refusals p) ≡ some r → Promise p w before before (Refused r)
 profile-refused p w before r e = record { refused = sym (lowest-first (profile-refusals p) (log-refusals (p .k) w ++ tenth p w (length before)) e); table = λ ne. refl }
@@ -94,10 +96,5 @@ pub log-refused : (p : Profile) (w before : List ℕ) (r : Refusal) → lowest (
 log-refused p w before r e q = record { refused = sym (lowest-append (profile-refusals p) (log-refusals (p .k) w ++ tenth p w (length before)) e ∙ lowest-first (log-refusals (p .k) w) (tenth p w (length before)) q); table = λ ne. refl }
 
 -- neither is refused
-pub sound : (p : Profile) (w : List ℕ) (m room : ℕ) → lowest (profile-refusals p) ≡ none → lowest (log-refusals (p .k) w) ≡ none → room ≡ capacity layout m → Sound p w m room
-sound p w m room e q h = record {
-  profile = profile-at p e;
-  log = log-at (p .k) w q;
-  unrefused = lowest-append (profile-refusals p) (log-refusals (p .k) w) e ∙ q;
-  place = h;
-}
+pub sound : (p : Profile) (w : List ℕ) (m room : ℕ) → lowest (profile-refusals p) ≡ none → lowest (log-refusals (p .k) w) ≡ none → room ≡ capacity layout m → Sound (plain p) w m room
+sound p w m room e q h = record { profile = profile-at p e; log = plain-events p w (profile-at p e) (log-at (p .k) w q); place = h }

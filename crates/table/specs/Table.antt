@@ -4,14 +4,13 @@ use mathlib.Core.Bool.{Bool}
 use mathlib.Core.Logic.{_≢_}
 use mathlib.Core.List.{List, [], _∷_, _++_}
 use mathlib.Core.Option.{Option, none, some}
-use Prim.Native.Nat.{ℕ}
+use Prim.Native.Nat.{ℕ, _≤_, _<_}
 use lib.ListN.{length}
-use Rattle.profile.specs.Traces.{independent}
-use Rattle.profile.specs.Automata.{Profile, automaton}
-use Rattle.profile.specs.Prefixes.{looks, prefix-count}
-use Rattle.profile.specs.Tables.{capacity, layout, table-of}
+use Rattle.profile.specs.Automata.{Profile}
+use Rattle.profile.specs.Tables.{capacity, layout}
+use Rattle.profile.specs.Rules.{Rules, looks-by, plain, prefixes-by, table-by}
 use Rattle.profile.specs.Refusals.{full-table, log-refusals, lowest, profile-refusals}
-use Rattle.theory.proofs.Refusals.{GoodLog, GoodProfile}
+use Rattle.theory.proofs.Refusals.{GoodEvents, GoodProfile}
 use Rattle.profile.specs.declared.Refusal.{Refusal}
 use Rattle.profile.specs.declared.Refusal.the-variants.{FullTable}
 use Rattle.table.specs.declared.Built.{Built}
@@ -20,13 +19,12 @@ use Rattle.table.specs.declared.Built.the-variants.{Filled, Refused}
 -- the refusals of building in a table of m numbers, by rising number
 abbrev pub build-refusals : Profile → List ℕ → ℕ → List (Bool × Refusal)
 build-refusals p w m =
-    profile-refusals p ++ (log-refusals (p .k) w ++ ((full-table (prefix-count (independent (p .masks)) (λ a. a) (p .k) w) m, FullTable) ∷ []))
+    profile-refusals p ++ (log-refusals (p .k) w ++ ((full-table (prefixes-by (plain p) w) m, FullTable) ∷ []))
 
--- a good profile and log, and a table of m numbers that has place for `room` records
-pub record Sound (p : Profile) (w : List ℕ) (m room : ℕ) : Type 0 where
-  pub profile : GoodProfile p
-  pub log : GoodLog (p .k) w
-  pub unrefused : lowest (profile-refusals p ++ log-refusals (p .k) w) ≡ none
+-- good rules and events, and a table of m numbers that has place for `room` records
+pub record Sound (p : Rules) (w : List ℕ) (m room : ℕ) : Type 0 where
+  pub profile : GoodProfile (p .profile)
+  pub log : GoodEvents p w
   pub place : room ≡ capacity layout m
 
 -- the refusal of an answer; none where the table is filled
@@ -36,14 +34,21 @@ refused-by (Filled P n) = none
 
 -- what is promised of the table: "Refusals leave every buffer unchanged; only after 10 is the work table's content free"; after an answer the table
 -- holds the prefixes, P is their number, and looks that of their additions
-abbrev pub promised : Profile → List ℕ → List ℕ → List ℕ → Built → Type 0
+abbrev pub promised : Rules → List ℕ → List ℕ → List ℕ → Built → Type 0
 promised p w before after (Refused r) = r ≢ FullTable → after ≡ before
 promised p w before after (Filled P n) =
-    (P ≡ prefix-count (independent (p .masks)) (λ a. a) (p .k) w)
-    × (n ≡ looks (independent (p .masks)) (λ a. a) (p .k) w)
-    × (after ≡ table-of layout (independent (p .masks)) (λ a. a) (automaton p) (p .k) w before)
+    (P ≡ prefixes-by p w) × (n ≡ looks-by p w) × (after ≡ table-by p w before)
+
+-- the answer of filling a table that was `before`: refused by 10 exactly when the records do not fit, and what is promised of the table
+abbrev pub fills : Rules → List ℕ → List ℕ → Built → Type 0
+fills p w before (Refused r) = (r ≡ FullTable) × (capacity layout (length before) < prefixes-by p w)
+fills p w before (Filled P n) = prefixes-by p w ≤ capacity layout (length before)
+
+pub record Fills (p : Rules) (w before after : List ℕ) (r : Built) : Type 0 where
+  pub answer : fills p w before r
+  pub table : promised p w before after r
 
 -- which refusal is given, and what is promised of the table, after an answer r
 pub record Promise (p : Profile) (w before after : List ℕ) (r : Built) : Type 0 where
   pub refused : refused-by r ≡ lowest (build-refusals p w (length before))
-  pub table : promised p w before after r
+  pub table : promised (plain p) w before after r

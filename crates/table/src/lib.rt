@@ -1,7 +1,8 @@
 // The table of prefixes: document 01, "Prefixes and their table".
 ghost use lib.ListN.{length};
 ghost use Rattle.profile.specs.Automata.{profile-of};
-ghost use Rattle.table.specs.Table.{Promise, Sound};
+ghost use Rattle.profile.specs.Rules.{plain};
+ghost use Rattle.table.specs.Table.{Fills, Promise, Sound};
 ghost use Rattle.forward.specs.Forward.{Forward};
 use forward::Filled as Pass;
 use profile::Check;
@@ -26,8 +27,8 @@ fn put_records(
     moves: &[u32],
     log: &[u8],
 ) -> Pass
-    requires { ⌜ Sound (profile-of shape (now masks) (now moves)) (now log) (length (now table)) room ⌝ }
-    ensures { λ r. ⌜ Forward (profile-of shape (now (masks .entry)) (now (moves .entry))) (now (log .entry)) room (now (table .entry)) (now (table .exit)) r ⌝ }
+    requires { ⌜ Sound (plain (profile-of shape (now masks) (now moves))) (now log) (length (now table)) room ⌝ }
+    ensures { λ r. ⌜ Forward (plain (profile-of shape (now (masks .entry)) (now (moves .entry)))) (now (log .entry)) room (now (table .entry)) (now (table .exit)) r ⌝ }
 {
     let k = shape.k;
     let mut starts: [Place; MOST_LETTERS] = [0; MOST_LETTERS];
@@ -45,8 +46,8 @@ fn fill(
     moves: &[u32],
     log: &[u8],
 ) -> Built
-    requires { ⌜ Sound (profile-of shape (now masks) (now moves)) (now log) (length (now table)) room ⌝ }
-    ensures { λ r. ⌜ Promise (profile-of shape (now (masks .entry)) (now (moves .entry))) (now (log .entry)) (now (table .entry)) (now (table .exit)) r ⌝ }
+    requires { ⌜ Sound (plain (profile-of shape (now masks) (now moves))) (now log) (length (now table)) room ⌝ }
+    ensures { λ r. ⌜ Fills (plain (profile-of shape (now (masks .entry)) (now (moves .entry)))) (now (log .entry)) (now (table .entry)) (now (table .exit)) r ⌝ }
 {
     let pass = put_records(table, room, shape, masks, moves, log);
     match pass {

@@ -29,4 +29,5 @@ pub mod Refusals
 pub mod Longest
 pub mod OldRecords
 pub mod Agreement
+pub mod Calls
 pub mod Demands

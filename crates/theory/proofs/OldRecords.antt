@@ -15,10 +15,10 @@ use lib.Seq.{ext-getD}
 use native.Mathlib.Nat.{zero-add}
 use Rattle.profile.specs.Automata.{Automaton, Profile}
 use Rattle.profile.specs.Lists.{Mem, all, below}
+use Rattle.profile.specs.Rules.{plain, prefixes-by}
 use Rattle.profile.specs.Prefixes.{at, by-total, prefix-count}
 use Rattle.profile.specs.Refusals.{bad-letter, bad-place, full-table, judge-refusal, judge-refusals, log-refusals, longest, lowest, profile-refusals, short-buffer}
 use Rattle.profile.specs.Tables.{Layout, capacity, count-field, layout, packed, record-length}
-use Rattle.profile.specs.Traces.{independent}
 use Rattle.profile.specs.declared.Refusal.{Refusal}
 use Rattle.profile.specs.declared.Refusal.the-variants.{BadLetter, FullTable, LongLog, ShortBuffer}
 use Rattle.profile.proofs.Lists.{all-of}
@@ -36,11 +36,11 @@ old = record { width = 8; per = 4; numbers = 4 }
 abbrev pub old-judge-refusals : Profile → List ℕ → ℕ → ℕ → List (Bool × Refusal)
 old-judge-refusals p w n m =
     profile-refusals p ++ ((ltb 255 (length w), LongLog) ∷ (bad-letter (p .k) w, BadLetter (bad-place (p .k) w)) ∷ (short-buffer n w, ShortBuffer)
-    ∷ (ltb (capacity old m) (prefix-count (independent (p .masks)) (λ a. a) (p .k) w), FullTable) ∷ [])
+    ∷ (ltb (capacity old m) (prefixes-by (plain p) w), FullTable) ∷ [])
 
 -- a call that got a verdict gets one, where the new records fit the table
 pub still-judged : (p : Profile) (w : List ℕ) (n m m′ : ℕ) → lowest (old-judge-refusals p w n m) ≡ none
-    → prefix-count (independent (p .masks)) (λ a. a) (p .k) w ≤ capacity layout m′ → judge-refusal p w n m′ ≡ none
+    → prefixes-by (plain p) w ≤ capacity layout m′ → judge-refusal p w n m′ ≡ none
 still-judged p w n m m′ e fits =
     lowest-none (judge-refusals p w n m′) .1
     (λ c i. ⊎-elim (λ j. ⊎-elim (λ k. h c (Memᴰ·append-left rest k))
@@ -49,7 +49,7 @@ still-judged p w n m m′ e fits =
   where
     rest : List (Bool × Refusal)
     rest = (ltb 255 (length w), LongLog) ∷ (bad-letter (p .k) w, BadLetter (bad-place (p .k) w)) ∷ (short-buffer n w, ShortBuffer)
-        ∷ (ltb (capacity old m) (prefix-count (independent (p .masks)) (λ a. a) (p .k) w), FullTable) ∷ []
+        ∷ (ltb (capacity old m) (prefixes-by (plain p) w), FullTable) ∷ []
 
     h : (c : Bool × Refusal) → Mem c (profile-refusals p ++ rest) → c .0 ≡ false
     h = lowest-none (old-judge-refusals p w n m) .0 e
@@ -68,8 +68,8 @@ still-judged p w n m m′ e fits =
         ∙ h (short-buffer n w, ShortBuffer) (Memᴰ·append-right (profile-refusals p) (List·Memᴰ·tail (List·Memᴰ·tail (List·Memᴰ·head refl)))))
         (λ z. absurd (List·Memᴰ·not-nil z)) (List·Memᴰ·cases-cons i)
 
-    of-table : (c : Bool × Refusal) → Mem c ((full-table (prefix-count (independent (p .masks)) (λ a. a) (p .k) w) m′, FullTable) ∷ []) → c .0 ≡ false
-    of-table c i = ⊎-elim (λ q. ap (λ (x : Bool × Refusal). x .0) q ∙ le-ltb (capacity layout m′) (prefix-count (independent (p .masks)) (λ a. a) (p .k) w) fits)
+    of-table : (c : Bool × Refusal) → Mem c ((full-table (prefixes-by (plain p) w) m′, FullTable) ∷ []) → c .0 ≡ false
+    of-table c i = ⊎-elim (λ q. ap (λ (x : Bool × Refusal). x .0) q ∙ le-ltb (capacity layout m′) (prefixes-by (plain p) w) fits)
         (λ z. absurd (List·Memᴰ·not-nil z)) (List·Memᴰ·cases-cons i)
 
 -- the numbers of counts of record r

@@ -1,7 +1,7 @@
 -- The lowest refusal that applies, and what is known of a profile and a log of which none applies.
 use mathlib.Core.Path.{_≡_, refl, sym, _∙_, ap}
 use mathlib.Core.Bool.{Bool, true, false, not, _&&_, _||_, true≢false}
-use mathlib.Core.Logic.{_⊎_, inl, inr, ⊎-elim, _↔_}
+use mathlib.Core.Logic.{_⊎_, inl, inr, ⊎-elim, _↔_, _≢_}
 use mathlib.Core.List.{List, [], _∷_, _++_, map, List·Memᴰ·head, List·Memᴰ·tail, List·Memᴰ·cases-cons, List·Memᴰ·not-nil, Memᴰ·append-left, Memᴰ·append-right}
 use mathlib.Core.Option.{none, some, Option·none-ne-some, Option·some-ne-none, Option·some-injective}
 use Prim.Native.Nat.{ℕ, _+_, _*_, _/_, _^_, _≤_, _<_}
@@ -12,14 +12,16 @@ use lib.Dec.{T, not-T, eqb, eqb→eq, ltb, lt→ltb, leb, leb→le, nleb→lt}
 use borrow.Author.Tests.{ltb-false, leb-false, eqb-true, not-false}
 use lib.ListN.{length, getD, List·getD-eq-default}
 use Rattle.profile.specs.Limits.{most-letters, most-states}
-use Rattle.profile.specs.Lists.{Mem, all, any, below}
+use Rattle.profile.specs.Lists.{Mem, all, any}
 use Rattle.profile.specs.Traces.{bit, independent, letters-below}
 use Rattle.profile.specs.Automata.{Profile}
+use Rattle.profile.specs.Rules.{Rules, plain}
 use Rattle.profile.specs.Refusals.{admission-refusals, bit-from, first-order-refusals, judge-refusals, letters-out-of-range, log-refusals, longest, lowest, mask-bit, profile-refusals, refusal-number, relation-refusals, short-buffer}
 use Rattle.profile.specs.declared.Refusal.{Refusal}
 use Rattle.profile.specs.declared.Refusal.the-variants.{ShortBuffer}
 use Rattle.profile.proofs.Lists.{Rising, all-at, all-of, any-of, below-of, fst-of, is-false, lt-or-le, or-left, or-right, snd-of, test}
 use Rattle.profile.proofs.Sets.{bit-below, not-in-none, some-bit}
+use Rattle.theory.proofs.Profiles.{distinct}
 
 -- ---- the lowest
 
@@ -196,6 +198,16 @@ log-at k w e =
       short = ltb-false longest (length w) (h _ (List·Memᴰ·head refl));
       letters = all-of (λ a. ltb a k) w (λ a m. lt→ltb a k (leb-false k a (is-false (leb k a) (not-T (leb k a) (none-of (leb k) (h _ (List·Memᴰ·tail (List·Memᴰ·head refl))) m)))));
     }
+
+-- the events of a call, for what the table is built of: no more than the longest log has, their letters below k, and events that may be exchanged have
+-- different letters
+pub record GoodEvents (p : Rules) (w : List ℕ) : Type 0 where
+  pub short : length w ≤ longest
+  pub letters : T (letters-below (p .letter) (p .profile .k) w)
+  pub apart : (a b : ℕ) → T (p .may a b) → p .letter a ≢ p .letter b
+
+pub plain-events : (p : Profile) (w : List ℕ) → GoodProfile p → GoodLog (p .k) w → GoodEvents (plain p) w
+plain-events p w g h = record { short = h .short; letters = h .letters; apart = distinct (p .masks) (g .relation .own) }
 
 -- "admitted": no refusal save 10 applies to the judge's call with n places for the order
 pub record Admitted (p : Profile) (w : List ℕ) (n : ℕ) : Type 0 where

@@ -10,6 +10,7 @@ use lib.ListN.{length, getD, take, drop}
 use lib.Seq.{drop-at, take-at}
 use Rattle.profile.specs.Traces.{Reachable, independent}
 use Rattle.profile.specs.Automata.{Profile, automaton}
+use Rattle.profile.specs.Rules.{plain}
 use Rattle.profile.specs.Tables.{layout, packed, record-length}
 use Rattle.profile.specs.Orders.{Earlier, NoLater, Same}
 use Rattle.profile.specs.Refusals.{judge-refusal}
@@ -102,7 +103,7 @@ module _ (p : Profile) (v w : List ℕ) (order₁ order₁′ table₁ table₁�
   answers : (order-of p v ≡ order-of p w) × (prefixes-of p v ≡ prefixes-of p w) × (looks-of p v ≡ looks-of p w)
   answers = same-answer p v w (admitted p v order₁ table₁ first) (admitted p w order₂ table₂ second) same
 
-  counted-same : {P Q n m : ℕ} → Counted p v table₁ table₁′ P n → Counted p w table₂ table₂′ Q m → (P ≡ Q) × (n ≡ m)
+  counted-same : {P Q n m : ℕ} → Counted (plain p) v table₁ table₁′ P n → Counted (plain p) w table₂ table₂′ Q m → (P ≡ Q) × (n ≡ m)
   counted-same g h = (g .prefixes ∙ answers .1 ∙ sym (h .prefixes), g .looks ∙ answers .2 ∙ sym (h .looks))
 
   pub judged-same : (i j : Judged) → Promise p v order₁ order₁′ table₁ table₁′ i → Promise p w order₂ order₂′ table₂ table₂′ j

@@ -9,19 +9,19 @@ use borrow.Author.Tests.{lt-ltb, le-ltb, ltb-false}
 use lib.ListN.{length, drop}
 use Rattle.profile.specs.Traces.{independent}
 use Rattle.profile.specs.Automata.{Profile}
-use Rattle.profile.specs.Prefixes.{prefix-count}
+use Rattle.profile.specs.Rules.{order-by, plain, prefixes-by}
 use Rattle.profile.specs.Refusals.{admission-refusals, full-table, judge-refusal, judge-refusals, log-refusals, lowest, profile-refusals}
 use Rattle.profile.specs.declared.Refusal.{Refusal}
 use Rattle.profile.specs.declared.Refusal.the-variants.{FullTable, ShortBuffer}
 use Rattle.profile.specs.Tables.{capacity, layout}
 use Rattle.theory.proofs.Refusals.{lowest-append, lowest-first, lowest-none}
-use Rattle.theory.proofs.Refusals.{Admitted, admitted-at, log-at, profile-at}
+use Rattle.theory.proofs.Refusals.{Admitted, admitted-at, log-at, plain-events, profile-at}
 use Rattle.profile.proofs.Traces.{order-of-reach, takes-length}
 use Rattle.theory.proofs.Demands.{order-earliest}
 use Rattle.table.specs.Table.{build-refusals}
 use Rattle.table.specs.Table as Built
 use Rattle.table.specs.declared.Built.the-variants as built
-use Rattle.earliest.specs.Earliest.{Table, found?, order-of, with-order}
+use Rattle.earliest.specs.Earliest.{Table, found?, with-order}
 use Rattle.verdict.specs.Verdict.{Counted, Promise}
 use Rattle.verdict.specs.declared.Judged.the-variants.{NoOrder, Order, Refused}
 
@@ -40,7 +40,7 @@ module _ (p : Profile) (w : List ℕ) (n m : ℕ) where
   early = profile-refusals p ++ log-refusals (p .k) w
 
   abbrev tenth : List (Bool × Refusal)
-  tenth = (full-table (prefix-count (independent (p .masks)) (λ a. a) (p .k) w) m, FullTable) ∷ []
+  tenth = (full-table (prefixes-by (plain p) w) m, FullTable) ∷ []
 
   regroup : (b : Bool) → (profile-refusals p ++ (log-refusals (p .k) w ++ ((b, ShortBuffer) ∷ []))) ++ tenth ≡ early ++ ((b, ShortBuffer) ∷ tenth)
   regroup b = simp append-assoc
@@ -67,7 +67,7 @@ admitted p w order table e =
 -- ---- what is told
 
 -- the order has as many letters as the log
-pub order-length : (p : Profile) (w : List ℕ) {v : List ℕ} → order-of p w ≡ some v → length v ≡ length w
+pub order-length : (p : Profile) (w : List ℕ) {v : List ℕ} → order-by (plain p) w ≡ some v → length v ≡ length w
 order-length p w e = omega (arith, takes-length (independent (p .masks)) (order-of-reach (independent (p .masks)) (order-earliest p w e .0 .reached)))
 
 module _ (p : Profile) (w order table : List ℕ) where
@@ -82,37 +82,38 @@ module _ (p : Profile) (w order table : List ℕ) where
     told-refused r h = record { refused = h .refused ∙ sym (order-fits p w (length order) (length table) fits); told = (refl, h .table) }
 
     module _ (P n : ℕ) (h : Built.Promise p w table table′ (built.Filled P n)) where
-      counted : Counted p w table table′ P n
+      counted : Counted (plain p) w table table′ P n
       counted = record { prefixes = h .table .0; looks = h .table .1; table = h .table .2 }
 
       unrefused : none ≡ judge-refusal p w (length order) (length table)
       unrefused = h .refused ∙ sym (order-fits p w (length order) (length table) fits)
 
       -- the table is filled, and there is no order
-      pub told-none : (order′ : List ℕ) → found? (order-of p w) ≡ false → order′ ≡ with-order (order-of p w) order → Promise p w order order′ table table′ (NoOrder P n)
-      told-none order′ f e = go (order-of p w) refl f e
+      pub told-none : (order′ : List ℕ) → found? (order-by (plain p) w) ≡ false → order′ ≡ with-order (order-by (plain p) w) order → Promise p w order order′ table table′ (NoOrder P n)
+      told-none order′ f e = go (order-by (plain p) w) refl f e
         where
-          go : (o : Option (List ℕ)) → order-of p w ≡ o → found? o ≡ false → order′ ≡ with-order o order → Promise p w order order′ table table′ (NoOrder P n)
+          go : (o : Option (List ℕ)) → order-by (plain p) w ≡ o → found? o ≡ false → order′ ≡ with-order o order → Promise p w order order′ table table′ (NoOrder P n)
           go none q f e = record { refused = unrefused; told = (q, e, counted) }
           go (some v) q f e = absurd (true≢false f)
 
       -- the table is filled, and there is one
-      pub told-some : (order′ : List ℕ) → found? (order-of p w) ≡ true → order′ ≡ with-order (order-of p w) order → Promise p w order order′ table table′ (Order P n)
-      told-some order′ f e = go (order-of p w) refl f e
+      pub told-some : (order′ : List ℕ) → found? (order-by (plain p) w) ≡ true → order′ ≡ with-order (order-by (plain p) w) order → Promise p w order order′ table table′ (Order P n)
+      told-some order′ f e = go (order-by (plain p) w) refl f e
         where
-          go : (o : Option (List ℕ)) → order-of p w ≡ o → found? o ≡ true → order′ ≡ with-order o order → Promise p w order order′ table table′ (Order P n)
+          go : (o : Option (List ℕ)) → order-by (plain p) w ≡ o → found? o ≡ true → order′ ≡ with-order o order → Promise p w order order′ table table′ (Order P n)
           go none q f e = absurd (true≢false (sym f))
           go (some v) q f e = record { refused = unrefused; told = (v, q, e ∙ ap (λ k. v ++ drop k order) (order-length p w q), counted) }
 
       -- what the extraction asks of the table
-      pub ready : length table′ ≡ length table → Table p w table′
+      pub ready : length table′ ≡ length table → Table (plain p) w table′
       ready l =
           let f = lowest-none (build-refusals p w (length table)) .0 (sym (h .refused)) in
           let t = tenth p w (length order) (length table) in
-          let k = prefix-count (independent (p .masks)) (λ a. a) (p .k) w in
+          let k = prefixes-by (plain p) w in
+          let good = profile-at p (lowest-none (profile-refusals p) .1 (λ c m. f c (Memᴰ·append-left (log-refusals (p .k) w ++ t) m))) in
           record {
-            profile = profile-at p (lowest-none (profile-refusals p) .1 (λ c m. f c (Memᴰ·append-left (log-refusals (p .k) w ++ t) m)));
-            log = log-at (p .k) w (lowest-none (log-refusals (p .k) w) .1 (λ c m. f c (Memᴰ·append-right (profile-refusals p) (Memᴰ·append-left t m))));
+            profile = good;
+            log = plain-events p w good (log-at (p .k) w (lowest-none (log-refusals (p .k) w) .1 (λ c m. f c (Memᴰ·append-right (profile-refusals p) (Memᴰ·append-left t m)))));
             before = table;
             holds = h .table .2;
             room = omega (

@@ -6,9 +6,10 @@ ghost use mathlib.Core.Option.{some};
 ghost use Prim.Native.Nat.{_≤_};
 ghost use lib.ListN.{length};
 ghost use Rattle.profile.specs.Automata.{profile-of};
+ghost use Rattle.profile.specs.Rules.{order-by, plain};
 ghost use Rattle.profile.specs.Refusals.{log-refusals, lowest, profile-refusals};
 ghost use Rattle.profile.specs.declared.Refusal.the-variants.{ShortBuffer};
-ghost use Rattle.earliest.specs.Earliest.{Table, found?, order-of, record-count, with-order};
+ghost use Rattle.earliest.specs.Earliest.{Table, found?, record-count, with-order};
 ghost use Rattle.verdict.specs.Verdict.{Promise};
 use profile::Check;
 use profile::Refusal;
@@ -49,11 +50,11 @@ fn put_verdict(
     log: &[u8],
     order: &mut [u8],
 ) -> bool
-    requires { ⌜ Table (profile-of shape (now masks) (now moves)) (now log) (now table) ⌝ }
-    requires { ⌜ records ≡ record-count (profile-of shape (now masks) (now moves)) (now log) ⌝ }
+    requires { ⌜ Table (plain (profile-of shape (now masks) (now moves))) (now log) (now table) ⌝ }
+    requires { ⌜ records ≡ record-count (plain (profile-of shape (now masks) (now moves))) (now log) ⌝ }
     requires { ⌜ length (now log) ≤ length (now order) ⌝ }
-    ensures { λ r. ⌜ r ≡ found? (order-of (profile-of shape (now (masks .entry)) (now (moves .entry))) (now (log .entry))) ⌝ }
-    ensures { λ _. ⌜ now (order .exit) ≡ with-order (order-of (profile-of shape (now (masks .entry)) (now (moves .entry))) (now (log .entry))) (now (order .entry)) ⌝ }
+    ensures { λ r. ⌜ r ≡ found? (order-by (plain (profile-of shape (now (masks .entry)) (now (moves .entry)))) (now (log .entry))) ⌝ }
+    ensures { λ _. ⌜ now (order .exit) ≡ with-order (order-by (plain (profile-of shape (now (masks .entry)) (now (moves .entry)))) (now (log .entry))) (now (order .entry)) ⌝ }
 {
     if !earliest::has_order(table, shape, masks, moves, log) {
         return false;

@@ -2,6 +2,7 @@
 use mathlib.Core.Path.{sym, subst}
 use native.Mathlib.Omega.{arith}
 use borrow.Author.Needs.{needs}
+use Rattle.profile.specs.Rules.{plain}
 use Rattle.profile.specs.Automata.{profile-of}
 use Rattle.forward.specs.Forward.{Ready}
 use Rattle.forward.proofs.Fills.{first-begun, from-first, some-prefix}
@@ -17,7 +18,7 @@ all-keepers-requires c κs = search needs
 put-first-requires : tie.Need-put-first-requires
 put-first-requires c κs =
     let h = c .before .before .before .before .before .before .before .before .before .before .pre in
-    (c .before .before .all-keepers .ensures, record { profile = h .profile; log = h .log; fits = omega (arith, h .fits); few = omega (arith, h .few); starts-placed = h .starts-placed; places-placed = h .places-placed })
+    (c .before .before .all-keepers .ensures, record { profile = h .profile; log = h .log; fits = omega (arith, h .fits); few = omega (arith, h .few); finds = h .finds })
 
 by-letter-requires : tie.Need-by-letter-requires
 by-letter-requires c κs = search needs
@@ -28,7 +29,7 @@ fill-totals-requires c κs =
     let h = c .before .before .before .before .before .before .before .before .before .before .before .before .before .before .before .before .before .before .pre in
     let x = c .before .before .before .before .before .before .before .put-first in (
       (
-        subst (λ m. Ready (profile-of (a .shape) (a .masks .now) (a .moves .now)) (a .log .now) m (a .room) (a .starts .now) (a .places .now)) (sym (x .kept .0)) h,
+        subst (λ m. Ready (plain (profile-of (a .shape) (a .masks .now) (a .moves .now))) (a .log .now) m (a .room) (a .starts .now) (a .places .now)) (sym (x .kept .0)) h,
         first-begun h (omega arith) (a .table .now) (x .last .0) (x .ensures .1),
       ),
       ((omega arith, x .ensures .0), (c .before .before .before .by-letter .ensures, c .before .before .before .before .before .before .before .before .before .before .all-keepers .ensures)),

@@ -4,6 +4,7 @@ use Prim.Native.Nat.{_+_, _-_}
 use native.Mathlib.Omega.{arith}
 use borrow.Author.Needs.{needs}
 use lib.ListN.{length}
+use Rattle.profile.specs.Rules.{plain}
 use Rattle.profile.specs.Automata.{profile-of}
 use Rattle.forward.specs.declared.Total.{Total}
 use Rattle.forward.specs.Forward.{Ready}
@@ -15,7 +16,7 @@ use Rattle.forward.proofs.fill_totals.Tie as tie
 abbrev Inv-loop : tie.InvT-loop
 Inv-loop table₀ number masks moves rows keepers log starts places at₀ looks₀ table at looks =
     (at .room ≡ at₀ .room) × (at .shape ≡ at₀ .shape)
-    × Reaching (profile-of (at₀ .shape) masks moves) log table₀ table (at₀ .room) (at .t) (at .from) (at .first) looks
+    × Reaching (plain (profile-of (at₀ .shape) masks moves)) log table₀ table (at₀ .room) (at .t) (at .from) (at .first) looks
 
 abbrev μ-loop : tie.MeasureT-loop
 μ-loop table₀ number masks moves rows keepers log starts places at₀ looks₀ table at looks =
@@ -35,26 +36,26 @@ fill-total-requires c κs =
     let f = l .inv .2 in
     let e = sym (l .inv .0) in
     subst
-    (λ z. Standing (profile-of z (a .masks .now) (a .moves .now)) (a .log .now) (l .table) (l .at) (a .starts .now) (a .places .now)
-    × Prepared (profile-of z (a .masks .now) (a .moves .now)) (a .rows .now) (a .keepers .now))
+    (λ z. Standing (plain (profile-of z (a .masks .now) (a .moves .now))) (a .log .now) (l .table) (l .at) (a .starts .now) (a .places .now)
+    × Prepared (plain (profile-of z (a .masks .now) (a .moves .now))) (a .rows .now) (a .keepers .now))
     (sym (l .inv .1)) (
       (
-        subst₂ (λ m z. Ready (profile-of (a .part .shape) (a .masks .now) (a .moves .now)) (a .log .now) m z (a .starts .now) (a .places .now)) (sym (f .kept)) e (h .0 .0),
-        subst (λ z. Begun (profile-of (a .part .shape) (a .masks .now) (a .moves .now)) (a .log .now) (l .table) z (l .at .t) (l .at .from) (l .at .first)) e (f .begins),
+        subst₂ (λ m z. Ready (plain (profile-of (a .part .shape) (a .masks .now) (a .moves .now))) (a .log .now) m z (a .starts .now) (a .places .now)) (sym (f .kept)) e (h .0 .0),
+        subst (λ z. Begun (plain (profile-of (a .part .shape) (a .masks .now) (a .moves .now))) (a .log .now) (l .table) z (l .at .t) (l .at .from) (l .at .first)) e (f .begins),
       ),
       h .1 .1,
     )
 
 -- what the callee tells of the total behind the part, in the terms of the first part
 grows : (c : tie.After-fill-total Inv-loop μ-loop) (r : Total) → c .fill-total .result ≡ r
-    → Grows (profile-of (c .before .before .before .before .before .before .before .before .before .before .before .args .part .shape) (c .before .before .before .before .before .before .before .before .before .before .before .args .masks .now) (c .before .before .before .before .before .before .before .before .before .before .before .args .moves .now)) (c .before .before .before .before .before .before .before .before .before .before .before .args .log .now) (c .before .before .before .before .before .before .before .before .before .before .before .args .part .room)
+    → Grows (plain (profile-of (c .before .before .before .before .before .before .before .before .before .before .before .args .part .shape) (c .before .before .before .before .before .before .before .before .before .before .before .args .masks .now) (c .before .before .before .before .before .before .before .before .before .before .before .args .moves .now))) (c .before .before .before .before .before .before .before .before .before .before .before .args .log .now) (c .before .before .before .before .before .before .before .before .before .before .before .args .part .room)
     (c .before .before .before .before .loop .at .t) (c .before .before .before .before .loop .at .first) (c .before .before .before .before .loop .table) (c .fill-total .last .0) r
 grows c r e =
     let a = c .before .before .before .before .before .before .before .before .before .before .before .args in
     let l = c .before .before .before .before .loop in
     let x = c .fill-total in
-    subst₂ (λ z r. Grows (profile-of (a .part .shape) (a .masks .now) (a .moves .now)) (a .log .now) z (l .at .t) (l .at .first) (l .table) (x .last .0) r) (l .inv .0) e
-    (subst (λ z. Grows (profile-of z (a .masks .now) (a .moves .now)) (a .log .now) (l .at .room) (l .at .t) (l .at .first) (l .table) (x .last .0) (x .result)) (l .inv .1) (x .ensures))
+    subst₂ (λ z r. Grows (plain (profile-of (a .part .shape) (a .masks .now) (a .moves .now))) (a .log .now) z (l .at .t) (l .at .first) (l .table) (x .last .0) r) (l .inv .0) e
+    (subst (λ z. Grows (plain (profile-of z (a .masks .now) (a .moves .now))) (a .log .now) (l .at .room) (l .at .t) (l .at .first) (l .table) (x .last .0) (x .result)) (l .inv .1) (x .ensures))
 
 enum-told : tie.Need-enum-told Inv-loop μ-loop
 enum-told c = search needs
@@ -77,7 +78,7 @@ next-part-requires c κs =
 
 -- the totals up to the one behind the part are put
 reaching : (c : tie.After-next-part Inv-loop μ-loop)
-    → Reaching (profile-of (c .before .before .before .before .before .before .before .before .before .before .before .before .before .before .before .before .before .args .part .shape) (c .before .before .before .before .before .before .before .before .before .before .before .before .before .before .before .before .before .args .masks .now) (c .before .before .before .before .before .before .before .before .before .before .before .before .before .before .before .before .before .args .moves .now)) (c .before .before .before .before .before .before .before .before .before .before .before .before .before .before .before .before .before .args .log .now) (c .before .before .before .before .before .before .before .before .before .before .before .before .before .before .before .before .before .args .table .now) (c .before .before .before .before .before .before .fill-total .last .0)
+    → Reaching (plain (profile-of (c .before .before .before .before .before .before .before .before .before .before .before .before .before .before .before .before .before .args .part .shape) (c .before .before .before .before .before .before .before .before .before .before .before .before .before .before .before .before .before .args .masks .now) (c .before .before .before .before .before .before .before .before .before .before .before .before .before .before .before .before .before .args .moves .now))) (c .before .before .before .before .before .before .before .before .before .before .before .before .before .before .before .before .before .args .log .now) (c .before .before .before .before .before .before .before .before .before .before .before .before .before .before .before .before .before .args .table .now) (c .before .before .before .before .before .before .fill-total .last .0)
     (c .before .before .before .before .before .before .before .before .before .before .before .before .before .before .before .before .before .args .part .room) (c .before .before .before .before .before .before .before .before .before .before .loop .at .t + 1) (c .before .before .before .before .before .before .before .before .before .before .loop .at .first) (c .before .before .before .before .before .before .before .before .before .before .loop .at .first + c .before .before .total .given .0 .0) (c .before .before .before .before .before .before .before .before .before .before .loop .looks + c .before .before .total .given .0 .1 .0)
 reaching c =
     let q = c .before .before .total .given in
@@ -94,7 +95,7 @@ loop-again : tie.Need-loop-again Inv-loop μ-loop
 loop-again c =
     let a = c .before .before .before .before .before .before .before .before .before .before .before .before .before .before .before .before .before .args in
     let l = c .before .before .before .before .before .before .before .before .before .before .loop in
-    let p = profile-of (a .part .shape) (a .masks .now) (a .moves .now) in
+    let p = plain (profile-of (a .part .shape) (a .masks .now) (a .moves .now)) in
     subst
     (λ b. (b .room ≡ a .part .room) × (b .shape ≡ a .part .shape)
     × Reaching p (a .log .now) (a .table .now) (c .before .before .before .before .before .before .fill-total .last .0) (a .part .room) (b .t) (b .from) (b .first) (l .looks + c .before .before .total .given .0 .1 .0))

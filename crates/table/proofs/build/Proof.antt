@@ -4,7 +4,7 @@ use mathlib.Core.Path.{sym, _∙_, ap}
 use lib.ListN.{length}
 use Rattle.profile.specs.Automata.{profile-of}
 use Rattle.profile.specs.Refusals.{checked}
-use Rattle.table.proofs.Filling.{log-refused, profile-refused, sound}
+use Rattle.table.proofs.Filling.{answered, log-refused, profile-refused, sound}
 use Rattle.table.proofs.build.Statement.{statement}
 use Rattle.table.proofs.build.Tie as tie
 
@@ -53,7 +53,11 @@ same-length : tie.Need-same-length
 same-length c = search needs
 
 returns-3 : tie.Need-returns-3
-returns-3 c = search needs
+returns-3 c =
+    let a = c .before .before .before .before .before .before .before .before .before .before .before .before .before .before .before .before .args in
+    answered (profile-of (a .shape) (a .masks .now) (a .moves .now)) (a .log .now) (a .table .now) (c .before .before .fill .last .0)
+    (sym (c .before .before .before .before .before .before .before .before .before .before .before .check-profile .ensures) ∙ ap checked (c .before .before .before .before .before .before .before .before .before .enum-told .given .1))
+    (sym (c .before .before .before .before .before .before .before .before .check-log .ensures) ∙ ap checked (c .before .before .before .before .before .before .enum-told2 .given .1)) (c .before .before .fill .result) (c .before .before .fill .ensures)
 
 pub build-spec : {M : Type 1} → statement M
 build-spec =

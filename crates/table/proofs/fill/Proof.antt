@@ -2,6 +2,7 @@
 use borrow.Author.Needs.{needs}
 use mathlib.Core.Path.{subst}
 use Rattle.profile.specs.Automata.{profile-of}
+use Rattle.profile.specs.Rules.{plain}
 use Rattle.forward.specs.Forward.{Forward}
 use Rattle.table.proofs.Filling.{done, full, ready}
 use Rattle.table.proofs.fill.Statement.{statement}
@@ -21,7 +22,7 @@ fill-backward-requires c κs =
     let s = c .before .before .before .before .before .before .before .before .before .before .before .before in
     let x = c .before .before .before .before .before .before .put-records in
     let a = s .args in
-    let p = profile-of (a .shape) (a .masks .now) (a .moves .now) in
+    let p = plain (profile-of (a .shape) (a .masks .now) (a .moves .now)) in
     ready p (a .log .now) (a .table .now) (s .pre) (c .before .before .pass .given .0 .0) (c .before .before .pass .given .0 .1 .0) (x .last .0)
     (subst (Forward p (a .log .now) (a .room) (a .table .now) (x .last .0)) (c .before .before .pass .given .1) (x .ensures)) (x .kept .0)
 
@@ -33,7 +34,7 @@ returns c =
     let s = c .before .before .before .before .before .before .before .before .before .before in
     let x = c .before .before .before .before .put-records in
     let a = s .args in
-    let p = profile-of (a .shape) (a .masks .now) (a .moves .now) in
+    let p = plain (profile-of (a .shape) (a .masks .now) (a .moves .now)) in
     full p (a .log .now) (a .table .now) (s .pre) (x .last .0) (x .last .0)
     (subst (Forward p (a .log .now) (a .room) (a .table .now) (x .last .0)) (c .enum-told .given .1) (x .ensures))
 
@@ -46,7 +47,7 @@ returns-2 c =
     let x = c .before .before .before .before .before .before .before .before .before .put-records in
     let g = c .before .before .before .before .before .pass .given in
     let a = s .args in
-    let p = profile-of (a .shape) (a .masks .now) (a .moves .now) in
+    let p = plain (profile-of (a .shape) (a .masks .now) (a .moves .now)) in
     done p (a .log .now) (a .table .now) (s .pre) (g .0 .0) (g .0 .1 .0) (x .last .0)
     (subst (Forward p (a .log .now) (a .room) (a .table .now) (x .last .0)) (g .1) (x .ensures)) (x .kept .0)
     (c .before .before .fill-backward .last .0) (c .before .before .fill-backward .ensures)

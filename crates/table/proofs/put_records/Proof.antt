@@ -1,15 +1,14 @@
 -- `table::put_records` meets its contract: the places of the events are those of the log, as the forward pass asks.
 use borrow.Author.Needs.{needs}
-use mathlib.Core.List.{map}
+use mathlib.Core.Path.{_∙_, ap₂}
 use native.Mathlib.Omega.{arith}
 use lib.ListN.{length}
-use Rattle.profile.specs.Lists.{below}
-use Rattle.theory.proofs.Counting.{length-range}
-use Rattle.places.specs.Places.{place-start, place-table}
-use Rattle.table.proofs.Filling.{behind-own}
+use Rattle.profile.specs.Tables.{layout, packed}
+use Rattle.profile.specs.Traces.{independent}
+use Rattle.letters.specs.Letters.{letters-by}
+use Rattle.letters.proofs.Additions.{letters-placed}
 use Rattle.table.proofs.put_records.Statement.{statement}
 use Rattle.table.proofs.put_records.Tie as tie
-use mathlib.Core.Path.{refl}
 
 slice-aggregate-place-events : tie.Need-slice-aggregate-place-events
 slice-aggregate-place-events c = search needs
@@ -37,8 +36,8 @@ fill-forward-requires c κs =
       log = s .pre .log;
       fits = omega (arith, s .pre .place);
       few = omega (arith, s .pre .place);
-      starts-placed = behind-own (map (place-start w) (below k)) _ _ k (length-range (place-start w) k 0) (e .ensures .0);
-      places-placed = behind-own (place-table k w) _ _ (length (place-table k w)) refl (e .ensures .1);
+      finds = λ v h. ap₂ (λ i q. letters-by (independent (s .args .masks .now)) k (length w) i q (packed layout v)) (e .ensures .0) (e .ensures .1)
+          ∙ letters-placed (independent (s .args .masks .now)) k w v _ _ (s .pre .log .short) (s .pre .profile .relation .most) h (s .pre .log .apart) (s .pre .log .letters);
     }
 
 same-length : tie.Need-same-length
