@@ -4,9 +4,9 @@ ghost use mathlib.Core.List.{_++_};
 ghost use Prim.Native.Nat.{ℕ, _*_, _≤_, _<_};
 ghost use lib.ListN.{length, getD, drop};
 ghost use Rattle.profile.specs.Limits.{most-letters, most-states};
-ghost use Rattle.profile.specs.Rules.{plain};
 ghost use Rattle.profile.specs.Automata.{profile-of};
 ghost use Rattle.profile.specs.Lists.{below, equal?};
+ghost use Rattle.terms.specs.Coded.{rules-of};
 ghost use Rattle.profile.specs.Tables.{layout, record-length};
 ghost use Rattle.theory.proofs.Merge.{seek};
 ghost use Rattle.counts.specs.Counts.{words};
@@ -87,11 +87,12 @@ fn fill_total(
     moves: &[u32],
     rows: &[u32; MOST_MOVES],
     log: &[u8],
+    termed: bool,
 )
-    requires { ⌜ FromTotal (plain (profile-of shape (now masks) (now moves))) (now log) (now part) t len ⌝ }
+    requires { ⌜ FromTotal (rules-of (profile-of shape (now masks) (now moves)) termed) (now log) (now part) t len ⌝ }
     requires { ⌜ now rows ≡ by-letter (shape .k) (shape .s) (now moves) ⌝ }
     ensures { λ _. ⌜ now (part .exit)
-        ≡ filled-total (plain (profile-of shape (now (masks .entry)) (now (moves .entry)))) (now (log .entry)) t
+        ≡ filled-total (rules-of (profile-of shape (now (masks .entry)) (now (moves .entry))) termed) (now (log .entry)) t
         ++ drop (record-length layout * len) (now (part .entry)) ⌝ }
 {
     let mut cursors = [len; MOST_LETTERS];
@@ -126,10 +127,11 @@ pub fn fill_backward(
     masks: &[u16],
     moves: &[u32],
     log: &[u8],
+    termed: bool,
 )
-    requires { ⌜ Drafted (plain (profile-of shape (now masks) (now moves))) (now log) (now table) records ⌝ }
+    requires { ⌜ Drafted (rules-of (profile-of shape (now masks) (now moves)) termed) (now log) (now table) records ⌝ }
     ensures { λ _. ⌜ now (table .exit)
-        ≡ filled-all (plain (profile-of shape (now (masks .entry)) (now (moves .entry)))) (now (log .entry))
+        ≡ filled-all (rules-of (profile-of shape (now (masks .entry)) (now (moves .entry))) termed) (now (log .entry))
         ++ drop (record-length layout * records) (now (table .entry)) ⌝ }
 {
     let finals = shape.finals;
@@ -151,6 +153,7 @@ pub fn fill_backward(
             moves,
             &rows,
             log,
+            termed,
         );
         end = begin;
     }

@@ -18,7 +18,7 @@ use Rattle.search.specs.declared.Found.{Found}
 use Rattle.search.specs.declared.Found.the-variants.{Absent}
 use Rattle.verdict.specs.Verdict as verdict
 use Rattle.verdict.specs.declared.Judged.{Judged}
-use Rattle.verdict.specs.declared.Judged.the-variants.{NoOrder, Order}
+use Rattle.answers.specs.Answers.{judged-code, judged-told}
 use Rattle.comparison.specs.declared.Compared.{Compared}
 use Rattle.comparison.specs.declared.Compared.the-variants.{Different, Equal}
 use Rattle.order.specs.declared.Ordered.{Ordered}
@@ -32,17 +32,6 @@ use Rattle.filewriter.specs.declared.Writing.the-variants.{Length}
 use Rattle.expression.specs.declared.Made.{Made}
 use Rattle.logreader.specs.declared.Event.{Event}
 use Rattle.logreader.specs.declared.Event.the-variants.{Letter, End}
-
--- the judge: the refusal's number; place, verdict, P, looks
-abbrev pub judged-code : Judged → ℕ
-judged-code (Judged.Refused r) = refusal-number r
-judged-code (NoOrder P n) = 0
-judged-code (Order P n) = 0
-
-abbrev pub judged-told : Judged → List ℕ
-judged-told (Judged.Refused r) = refusal-place r ∷ 0 ∷ 0 ∷ 0 ∷ []
-judged-told (NoOrder P n) = 0 ∷ 0 ∷ P ∷ n ∷ []
-judged-told (Order P n) = 0 ∷ 1 ∷ P ∷ n ∷ []
 
 -- the judge's promise, of an answer given as numbers
 pub record Judging (p : Profile) (w order order′ table table′ : List ℕ) (code : ℕ) (told : List ℕ) : Type 0 where

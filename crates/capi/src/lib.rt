@@ -11,6 +11,7 @@ ghost use Rattle.logreader.specs.Events.{event-of, place-behind};
 ghost use Rattle.expression.specs.Making.{made-buffer, making};
 ghost use Rattle.capi.specs.Numbers.{Building, Finding, Judging, compared-code, compared-told, event-number, located-code, located-told, made-code, made-told, ordered-code, ordered-told, reading-code, reading-told, writing-code, writing-told};
 ghost use Rattle.calls.specs.Calls.{Asking, Starting, Stepping};
+ghost use Rattle.term_calls.specs.TermCalls.{TermJudging};
 use comparison::Compared;
 use expression::Made;
 use filewriter::Writing;
@@ -22,7 +23,6 @@ use profile::Refusal;
 use profile::Shape;
 use search::Found;
 use table::Built;
-use verdict::Judged;
 
 // The place of a refusal, in 64 bits.
 fn place_of(r: Refusal) -> u64
@@ -54,20 +54,7 @@ pub extern "C" fn fumarehi_judge(
         finals: finals,
     };
     let judged = verdict::judge(shape, masks, moves, log, order, work);
-    match judged {
-        Judged::Refused(r) => {
-            *told = [place_of(r), 0, 0, 0];
-            refusals::number(r)
-        }
-        Judged::NoOrder { prefixes, looks } => {
-            *told = [0, 0, prefixes as u64, looks];
-            0
-        }
-        Judged::Order { prefixes, looks } => {
-            *told = [0, 1, prefixes as u64, looks];
-            0
-        }
-    }
+    answers::tell_judged(judged, told)
 }
 
 // The prefix table.
@@ -376,4 +363,31 @@ pub extern "C" fn fumarehi_run_question(
         finals: finals,
     };
     calls::question(shape, masks, moves, held, table, told)
+}
+
+// The judge with terms: days and terms are numbers year × 10,000 + month × 100 + day, terms the first and the last day of each in turn.
+#[no_mangle]
+pub extern "C" fn fumarehi_judge_terms(
+    k: usize,
+    s: usize,
+    start: usize,
+    finals: u32,
+    masks: &[u16],
+    moves: &[u32],
+    log: &[u8],
+    days: &[u32],
+    terms: &[u32],
+    order: &mut [u8],
+    work: &mut [u32],
+    told: &mut [u64; 4],
+) -> u32
+    ensures { λ r. ⌜ TermJudging (profile-of (record { k = k; s = s; start = start; finals = finals }) (now (masks .entry)) (now (moves .entry))) (now (log .entry)) (now (days .entry)) (now (terms .entry)) (now (order .entry)) (now (order .exit)) (now (work .entry)) (now (work .exit)) r (now (told .exit)) ⌝ }
+{
+    let shape = Shape {
+        k: k,
+        s: s,
+        start: start,
+        finals: finals,
+    };
+    term_calls::judge(shape, masks, moves, log, days, terms, order, work, told)
 }

@@ -4,9 +4,10 @@ ghost use mathlib.Core.Bool.{true};
 ghost use Prim.Native.Nat.{_+_, _*_, _-_, _≤_, _<_, min};
 ghost use lib.ListN.{length};
 ghost use Rattle.profile.specs.Limits.{most-letters, most-states};
-ghost use Rattle.profile.specs.Rules.{order-by, plain};
+ghost use Rattle.profile.specs.Rules.{order-by};
 ghost use Rattle.profile.specs.Lists.{equal?};
 ghost use Rattle.profile.specs.Automata.{forward-step, meets, profile-of};
+ghost use Rattle.terms.specs.Coded.{rules-of};
 ghost use Rattle.profile.specs.Tables.{layout, record-length};
 ghost use Rattle.counts.specs.Counts.{words};
 ghost use Rattle.records.specs.Records.{last-at};
@@ -23,9 +24,16 @@ const PER: usize = COUNTS_PER_NUMBER;
 const LETTERS: usize = MOST_LETTERS;
 
 // Some order of the log is accepted: the backward set of the empty prefix, the first record, has the start state.
-pub fn has_order(table: &[u32], shape: Shape, masks: &[u16], moves: &[u32], log: &[u8]) -> bool
-    requires { ⌜ Table (plain (profile-of shape (now masks) (now moves))) (now log) (now table) ⌝ }
-    ensures { λ r. ⌜ r ≡ found? (order-by (plain (profile-of shape (now (masks .entry)) (now (moves .entry)))) (now (log .entry))) ⌝ }
+pub fn has_order(
+    table: &[u32],
+    shape: Shape,
+    masks: &[u16],
+    moves: &[u32],
+    log: &[u8],
+    termed: bool,
+) -> bool
+    requires { ⌜ Table (rules-of (profile-of shape (now masks) (now moves)) termed) (now log) (now table) ⌝ }
+    ensures { λ r. ⌜ r ≡ found? (order-by (rules-of (profile-of shape (now (masks .entry)) (now (moves .entry))) termed) (now (log .entry))) ⌝ }
 {
     let start = shape.start;
     let backward = records::last_at(table, 0);
@@ -183,12 +191,13 @@ pub fn put_order(
     moves: &[u32],
     log: &[u8],
     order: &mut [u8],
+    termed: bool,
 )
-    requires { ⌜ Table (plain (profile-of shape (now masks) (now moves))) (now log) (now table) ⌝ }
-    requires { ⌜ records ≡ record-count (plain (profile-of shape (now masks) (now moves))) (now log) ⌝ }
-    requires { ⌜ found? (order-by (plain (profile-of shape (now masks) (now moves))) (now log)) ≡ true ⌝ }
+    requires { ⌜ Table (rules-of (profile-of shape (now masks) (now moves)) termed) (now log) (now table) ⌝ }
+    requires { ⌜ records ≡ record-count (rules-of (profile-of shape (now masks) (now moves)) termed) (now log) ⌝ }
+    requires { ⌜ found? (order-by (rules-of (profile-of shape (now masks) (now moves)) termed) (now log)) ≡ true ⌝ }
     requires { ⌜ length (now log) ≤ length (now order) ⌝ }
-    ensures { λ _. ⌜ now (order .exit) ≡ with-order (order-by (plain (profile-of shape (now (masks .entry)) (now (moves .entry)))) (now (log .entry))) (now (order .entry)) ⌝ }
+    ensures { λ _. ⌜ now (order .exit) ≡ with-order (order-by (rules-of (profile-of shape (now (masks .entry)) (now (moves .entry))) termed) (now (log .entry))) (now (order .entry)) ⌝ }
 {
     let k = shape.k;
     let s = shape.s;

@@ -62,7 +62,7 @@ pub record Filling (p : Rules) (w before table : List ℕ) (room t first j n : �
   pub sixteen : length cursors ≡ most-letters
   pub placed : Placed p w t j cursors
 
-module _ {p : Rules} {w : List ℕ} {m room : ℕ} {starts places : List ℕ} (r : Ready p w m room starts places) {before : List ℕ}
+module _ {p : Rules} {w : List ℕ} {m room : ℕ} {starts places turns : List ℕ} {termed : Bool} (r : Ready p w m room starts places turns termed) {before : List ℕ}
     {t from first : ℕ} (b : Begun p w before room t from first) where
   pub filling-start : (cursors : List ℕ) → length cursors ≡ most-letters
       → Filling p w before before room t first 0 0 (started (p .profile .k) (records-between before from first) cursors)
@@ -155,7 +155,7 @@ pub reaching-start : {p : Rules} {w before : List ℕ} {room t from first : ℕ}
     → n ≡ pairs p w (totals p w (suc t)) → Reaching p w before before room t from first n
 reaching-start n b le e = record { kept = refl; up-to = le; begins = b; written = b .written; paired = e }
 
-module _ {p : Rules} {w : List ℕ} {m room : ℕ} {starts places : List ℕ} (r : Ready p w m room starts places) where
+module _ {p : Rules} {w : List ℕ} {m room : ℕ} {starts places turns : List ℕ} {termed : Bool} (r : Ready p w m room starts places turns termed) where
   -- records of all totals
   order-count : length (in-order p w) ≡ prefix-count (p .may) (p .letter) (p .profile .k) w
   order-count = by-total-length (p .may) (p .letter) (p .profile .k) w (r .log .letters)

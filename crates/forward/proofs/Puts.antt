@@ -1,5 +1,6 @@
 -- A step of the merge in the table: the next record of a total is put, or there is none, or it does not fit.
 use mathlib.Core.Path.{_≡_, sym, _∙_, ap, ap₂, subst}
+use mathlib.Core.Bool.{Bool}
 use mathlib.Core.List.{List, [], _∷_, _++_, append-assoc}
 use mathlib.Core.Option.{none, some}
 use Prim.Native.Nat.{ℕ, suc, _+_, _*_, _^_, _≤_, _<_}
@@ -11,7 +12,7 @@ use Rattle.profile.specs.Automata.{union}
 use Rattle.profile.specs.Tables.{layout, record-length}
 use Rattle.profile.specs.Traces.{independent}
 use Rattle.profile.proofs.Lists.{mem-getD}
-use Rattle.letters.specs.Letters.{letters-by}
+use Rattle.term_letters.specs.Letters.{letters-found}
 use Rattle.cursors.specs.Cursors.{advanced}
 use Rattle.merge.specs.Merge.{givers, least-of, united}
 use Rattle.records.specs.Records.{put-record}
@@ -32,7 +33,7 @@ level-part p w table t from first D b e h =
     begun-part p w (totals p w t) (of-total p w t) D table (record-length layout * from) (record-length layout * first)
     (h ∙ ap (λ C. begun p w (C ++ D) table) (totals-suc p w t)) (ap (λ n. record-length layout * n) b) (omega arith)
 
-module _ {p : Rules} {w : List ℕ} {room : ℕ} {starts places : List ℕ} {table : List ℕ} (r : Ready p w (length table) room starts places)
+module _ {p : Rules} {w : List ℕ} {room : ℕ} {starts places turns : List ℕ} {termed : Bool} {table : List ℕ} (r : Ready p w (length table) room starts places turns termed)
     {t from first j : ℕ} {cursors : List ℕ} (h : Merging p w table room t from first j cursors) where
   abbrev E : List (List ℕ)
   E = of-total p w (suc t)
@@ -67,8 +68,8 @@ module _ {p : Rules} {w : List ℕ} {room : ℕ} {starts places : List ℕ} {tab
 
     pub merge-put : (S L n : ℕ) (after next : List ℕ) → first + j < room
         → S ≡ united (p .profile .k) (p .profile .s) (p .profile .moves) part cursors (givers part (p .profile .k) cursors) → next ≡ advanced (p .profile .k) part cursors (givers part (p .profile .k) cursors)
-        → L ≡ union (λ x. 2 ^ x) (letters-by (independent (p .profile .masks)) (p .profile .k) (length w) starts places v)
-        → n ≡ length (letters-by (independent (p .profile .masks)) (p .profile .k) (length w) starts places v)
+        → L ≡ union (λ x. 2 ^ x) (letters-found termed (independent (p .profile .masks)) (p .profile .k) (length w) starts places turns v)
+        → n ≡ length (letters-found termed (independent (p .profile .masks)) (p .profile .k) (length w) starts places turns v)
         → after ≡ put-record table (first + j) (v ++ (S ∷ L ∷ []))
         → Steps p w room t first j table after next (Put n)
     merge-put S L n after next lt s a l m put =

@@ -29,7 +29,7 @@ use Rattle.forward.specs.Merging.{Placed}
 use Rattle.forward.proofs.Totals.{apart, counted}
 use Rattle.records.specs.Drafts.{drafted, forward-set, letters-set, of-total}
 
-module _ {p : Rules} {w : List ℕ} {m room : ℕ} {starts places : List ℕ} (r : Ready p w m room starts places) (n : ℕ) (t : List ℕ)
+module _ {p : Rules} {w : List ℕ} {m room : ℕ} {starts places turns : List ℕ} {termed : Bool} (r : Ready p w m room starts places turns termed) (n : ℕ) (t : List ℕ)
     (written : t ≡ drafted p w (of-total p w n)) (cursors : List ℕ) (long : p .profile .k ≤ length cursors) where
   abbrev C : List (List ℕ)
   C = of-total p w n

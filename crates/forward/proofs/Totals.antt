@@ -1,6 +1,7 @@
 -- The prefixes of a total, for a good profile and log: their counts, their records, and the first of them.
 use mathlib.Core.Path.{_≡_, refl, sym, _∙_, ap, ap₂, subst}
 use mathlib.Core.Logic.{_≢_}
+use mathlib.Core.Bool.{Bool}
 use mathlib.Core.List.{List, [], _∷_, _++_, map, append-nil, List·Memᴰ·head}
 use Prim.Native.Nat.{ℕ, _*_, _%_, _^_}
 use native.Mathlib.Nat.{one-mul}
@@ -20,7 +21,7 @@ use Rattle.theory.proofs.Merge.{forward-first, level-at, level-first, level-lef
 use Rattle.theory.proofs.Packing.{packed-zero}
 use Rattle.theory.proofs.Profiles.{lawful}
 use Rattle.counts.proofs.Packed.{Small}
-use Rattle.letters.specs.Letters.{letters-by}
+use Rattle.term_letters.specs.Letters.{letters-found}
 use Rattle.records.specs.Records.{put-record}
 use Rattle.forward.specs.Forward.{Ready}
 use Rattle.forward.specs.Merging.{begun, pairs, totals}
@@ -28,7 +29,7 @@ use Rattle.forward.proofs.Drafts.{begun-put}
 use Rattle.theory.proofs.Levels.{le-total}
 use Rattle.records.specs.Drafts.{draft, forward-set, letters-of, letters-set, of-total}
 
-module _ {p : Rules} {w : List ℕ} {m room : ℕ} {starts places : List ℕ} (r : Ready p w m room starts places) where
+module _ {p : Rules} {w : List ℕ} {m room : ℕ} {starts places turns : List ℕ} {termed : Bool} (r : Ready p w m room starts places turns termed) where
   pub apart : (a b : ℕ) → T (p .may a b) → p .letter a ≢ p .letter b
   apart = r .log .apart
 
@@ -41,12 +42,12 @@ module _ {p : Rules} {w : List ℕ} {m room : ℕ} {starts places : List ℕ} (r
 
   module _ (n : ℕ) (c : List ℕ) (i : Mem c (of-total p w n)) (v : List ℕ) (e : v ≡ packed layout c) where
     abbrev found : List ℕ
-    found = letters-by (independent (p .profile .masks)) (p .profile .k) (length w) starts places v
+    found = letters-found termed (independent (p .profile .masks)) (p .profile .k) (length w) starts places turns v
 
     -- the letters found by the places of the log's events
     pub found-letters : found ≡ letters-of p w c
     found-letters =
-        ap (letters-by (independent (p .profile .masks)) (p .profile .k) (length w) starts places) e
+        ap (letters-found termed (independent (p .profile .masks)) (p .profile .k) (length w) starts places turns) e
         ∙ r .finds c (counted n c i .2)
 
     -- the record of c
@@ -72,7 +73,7 @@ module _ {p : Rules} {w : List ℕ} {m room : ℕ} {starts places : List ℕ} (r
     empty-in : Mem empty (of-total p w 0)
     empty-in = subst (Mem empty) (sym (sym (append-nil (of-total p w 0)) ∙ first-total)) (List·Memᴰ·head refl)
 
-    pub first-record : (t : List ℕ) (S L : ℕ) → S ≡ 1 * 2 ^ p .profile .start % 2 ^ 32 → L ≡ union (λ x. 2 ^ x) (letters-by (independent (p .profile .masks)) (p .profile .k) (length w) starts places v)
+    pub first-record : (t : List ℕ) (S L : ℕ) → S ≡ 1 * 2 ^ p .profile .start % 2 ^ 32 → L ≡ union (λ x. 2 ^ x) (letters-found termed (independent (p .profile .masks)) (p .profile .k) (length w) starts places turns v)
         → put-record t 0 (v ++ (S ∷ L ∷ [])) ≡ begun p w (totals p w 1) t
     first-record t S L s l =
         let f : S ≡ forward-set p w empty = s ∙ (shl-exact {a = 1} 1 (p .profile .start) 32 (omega arith) (omega (arith, r .profile .starts, r .profile .states .1)) ∙ one-mul (2 ^ p .profile .start))
@@ -81,7 +82,7 @@ module _ {p : Rules} {w : List ℕ} {m room : ℕ} {starts places : List ℕ} (r
         ∙ begun-put p w [] empty t refl
         ∙ ap (λ C. begun p w C t) (sym first-total)
 
-    pub first-pairs : (n : ℕ) → n ≡ length (letters-by (independent (p .profile .masks)) (p .profile .k) (length w) starts places v) → n ≡ pairs p w (totals p w 1)
+    pub first-pairs : (n : ℕ) → n ≡ length (letters-found termed (independent (p .profile .masks)) (p .profile .k) (length w) starts places turns v) → n ≡ pairs p w (totals p w 1)
     first-pairs n h =
         h ∙ ap length (found-letters 0 empty empty-in v empty-packed)
         ∙ omega (arith, pairs-cons (p .may) (p .letter) (p .profile .k) w empty [], ap (pairs p w) first-total)

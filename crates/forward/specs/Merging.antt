@@ -1,5 +1,6 @@
 -- Between one total and the next, for the functions that the forward pass is made of: a total is put record by record, by a merge of the total before it.
 use mathlib.Core.Path.{_≡_}
+use mathlib.Core.Bool.{Bool}
 use mathlib.Core.List.{List, [], _++_}
 use mathlib.Core.Option.{none, some}
 use Prim.Native.Nat.{ℕ, suc, _+_, _-_, _*_, _≤_, _<_}
@@ -54,8 +55,8 @@ pub record Begun (p : Rules) (w table : List ℕ) (room t from first : ℕ) : Ty
   pub inside : first ≤ room
   pub written : table ≡ begun p w (totals p w (suc t)) table
 
-abbrev pub Standing : Rules → List ℕ → List ℕ → Part → List ℕ → List ℕ → Type 0
-Standing p w table a starts places = Ready p w (length table) (a .room) starts places × Begun p w table (a .room) (a .t) (a .from) (a .first)
+abbrev pub Standing : Rules → List ℕ → List ℕ → Part → List ℕ → List ℕ → List ℕ → Bool → Type 0
+Standing p w table a starts places turns termed = Ready p w (length table) (a .room) starts places turns termed × Begun p w table (a .room) (a .t) (a .from) (a .first)
 
 -- where total t + 1 stands, if it has n records
 abbrev pub part-behind : Part → ℕ → Part
@@ -85,9 +86,9 @@ pub record Merging (p : Rules) (w table : List ℕ) (room t from first j : ℕ) 
   pub long : most-letters ≤ length cursors
   pub placed : Placed p w t j cursors
 
-abbrev pub Halfway : Rules → List ℕ → List ℕ → Part → ℕ → List ℕ → List ℕ → List ℕ → Type 0
-Halfway p w table a j cursors starts places =
-    Ready p w (length table) (a .room) starts places × Merging p w table (a .room) (a .t) (a .from) (a .first) j cursors
+abbrev pub Halfway : Rules → List ℕ → List ℕ → Part → ℕ → List ℕ → List ℕ → List ℕ → List ℕ → Bool → Type 0
+Halfway p w table a j cursors starts places turns termed =
+    Ready p w (length table) (a .room) starts places turns termed × Merging p w table (a .room) (a .t) (a .from) (a .first) j cursors
 
 -- record j of total t + 1 is put, or there is none, or it does not fit
 abbrev pub Steps : Rules → List ℕ → ℕ → ℕ → ℕ → ℕ → List ℕ → List ℕ → List ℕ → Merged → Type 0

@@ -4,11 +4,11 @@ ghost use mathlib.Core.List.{[], _∷_, _++_};
 ghost use Prim.Native.Nat.{suc, _+_, _*_, _≤_, _<_};
 ghost use lib.ListN.{length, replicate};
 ghost use Rattle.profile.specs.Limits.{most-letters, most-states};
-ghost use Rattle.profile.specs.Rules.{plain};
 ghost use Rattle.profile.specs.Automata.{profile-of};
 ghost use Rattle.profile.specs.Refusals.{longest};
 ghost use Rattle.profile.specs.Tables.{layout, record-length};
 ghost use Rattle.profile.specs.Traces.{independent};
+ghost use Rattle.terms.specs.Coded.{rules-of};
 ghost use Rattle.counts.specs.Counts.{words};
 ghost use Rattle.events.specs.Events.{all-keepers};
 ghost use Rattle.cursors.specs.Cursors.{started};
@@ -69,16 +69,22 @@ fn put_first(
     log: &[u8],
     starts: &[Place],
     places: &[Place],
+    turns: &[Place],
+    termed: bool,
 ) -> u32
     requires { ⌜ now keepers ≡ all-keepers (independent (now masks)) (shape .k) ⌝ }
-    requires { ⌜ Ready (plain (profile-of shape (now masks) (now moves))) (now log) (length (now table)) 1 (now starts) (now places) ⌝ }
-    ensures { λ r. ⌜ (r ≡ pairs (plain (profile-of shape (now (masks .entry)) (now (moves .entry)))) (now (log .entry)) (totals (plain (profile-of shape (now (masks .entry)) (now (moves .entry)))) (now (log .entry)) 1))
-        × (now (table .exit) ≡ begun (plain (profile-of shape (now (masks .entry)) (now (moves .entry)))) (now (log .entry)) (totals (plain (profile-of shape (now (masks .entry)) (now (moves .entry)))) (now (log .entry)) 1) (now (table .entry))) ⌝ }
+    requires { ⌜ Ready (rules-of (profile-of shape (now masks) (now moves)) termed) (now log) (length (now table)) 1 (now starts) (now places) (now turns) termed ⌝ }
+    ensures { λ r. ⌜ (r ≡ pairs (rules-of (profile-of shape (now (masks .entry)) (now (moves .entry))) termed) (now (log .entry)) (totals (rules-of (profile-of shape (now (masks .entry)) (now (moves .entry))) termed) (now (log .entry)) 1))
+        × (now (table .exit) ≡ begun (rules-of (profile-of shape (now (masks .entry)) (now (moves .entry))) termed) (now (log .entry)) (totals (rules-of (profile-of shape (now (masks .entry)) (now (moves .entry))) termed) (now (log .entry)) 1) (now (table .entry))) ⌝ }
 {
     let k = shape.k;
     let start = shape.start;
     let c = counts::none_counted();
-    let letters = letters::addable(c, k, masks, keepers, log.len(), starts, places);
+    let letters = if termed {
+        term_letters::addable_in_terms(c, k, masks, keepers, log.len(), starts, places, turns)
+    } else {
+        letters::addable(c, k, masks, keepers, log.len(), starts, places)
+    };
     records::put(table, 0, c, 1u32 << start, letters.set);
     letters.number
 }
@@ -129,10 +135,12 @@ fn merge_next(
     starts: &[Place],
     places: &[Place],
     cursors: &mut [usize],
+    turns: &[Place],
+    termed: bool,
 ) -> Merged
-    requires { ⌜ Halfway (plain (profile-of (part .shape) (now masks) (now moves))) (now log) (now table) part j (now cursors) (now starts) (now places) ⌝ }
-    requires { ⌜ Prepared (plain (profile-of (part .shape) (now masks) (now moves))) (now rows) (now keepers) ⌝ }
-    ensures { λ r. ⌜ Steps (plain (profile-of (part .shape) (now (masks .entry)) (now (moves .entry)))) (now (log .entry)) (part .room) (part .t) (part .first) j (now (table .entry)) (now (table .exit)) (now (cursors .exit)) r ⌝ }
+    requires { ⌜ Halfway (rules-of (profile-of (part .shape) (now masks) (now moves)) termed) (now log) (now table) part j (now cursors) (now starts) (now places) (now turns) termed ⌝ }
+    requires { ⌜ Prepared (rules-of (profile-of (part .shape) (now masks) (now moves)) termed) (now rows) (now keepers) ⌝ }
+    ensures { λ r. ⌜ Steps (rules-of (profile-of (part .shape) (now (masks .entry)) (now (moves .entry))) termed) (now (log .entry)) (part .room) (part .t) (part .first) j (now (table .entry)) (now (table .exit)) (now (cursors .exit)) r ⌝ }
 {
     let k = part.shape.k;
     let s = part.shape.s;
@@ -145,7 +153,21 @@ fn merge_next(
         Next::Nothing => Merged::Nothing,
         Next::At(c, forward) => {
             if first + j < room {
-                let letters = letters::addable(c, k, masks, keepers, log.len(), starts, places);
+                // Chosen here and in `put_first`, not in a function of its own: the compiler then puts `addable` into the loop.
+                let letters = if termed {
+                    term_letters::addable_in_terms(
+                        c,
+                        k,
+                        masks,
+                        keepers,
+                        log.len(),
+                        starts,
+                        places,
+                        turns,
+                    )
+                } else {
+                    letters::addable(c, k, masks, keepers, log.len(), starts, places)
+                };
                 put_in(table, first, j, c, forward, letters.set);
                 Merged::Put(letters.number)
             } else {
@@ -178,9 +200,11 @@ fn fill_total(
     log: &[u8],
     starts: &[Place],
     places: &[Place],
+    turns: &[Place],
+    termed: bool,
 ) -> Total
-    requires { ⌜ Standing (plain (profile-of (part .shape) (now masks) (now moves))) (now log) (now table) part (now starts) (now places) × Prepared (plain (profile-of (part .shape) (now masks) (now moves))) (now rows) (now keepers) ⌝ }
-    ensures { λ r. ⌜ Grows (plain (profile-of (part .shape) (now (masks .entry)) (now (moves .entry)))) (now (log .entry)) (part .room) (part .t) (part .first) (now (table .entry)) (now (table .exit)) r ⌝ }
+    requires { ⌜ Standing (rules-of (profile-of (part .shape) (now masks) (now moves)) termed) (now log) (now table) part (now starts) (now places) (now turns) termed × Prepared (rules-of (profile-of (part .shape) (now masks) (now moves)) termed) (now rows) (now keepers) ⌝ }
+    ensures { λ r. ⌜ Grows (rules-of (profile-of (part .shape) (now (masks .entry)) (now (moves .entry))) termed) (now (log .entry)) (part .room) (part .t) (part .first) (now (table .entry)) (now (table .exit)) r ⌝ }
 {
     let mut cursors = first_cursors(table, part, part.shape.k);
     let mut pairs = 0u64;
@@ -198,6 +222,8 @@ fn fill_total(
             starts,
             places,
             &mut cursors,
+            turns,
+            termed,
         );
         match merged {
             Merged::Nothing => return Total::Put(j, pairs),
@@ -235,15 +261,29 @@ fn fill_totals(
     log: &[u8],
     starts: &[Place],
     places: &[Place],
+    turns: &[Place],
+    termed: bool,
 ) -> Filled
-    requires { ⌜ Standing (plain (profile-of (part .shape) (now masks) (now moves))) (now log) (now table) part (now starts) (now places) ⌝ }
-    requires { ⌜ ((part .t ≤ length (now log)) × (number ≡ pairs (plain (profile-of (part .shape) (now masks) (now moves))) (now log) (totals (plain (profile-of (part .shape) (now masks) (now moves))) (now log) (suc (part .t))))) × Prepared (plain (profile-of (part .shape) (now masks) (now moves))) (now rows) (now keepers) ⌝ }
-    ensures { λ r. ⌜ Forward (plain (profile-of (part .shape) (now (masks .entry)) (now (moves .entry)))) (now (log .entry)) (part .room) (now (table .entry)) (now (table .exit)) r ⌝ }
+    requires { ⌜ Standing (rules-of (profile-of (part .shape) (now masks) (now moves)) termed) (now log) (now table) part (now starts) (now places) (now turns) termed ⌝ }
+    requires { ⌜ ((part .t ≤ length (now log)) × (number ≡ pairs (rules-of (profile-of (part .shape) (now masks) (now moves)) termed) (now log) (totals (rules-of (profile-of (part .shape) (now masks) (now moves)) termed) (now log) (suc (part .t))))) × Prepared (rules-of (profile-of (part .shape) (now masks) (now moves)) termed) (now rows) (now keepers) ⌝ }
+    ensures { λ r. ⌜ Forward (rules-of (profile-of (part .shape) (now (masks .entry)) (now (moves .entry))) termed) (now (log .entry)) (part .room) (now (table .entry)) (now (table .exit)) r ⌝ }
 {
     let mut at = part;
     let mut looks = number as u64;
     while at.t < log.len() {
-        let total = fill_total(table, at, masks, moves, rows, keepers, log, starts, places);
+        let total = fill_total(
+            table,
+            at,
+            masks,
+            moves,
+            rows,
+            keepers,
+            log,
+            starts,
+            places,
+            turns,
+            termed,
+        );
         match total {
             Total::Full => return Filled::Full,
             Total::Put(records, pairs) => {
@@ -268,15 +308,28 @@ pub fn fill_forward(
     log: &[u8],
     starts: &[Place],
     places: &[Place],
+    turns: &[Place],
+    termed: bool,
 ) -> Filled
-    requires { ⌜ Ready (plain (profile-of shape (now masks) (now moves))) (now log) (length (now table)) room (now starts) (now places) ⌝ }
-    ensures { λ r. ⌜ Forward (plain (profile-of shape (now (masks .entry)) (now (moves .entry)))) (now (log .entry)) room (now (table .entry)) (now (table .exit)) r ⌝ }
+    requires { ⌜ Ready (rules-of (profile-of shape (now masks) (now moves)) termed) (now log) (length (now table)) room (now starts) (now places) (now turns) termed ⌝ }
+    ensures { λ r. ⌜ Forward (rules-of (profile-of shape (now (masks .entry)) (now (moves .entry))) termed) (now (log .entry)) room (now (table .entry)) (now (table .exit)) r ⌝ }
 {
     if room == 0 {
         return Filled::Full;
     }
     let keepers = events::all_keepers(masks, shape.k);
-    let number = put_first(table, shape, masks, &keepers, moves, log, starts, places);
+    let number = put_first(
+        table,
+        shape,
+        masks,
+        &keepers,
+        moves,
+        log,
+        starts,
+        places,
+        turns,
+        termed,
+    );
     let mut rows = [0u32; MOST_MOVES];
     rows::by_letter(moves, shape.k, shape.s, &mut rows);
     let part = Part {
@@ -297,5 +350,7 @@ pub fn fill_forward(
         log,
         starts,
         places,
+        turns,
+        termed,
     )
 }

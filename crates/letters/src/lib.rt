@@ -20,7 +20,7 @@ pub struct Letters {
 }
 
 // Puts the place of the next event of each letter below k.
-fn next_places(c: Counts, k: usize, starts: &[Place], places: &[Place], next: &mut [Place])
+pub fn next_places(c: Counts, k: usize, starts: &[Place], places: &[Place], next: &mut [Place])
     requires { ⌜ (k ≤ most-letters) × (k ≤ length (now next)) ⌝ }
     ensures { λ r. ⌜ now (next .exit) ≡ next-by k (now (starts .entry)) (now (places .entry)) (words c) ++ drop k (now (next .entry)) ⌝ }
 {

@@ -148,3 +148,7 @@ table-low (suc k) w =
 
 pub place-table-le : (k : ℕ) (w : List ℕ) → length (place-table k w) ≤ length w + k
 place-table-le k w = omega (arith, table-low k w, low-le k w)
+
+-- as many numbers as events and letters
+pub place-table-length : (k : ℕ) (w : List ℕ) → T (letters-below (λ a. a) k w) → length (place-table k w) ≡ length w + k
+place-table-length k w h = table-low k w ∙ ap (λ l. length l + k) (low-all k w h)

@@ -15,7 +15,7 @@ use Rattle.profile.specs.Tables.{capacity, layout}
 use Rattle.profile.specs.declared.Check.{Check}
 use Rattle.profile.specs.declared.Check.the-variants.{Good, Bad}
 use Rattle.profile.specs.declared.Refusal.{Refusal}
-use Rattle.profile.specs.declared.Refusal.the-variants.{ShortFile, OutOfRange, Distance, MaskBit, StateBit, LongLog, BadLetter, ShortBuffer, FullTable, BadText, DeepText, LongText}
+use Rattle.profile.specs.declared.Refusal.the-variants.{ShortFile, OutOfRange, Distance, MaskBit, StateBit, LongLog, BadLetter, ShortBuffer, FullTable, BadText, DeepText, LongText, BadDay, BadTerm, NoTerm}
 
 -- "A refusal gives its number …"; "Symmetry is dropped, so 5 never occurs": no refusal has it
 abbrev pub refusal-number : Refusal → ℕ
@@ -31,6 +31,9 @@ refusal-number FullTable = 10
 refusal-number (BadText i) = 11
 refusal-number DeepText = 12
 refusal-number LongText = 13
+refusal-number BadDay = 14
+refusal-number BadTerm = 15
+refusal-number NoTerm = 16
 
 -- "… and a place": "Place is 0 except at 8", and at 11 (document 02, Paper 1)
 abbrev pub refusal-place : Refusal → ℕ
@@ -46,6 +49,9 @@ refusal-place FullTable = 0
 refusal-place (BadText i) = i
 refusal-place DeepText = 0
 refusal-place LongText = 0
+refusal-place BadDay = 0
+refusal-place BadTerm = 0
+refusal-place NoTerm = 0
 
 -- the number S has a bit from n on
 abbrev pub bit-from : ℕ → ℕ → Bool

@@ -23,6 +23,9 @@ pub enum Refusal {
     BadText(usize),
     DeepText,
     LongText,
+    BadDay,
+    BadTerm,
+    NoTerm,
 }
 
 // The answer of a check: nothing is refused, or the lowest refusal that applies.

@@ -20,6 +20,9 @@ pub fn number(r: Refusal) -> u32
         Refusal::BadText(_) => 11,
         Refusal::DeepText => 12,
         Refusal::LongText => 13,
+        Refusal::BadDay => 14,
+        Refusal::BadTerm => 15,
+        Refusal::NoTerm => 16,
     }
 }
 
@@ -40,5 +43,8 @@ pub fn place(r: Refusal) -> usize
         Refusal::BadText(i) => i,
         Refusal::DeepText => 0,
         Refusal::LongText => 0,
+        Refusal::BadDay => 0,
+        Refusal::BadTerm => 0,
+        Refusal::NoTerm => 0,
     }
 }

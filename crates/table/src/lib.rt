@@ -1,9 +1,10 @@
 // The table of prefixes: document 01, "Prefixes and their table".
+ghost use mathlib.Core.Bool.{false};
 ghost use lib.ListN.{length};
 ghost use Rattle.profile.specs.Automata.{profile-of};
-ghost use Rattle.profile.specs.Rules.{plain};
+ghost use Rattle.terms.specs.Coded.{rules-of};
 ghost use Rattle.table.specs.Table.{Fills, Promise, Sound};
-ghost use Rattle.forward.specs.Forward.{Forward};
+ghost use Rattle.forward.specs.Forward.{Finds};
 use forward::Filled as Pass;
 use profile::Check;
 use profile::Refusal;
@@ -18,27 +19,49 @@ pub enum Built {
     Filled { prefixes: usize, looks: u64 },
 }
 
-// Puts the records of all prefixes, with the letters that can be added in the place of the backward sets; `room` records fit.
-fn put_records(
+// Fills the table, where `room` records fit, of events that are letters or, with terms, codes: by their places and turns.
+pub fn fill(
     table: &mut [u32],
     room: usize,
     shape: Shape,
     masks: &[u16],
     moves: &[u32],
     log: &[u8],
-) -> Pass
-    requires { ⌜ Sound (plain (profile-of shape (now masks) (now moves))) (now log) (length (now table)) room ⌝ }
-    ensures { λ r. ⌜ Forward (plain (profile-of shape (now (masks .entry)) (now (moves .entry)))) (now (log .entry)) room (now (table .entry)) (now (table .exit)) r ⌝ }
+    starts: &[Place],
+    places: &[Place],
+    turns: &[Place],
+    termed: bool,
+) -> Built
+    requires { ⌜ Sound (rules-of (profile-of shape (now masks) (now moves)) termed) (now log) (length (now table)) room ⌝ }
+    requires { ⌜ Finds (rules-of (profile-of shape (now masks) (now moves)) termed) (now log) (now starts) (now places) (now turns) termed ⌝ }
+    ensures { λ r. ⌜ Fills (rules-of (profile-of shape (now (masks .entry)) (now (moves .entry))) termed) (now (log .entry)) (now (table .entry)) (now (table .exit)) r ⌝ }
 {
-    let k = shape.k;
-    let mut starts: [Place; MOST_LETTERS] = [0; MOST_LETTERS];
-    let mut places: [Place; MOST_PLACES] = [0; MOST_PLACES];
-    places::place_events(log, k, &mut starts, &mut places);
-    forward::fill_forward(table, room, shape, masks, moves, log, &starts, &places)
+    let pass = forward::fill_forward(
+        table,
+        room,
+        shape,
+        masks,
+        moves,
+        log,
+        starts,
+        places,
+        turns,
+        termed,
+    );
+    match pass {
+        Pass::Full => Built::Refused(Refusal::FullTable),
+        Pass::Done { records, looks } => {
+            backward::fill_backward(table, records, shape, masks, moves, log, termed);
+            Built::Filled {
+                prefixes: records,
+                looks: looks,
+            }
+        }
+    }
 }
 
-// Fills the table, where `room` records fit.
-fn fill(
+// Fills the table for a log without terms.
+fn fill_plain(
     table: &mut [u32],
     room: usize,
     shape: Shape,
@@ -46,20 +69,24 @@ fn fill(
     moves: &[u32],
     log: &[u8],
 ) -> Built
-    requires { ⌜ Sound (plain (profile-of shape (now masks) (now moves))) (now log) (length (now table)) room ⌝ }
-    ensures { λ r. ⌜ Fills (plain (profile-of shape (now (masks .entry)) (now (moves .entry)))) (now (log .entry)) (now (table .entry)) (now (table .exit)) r ⌝ }
+    requires { ⌜ Sound (rules-of (profile-of shape (now masks) (now moves)) false) (now log) (length (now table)) room ⌝ }
+    ensures { λ r. ⌜ Fills (rules-of (profile-of shape (now (masks .entry)) (now (moves .entry))) false) (now (log .entry)) (now (table .entry)) (now (table .exit)) r ⌝ }
 {
-    let pass = put_records(table, room, shape, masks, moves, log);
-    match pass {
-        Pass::Full => Built::Refused(Refusal::FullTable),
-        Pass::Done { records, looks } => {
-            backward::fill_backward(table, records, shape, masks, moves, log);
-            Built::Filled {
-                prefixes: records,
-                looks: looks,
-            }
-        }
-    }
+    let mut starts: [Place; MOST_LETTERS] = [0; MOST_LETTERS];
+    let mut places: [Place; MOST_PLACES] = [0; MOST_PLACES];
+    places::place_events(log, shape.k, &mut starts, &mut places);
+    fill(
+        table,
+        room,
+        shape,
+        masks,
+        moves,
+        log,
+        &starts,
+        &places,
+        &starts,
+        false,
+    )
 }
 
 // The record of every prefix of the log, by rising total; refused by 2, 4, 6 to 8 and 10.
@@ -76,5 +103,5 @@ pub fn build(shape: Shape, masks: &[u16], moves: &[u32], log: &[u8], table: &mut
         return Built::Refused(r);
     }
     let room = records::capacity(table);
-    fill(table, room, shape, masks, moves, log)
+    fill_plain(table, room, shape, masks, moves, log)
 }

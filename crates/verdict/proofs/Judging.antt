@@ -7,26 +7,24 @@ use Prim.Native.Nat.{ℕ, _≤_, _<_}
 use native.Mathlib.Omega.{arith}
 use borrow.Author.Tests.{lt-ltb, le-ltb, ltb-false}
 use lib.ListN.{length, drop}
-use Rattle.profile.specs.Traces.{independent}
 use Rattle.profile.specs.Automata.{Profile}
-use Rattle.profile.specs.Rules.{order-by, plain, prefixes-by}
+use Rattle.profile.specs.Rules.{Rules, order-by, plain, prefixes-by}
 use Rattle.profile.specs.Refusals.{admission-refusals, full-table, judge-refusal, judge-refusals, log-refusals, lowest, profile-refusals}
 use Rattle.profile.specs.declared.Refusal.{Refusal}
 use Rattle.profile.specs.declared.Refusal.the-variants.{FullTable, ShortBuffer}
 use Rattle.profile.specs.Tables.{capacity, layout}
 use Rattle.theory.proofs.Refusals.{lowest-append, lowest-first, lowest-none}
-use Rattle.theory.proofs.Refusals.{Admitted, admitted-at, log-at, plain-events, profile-at}
-use Rattle.profile.proofs.Traces.{order-of-reach, takes-length}
-use Rattle.theory.proofs.Demands.{order-earliest}
+use Rattle.theory.proofs.Refusals.{Admitted, GoodEvents, GoodProfile, admitted-at, log-at, plain-events, profile-at}
+use Rattle.theory.proofs.Calls.{order-by-length}
 use Rattle.table.specs.Table.{build-refusals}
 use Rattle.table.specs.Table as Built
 use Rattle.table.specs.declared.Built.the-variants as built
 use Rattle.earliest.specs.Earliest.{Table, found?, with-order}
-use Rattle.verdict.specs.Verdict.{Counted, Promise}
+use Rattle.verdict.specs.Verdict.{Counted, Promise, PromiseBy}
 use Rattle.verdict.specs.declared.Judged.the-variants.{NoOrder, Order, Refused}
 
 -- a condition that does not hold is passed over
-lowest-skip : {A : Type 0} (l r : List (Bool × A)) (x : A) → lowest (l ++ ((false, x) ∷ r)) ≡ lowest (l ++ r)
+pub lowest-skip : {A : Type 0} (l r : List (Bool × A)) (x : A) → lowest (l ++ ((false, x) ∷ r)) ≡ lowest (l ++ r)
 lowest-skip [] r x = refl
 lowest-skip (c ∷ l) r x = go (c .0) refl (lowest-skip l r x)
   where
@@ -68,7 +66,32 @@ admitted p w order table e =
 
 -- the order has as many letters as the log
 pub order-length : (p : Profile) (w : List ℕ) {v : List ℕ} → order-by (plain p) w ≡ some v → length v ≡ length w
-order-length p w e = omega (arith, takes-length (independent (p .masks)) (order-of-reach (independent (p .masks)) (order-earliest p w e .0 .reached)))
+order-length p w e = order-by-length (plain p) w e
+
+-- the table is filled for the events w, and nothing refuses the call
+module _ (p : Rules) (w order table table′ : List ℕ) (q : Option Refusal) (P n : ℕ) (unrefused : none ≡ q) (h : Built.promised p w table table′ (built.Filled P n)) where
+  counted : Counted p w table table′ P n
+  counted = record { prefixes = h .0; looks = h .1; table = h .2 }
+
+  -- there is no order
+  pub none-told : (order′ : List ℕ) → found? (order-by p w) ≡ false → order′ ≡ with-order (order-by p w) order → PromiseBy p w order order′ table table′ q (NoOrder P n)
+  none-told order′ f e = go (order-by p w) refl f e
+    where
+      go : (o : Option (List ℕ)) → order-by p w ≡ o → found? o ≡ false → order′ ≡ with-order o order → PromiseBy p w order order′ table table′ q (NoOrder P n)
+      go none i f e = record { refused = unrefused; told = (i, e, counted) }
+      go (some v) i f e = absurd (true≢false f)
+
+  -- there is one
+  pub some-told : (order′ : List ℕ) → found? (order-by p w) ≡ true → order′ ≡ with-order (order-by p w) order → PromiseBy p w order order′ table table′ q (Order P n)
+  some-told order′ f e = go (order-by p w) refl f e
+    where
+      go : (o : Option (List ℕ)) → order-by p w ≡ o → found? o ≡ true → order′ ≡ with-order o order → PromiseBy p w order order′ table table′ q (Order P n)
+      go none i f e = absurd (true≢false (sym f))
+      go (some v) i f e = record { refused = unrefused; told = (v, i, e ∙ ap (λ k. v ++ drop k order) (order-by-length p w i), counted) }
+
+  -- what the extraction asks of the table
+  pub table-ready : GoodProfile (p .profile) → GoodEvents p w → prefixes-by p w ≤ capacity layout (length table) → length table′ ≡ length table → Table p w table′
+  table-ready good log fits l = record { profile = good; log = log; before = table; holds = h .2; room = omega (arith, l, fits) }
 
 module _ (p : Profile) (w order table : List ℕ) where
   -- the order buffer is too short
@@ -82,47 +105,24 @@ module _ (p : Profile) (w order table : List ℕ) where
     told-refused r h = record { refused = h .refused ∙ sym (order-fits p w (length order) (length table) fits); told = (refl, h .table) }
 
     module _ (P n : ℕ) (h : Built.Promise p w table table′ (built.Filled P n)) where
-      counted : Counted (plain p) w table table′ P n
-      counted = record { prefixes = h .table .0; looks = h .table .1; table = h .table .2 }
-
       unrefused : none ≡ judge-refusal p w (length order) (length table)
       unrefused = h .refused ∙ sym (order-fits p w (length order) (length table) fits)
 
-      -- the table is filled, and there is no order
       pub told-none : (order′ : List ℕ) → found? (order-by (plain p) w) ≡ false → order′ ≡ with-order (order-by (plain p) w) order → Promise p w order order′ table table′ (NoOrder P n)
-      told-none order′ f e = go (order-by (plain p) w) refl f e
-        where
-          go : (o : Option (List ℕ)) → order-by (plain p) w ≡ o → found? o ≡ false → order′ ≡ with-order o order → Promise p w order order′ table table′ (NoOrder P n)
-          go none q f e = record { refused = unrefused; told = (q, e, counted) }
-          go (some v) q f e = absurd (true≢false f)
+      told-none = none-told (plain p) w order table table′ _ P n unrefused (h .table)
 
-      -- the table is filled, and there is one
       pub told-some : (order′ : List ℕ) → found? (order-by (plain p) w) ≡ true → order′ ≡ with-order (order-by (plain p) w) order → Promise p w order order′ table table′ (Order P n)
-      told-some order′ f e = go (order-by (plain p) w) refl f e
-        where
-          go : (o : Option (List ℕ)) → order-by (plain p) w ≡ o → found? o ≡ true → order′ ≡ with-order o order → Promise p w order order′ table table′ (Order P n)
-          go none q f e = absurd (true≢false (sym f))
-          go (some v) q f e = record { refused = unrefused; told = (v, q, e ∙ ap (λ k. v ++ drop k order) (order-length p w q), counted) }
+      told-some = some-told (plain p) w order table table′ _ P n unrefused (h .table)
 
-      -- what the extraction asks of the table
       pub ready : length table′ ≡ length table → Table (plain p) w table′
       ready l =
           let f = lowest-none (build-refusals p w (length table)) .0 (sym (h .refused)) in
           let t = tenth p w (length order) (length table) in
-          let k = prefixes-by (plain p) w in
           let good = profile-at p (lowest-none (profile-refusals p) .1 (λ c m. f c (Memᴰ·append-left (log-refusals (p .k) w ++ t) m))) in
-          record {
-            profile = good;
-            log = plain-events p w good (log-at (p .k) w (lowest-none (log-refusals (p .k) w) .1 (λ c m. f c (Memᴰ·append-right (profile-refusals p) (Memᴰ·append-left t m)))));
-            before = table;
-            holds = h .table .2;
-            room = omega (
-              arith,
-              l,
-              ltb-false (capacity layout (length table)) k
-                  (f _ (Memᴰ·append-right (profile-refusals p) (Memᴰ·append-right (log-refusals (p .k) w) (List·Memᴰ·head refl)))),
-            );
-          }
+          let log = log-at (p .k) w (lowest-none (log-refusals (p .k) w) .1 (λ c m. f c (Memᴰ·append-right (profile-refusals p) (Memᴰ·append-left t m)))) in
+          table-ready (plain p) w order table table′ none P n refl (h .table) good (plain-events p w good log)
+          (ltb-false (capacity layout (length table)) (prefixes-by (plain p) w)
+          (f _ (Memᴰ·append-right (profile-refusals p) (Memᴰ·append-right (log-refusals (p .k) w) (List·Memᴰ·head refl))))) l
 
 -- ---- the refusals up to 9
 

@@ -40,7 +40,12 @@ judged p w order order′ table table′ (NoOrder P n) =
 judged p w order order′ table table′ (Order P n) =
     (v : List ℕ) × (order-by p w ≡ some v) × (order′ ≡ v ++ drop (length w) order) × Counted p w table table′ P n
 
--- the whole promise of a call that was lent `order` and `table` and left `order′` and `table′`
-pub record Promise (p : Profile) (w order order′ table table′ : List ℕ) (r : Judged) : Type 0 where
-  pub refused : refused-by r ≡ judge-refusal p w (length order) (length table)
-  pub told : judged (plain p) w order order′ table table′ r
+-- the whole promise of a call for the rules p and the events w that was lent `order` and `table` and left `order′` and `table′`; q is the refusal that its
+-- input and its buffers call for, if any
+pub record PromiseBy (p : Rules) (w order order′ table table′ : List ℕ) (q : Option Refusal) (r : Judged) : Type 0 where
+  pub refused : refused-by r ≡ q
+  pub told : judged p w order order′ table table′ r
+
+-- that of the judge
+abbrev pub Promise : Profile → List ℕ → List ℕ → List ℕ → List ℕ → List ℕ → Judged → Type 0
+Promise p w order order′ table table′ r = PromiseBy (plain p) w order order′ table table′ (judge-refusal p w (length order) (length table)) r

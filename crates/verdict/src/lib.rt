@@ -6,7 +6,8 @@ ghost use mathlib.Core.Option.{some};
 ghost use Prim.Native.Nat.{_≤_};
 ghost use lib.ListN.{length};
 ghost use Rattle.profile.specs.Automata.{profile-of};
-ghost use Rattle.profile.specs.Rules.{order-by, plain};
+ghost use Rattle.profile.specs.Rules.{order-by};
+ghost use Rattle.terms.specs.Coded.{rules-of};
 ghost use Rattle.profile.specs.Refusals.{log-refusals, lowest, profile-refusals};
 ghost use Rattle.profile.specs.declared.Refusal.the-variants.{ShortBuffer};
 ghost use Rattle.earliest.specs.Earliest.{Table, found?, record-count, with-order};
@@ -41,7 +42,7 @@ fn refusal_of_short(shape: Shape, masks: &[u16], moves: &[u32], log: &[u8]) -> R
 }
 
 // Writes the earliest accepted order, if there is one, and tells whether there is.
-fn put_verdict(
+pub fn put_verdict(
     table: &[u32],
     records: usize,
     shape: Shape,
@@ -49,17 +50,18 @@ fn put_verdict(
     moves: &[u32],
     log: &[u8],
     order: &mut [u8],
+    termed: bool,
 ) -> bool
-    requires { ⌜ Table (plain (profile-of shape (now masks) (now moves))) (now log) (now table) ⌝ }
-    requires { ⌜ records ≡ record-count (plain (profile-of shape (now masks) (now moves))) (now log) ⌝ }
+    requires { ⌜ Table (rules-of (profile-of shape (now masks) (now moves)) termed) (now log) (now table) ⌝ }
+    requires { ⌜ records ≡ record-count (rules-of (profile-of shape (now masks) (now moves)) termed) (now log) ⌝ }
     requires { ⌜ length (now log) ≤ length (now order) ⌝ }
-    ensures { λ r. ⌜ r ≡ found? (order-by (plain (profile-of shape (now (masks .entry)) (now (moves .entry)))) (now (log .entry))) ⌝ }
-    ensures { λ _. ⌜ now (order .exit) ≡ with-order (order-by (plain (profile-of shape (now (masks .entry)) (now (moves .entry)))) (now (log .entry))) (now (order .entry)) ⌝ }
+    ensures { λ r. ⌜ r ≡ found? (order-by (rules-of (profile-of shape (now (masks .entry)) (now (moves .entry))) termed) (now (log .entry))) ⌝ }
+    ensures { λ _. ⌜ now (order .exit) ≡ with-order (order-by (rules-of (profile-of shape (now (masks .entry)) (now (moves .entry))) termed) (now (log .entry))) (now (order .entry)) ⌝ }
 {
-    if !earliest::has_order(table, shape, masks, moves, log) {
+    if !earliest::has_order(table, shape, masks, moves, log, termed) {
         return false;
     }
-    earliest::put_order(table, records, shape, masks, moves, log, order);
+    earliest::put_order(table, records, shape, masks, moves, log, order, termed);
     true
 }
 
@@ -81,7 +83,7 @@ pub fn judge(
     match built {
         Built::Refused(r) => Judged::Refused(r),
         Built::Filled { prefixes, looks } => {
-            if put_verdict(work, prefixes, shape, masks, moves, log, order) {
+            if put_verdict(work, prefixes, shape, masks, moves, log, order, false) {
                 Judged::Order { prefixes, looks }
             } else {
                 Judged::NoOrder { prefixes, looks }

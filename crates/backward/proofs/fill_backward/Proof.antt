@@ -7,7 +7,8 @@ use lib.ListN.{length, drop}
 use lib.Seq.{drop-set-lt}
 use borrow.Author.Needs.{needs}
 use borrow.Rule.Slice.PartMut.{same-len-mid}
-use Rattle.profile.specs.Rules.{Rules, plain}
+use Rattle.profile.specs.Rules.{Rules}
+use Rattle.terms.specs.Coded.{rules-of}
 use Rattle.profile.specs.Automata.{profile-of}
 use Rattle.profile.specs.Tables.{layout, record-length}
 use Rattle.backward.specs.Backward.{filled-all}
@@ -16,15 +17,15 @@ use Rattle.backward.proofs.fill_backward.Statement.{statement}
 use Rattle.backward.proofs.fill_backward.Tie as tie
 
 abbrev Inv-loop : tie.InvT-loop
-Inv-loop table₀ records shape masks moves log finals rows t₀ end₀ table t end =
-    (t ≤ length log) × (length table ≡ length table₀) × Down (plain (profile-of shape masks moves)) log t end table (drop (record-length layout * records) table₀)
+Inv-loop table₀ records shape masks moves log termed finals rows t₀ end₀ table t end =
+    (t ≤ length log) × (length table ≡ length table₀) × Down (rules-of (profile-of shape masks moves) termed) log t end table (drop (record-length layout * records) table₀)
 
 abbrev μ-loop : tie.MeasureT-loop
-μ-loop table₀ records shape masks moves log finals rows t₀ end₀ table t end = t
+μ-loop table₀ records shape masks moves log termed finals rows t₀ end₀ table t end = t
 
 -- the profile and the log of the call
 abbrev profile : tie.Start Inv-loop μ-loop → Rules
-profile s = plain (profile-of (s .args .shape) (s .args .masks .now) (s .args .moves .now))
+profile s = rules-of (profile-of (s .args .shape) (s .args .masks .now) (s .args .moves .now)) (s .args .termed)
 
 abbrev word : tie.Start Inv-loop μ-loop → List ℕ
 word s = s .args .log .now

@@ -6,7 +6,8 @@ use native.Mathlib.Omega.{arith}
 use lib.ListN.{length, getD, set, drop, getD-replicate}
 use borrow.Author.Needs.{needs}
 use Rattle.profile.specs.Limits.{most-letters}
-use Rattle.profile.specs.Rules.{Rules, plain}
+use Rattle.profile.specs.Rules.{Rules}
+use Rattle.terms.specs.Coded.{rules-of}
 use Rattle.profile.specs.Automata.{profile-of}
 use Rattle.profile.specs.Tables.{layout, record-length}
 use Rattle.backward.proofs.Parts.{Halfway, behind-total, halfway-back, halfway-end, halfway-leads, halfway-next, halfway-start}
@@ -16,16 +17,16 @@ use Rattle.backward.proofs.fill_total.Tie as tie
 use Rattle.records.specs.Drafts.{drafted, filled, of-total}
 
 abbrev Inv-loop : tie.InvT-loop
-Inv-loop part₀ len t shape masks moves rows log cursors₀ j₀ part cursors j =
+Inv-loop part₀ len t shape masks moves rows log termed cursors₀ j₀ part cursors j =
     (j ≤ len) × (length part ≡ length part₀) × (length cursors ≡ most-letters)
-    × Halfway (plain (profile-of shape masks moves)) log t part (drop (record-length layout * len) part₀) j (λ x. getD cursors x 0)
+    × Halfway (rules-of (profile-of shape masks moves) termed) log t part (drop (record-length layout * len) part₀) j (λ x. getD cursors x 0)
 
 abbrev μ-loop : tie.MeasureT-loop
-μ-loop part₀ len t shape masks moves rows log cursors₀ j₀ part cursors j = len - j
+μ-loop part₀ len t shape masks moves rows log termed cursors₀ j₀ part cursors j = len - j
 
 -- the profile and the log of the call
 abbrev profile : tie.Start Inv-loop μ-loop → Rules
-profile s = plain (profile-of (s .args .shape) (s .args .masks .now) (s .args .moves .now))
+profile s = rules-of (profile-of (s .args .shape) (s .args .masks .now) (s .args .moves .now)) (s .args .termed)
 
 abbrev word : tie.Start Inv-loop μ-loop → List ℕ
 word s = s .args .log .now

@@ -5,7 +5,7 @@ use mathlib.Core.Path.{_≡_, sym, _∙_, ap₂, subst}
 use native.Mathlib.Omega.{arith}
 use native.Mathlib.Numerals.{add-one}
 use lib.ListN.{length, set}
-use Rattle.profile.specs.Rules.{plain}
+use Rattle.terms.specs.Coded.{rules-of}
 use Rattle.profile.specs.Automata.{forward-step, profile-of}
 use Rattle.profile.specs.Tables.{layout}
 use Rattle.counts.specs.Counts.{add-count, words}
@@ -15,11 +15,11 @@ use Rattle.earliest.proofs.put_order.Statement.{statement}
 use Rattle.earliest.proofs.put_order.Tie as tie
 
 abbrev Inv-loop : tie.InvT-loop
-Inv-loop table records shape masks moves log order₀ k s start states₀ c₀ from₀ t₀ order states c from t =
-    (t ≤ length log) × (tab : Table (plain (profile-of shape masks moves)) log table) × Written tab order₀ t order states (words c) from
+Inv-loop table records shape masks moves log order₀ termed k s start states₀ c₀ from₀ t₀ order states c from t =
+    (t ≤ length log) × (tab : Table (rules-of (profile-of shape masks moves) termed) log table) × Written tab order₀ t order states (words c) from
 
 abbrev μ-loop : tie.MeasureT-loop
-μ-loop table records shape masks moves log order₀ k s start states₀ c₀ from₀ t₀ order states c from t =
+μ-loop table records shape masks moves log order₀ termed k s start states₀ c₀ from₀ t₀ order states c from t =
     length log - t
 
 cast-states : tie.Need-cast-states Inv-loop μ-loop

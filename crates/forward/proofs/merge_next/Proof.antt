@@ -1,8 +1,12 @@
 -- `forward::merge_next` meets its contract.
 use mathlib.Core.Path.{refl, subst}
+use mathlib.Core.Logic.{⊎-elim}
 use native.Mathlib.Omega.{arith}
 use borrow.Author.Needs.{needs}
+use lib.ListN.{length}
+use Rattle.profile.specs.Traces.{independent}
 use Rattle.counts.specs.Counts.{words}
+use Rattle.term_letters.proofs.Choices.{found-with, found-without}
 use Rattle.forward.specs.Merging.{Comes, records-between}
 use Rattle.forward.proofs.Puts.{merge-full, merge-none, merge-put}
 use Rattle.forward.proofs.merge_next.Statement.{statement}
@@ -27,7 +31,7 @@ part-next-counts-end : tie.Need-part-next-counts-end
 part-next-counts-end c = search needs
 
 next-counts-requires : tie.Need-next-counts-requires
-next-counts-requires c κs = (search needs, c .before .before .before .before .before .before .before .before .before .before .before .pre .1 .0)
+next-counts-requires c κs = (search needs, c .before .before .before .before .before .before .before .before .before .before .before .before .pre .1 .0)
 
 enum-told : tie.Need-enum-told
 enum-told c = search needs
@@ -36,15 +40,20 @@ enum-known-next : tie.Need-enum-known-next
 enum-known-next c = search needs
 
 add-if1 : tie.Need-add-if1
-add-if1 c = let h = c .before .before .before .before .before .before .before .before .before .before .before .before .before .before .before .before .before .pre .0 in omega (arith, h .0 .few, h .1 .inside)
+add-if1 c = let h = c .before .before .before .before .before .before .before .before .before .before .before .before .before .before .before .before .before .before .pre .0 in omega (arith, h .0 .few, h .1 .inside)
+
+addable-in-terms-requires : tie.Need-addable-in-terms-requires
+addable-in-terms-requires c κs =
+    let h = c .before .before .before .before .before .before .before .before .before .before .before .before .before .before .before .before .before .before .before .before .pre in
+    (h .0 .0 .profile .relation .most, h .1 .1)
 
 addable-requires : tie.Need-addable-requires
 addable-requires c κs =
-    let h = c .before .before .before .before .before .before .before .before .before .before .before .before .before .before .before .before .before .before .pre in
+    let h = c .before .before .before .before .before .before .before .before .before .before .before .before .before .before .before .before .before .before .before .before .pre in
     (h .0 .0 .profile .relation .most, h .1 .1)
 
 put-in-requires : tie.Need-put-in-requires
-put-in-requires c κs = omega (arith, c .before .before .if1 .taken, c .before .before .before .before .before .before .before .before .before .before .before .before .before .before .before .before .before .before .before .before .pre .0 .0 .fits)
+put-in-requires c κs = omega (arith, c .before .before .if1 .taken, c .before .before .before .before .before .before .before .before .before .before .before .before .before .before .before .before .before .before .before .before .before .pre .0 .0 .fits)
 
 same-length : tie.Need-same-length
 same-length c = search needs
@@ -54,8 +63,8 @@ same-length-2 c = search needs
 
 returns : tie.Need-returns
 returns c =
-    let a = c .before .before .before .before .before .before .before .before .before .before .before .before .before .before .before .before .args in
-    let h = c .before .before .before .before .before .before .before .before .before .before .before .before .before .before .before .before .pre .0 in
+    let a = c .before .before .before .before .before .before .before .before .before .before .before .before .before .before .before .before .before .args in
+    let h = c .before .before .before .before .before .before .before .before .before .before .before .before .before .before .before .before .before .pre .0 in
     let x = c .before .before .before .before .next-counts in
     let level = records-between (a .table .now) (a .part .from) (a .part .first) in
     let g = subst (Comes (a .part .shape .k) (a .part .shape .s) (a .moves .now) level (a .cursors .now) (x .last .1 .1 .1 .1 .1 .0)) (c .enum-told .given .1) (x .ensures) in
@@ -70,15 +79,21 @@ same-length-4 c = search needs
 returns-2 : tie.Need-returns-2
 returns-2 c =
     let q = c .before .before .before .before .before .before .before .next .given in
-    let a = c .before .before .before .before .before .before .before .before .before .before .before .before .before .before .before .before .before .before .before .before .before .before .before .args in
-    let h = c .before .before .before .before .before .before .before .before .before .before .before .before .before .before .before .before .before .before .before .before .before .before .before .pre .0 in
+    let a = c .before .before .before .before .before .before .before .before .before .before .before .before .before .before .before .before .before .before .before .before .before .before .before .before .args in
+    let h = c .before .before .before .before .before .before .before .before .before .before .before .before .before .before .before .before .before .before .before .before .before .before .before .before .pre .0 in
     let x = c .before .before .before .before .before .before .before .before .before .before .before .next-counts in
     let level = records-between (a .table .now) (a .part .from) (a .part .first) in
     let g = subst (Comes (a .part .shape .k) (a .part .shape .s) (a .moves .now) level (a .cursors .now) (x .last .1 .1 .1 .1 .1 .0)) (q .1) (x .ensures) in
-    let y = c .before .before .before .before .addable in
+    let y = c .before .before .before .before .if2 in
+    let found = ⊎-elim
+    (λ v. found-with (independent (a .masks .now)) (a .part .shape .k) (length (a .log .now)) (a .starts .now) (a .places .now) (a .turns .now) (words (q .0 .0)) (a .termed)
+    (y .letters) (v .1 .result) (v .0 .taken) (v .2) (v .1 .ensures))
+    (λ v. found-without (independent (a .masks .now)) (a .part .shape .k) (length (a .log .now)) (a .starts .now) (a .places .now) (a .turns .now) (words (q .0 .0)) (a .termed)
+    (y .letters) (v .1 .result) (v .0 .left) (v .2) (v .1 .ensures))
+    (y .came) in
     let z = c .before .before .put-in in
-    merge-put (h .0) (h .1) (words (q .0 .0)) (g .0) (q .0 .1 .0) (y .result .set) (y .result .number) (z .last .0) (x .last .1 .1 .1 .1 .1 .0)
-    (c .before .before .before .before .before .if1 .taken) (g .1) (g .2) (y .ensures .0) (y .ensures .1) (z .ensures)
+    merge-put (h .0) (h .1) (words (q .0 .0)) (g .0) (q .0 .1 .0) (y .letters .set) (y .letters .number) (z .last .0) (x .last .1 .1 .1 .1 .1 .0)
+    (c .before .before .before .before .before .if1 .taken) (g .1) (g .2) (found .0) (found .1) (z .ensures)
 
 same-length-5 : tie.Need-same-length-5
 same-length-5 c = search needs
@@ -89,8 +104,8 @@ same-length-6 c = search needs
 returns-3 : tie.Need-returns-3
 returns-3 c =
     let q = c .before .before .next .given in
-    let a = c .before .before .before .before .before .before .before .before .before .before .before .before .before .before .before .before .before .before .args in
-    let h = c .before .before .before .before .before .before .before .before .before .before .before .before .before .before .before .before .before .before .pre .0 in
+    let a = c .before .before .before .before .before .before .before .before .before .before .before .before .before .before .before .before .before .before .before .args in
+    let h = c .before .before .before .before .before .before .before .before .before .before .before .before .before .before .before .before .before .before .before .pre .0 in
     let x = c .before .before .before .before .before .before .next-counts in
     let level = records-between (a .table .now) (a .part .from) (a .part .first) in
     let g = subst (Comes (a .part .shape .k) (a .part .shape .s) (a .moves .now) level (a .cursors .now) (x .last .1 .1 .1 .1 .1 .0)) (q .1) (x .ensures) in
@@ -110,6 +125,7 @@ merge-next-spec =
     enum-told
     enum-known-next
     add-if1
+    addable-in-terms-requires
     addable-requires
     put-in-requires
     same-length

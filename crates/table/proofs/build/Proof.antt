@@ -42,8 +42,8 @@ enum-told-2 c = search needs
 capacity-requires : tie.Need-capacity-requires
 capacity-requires c κs = search needs
 
-fill-requires : tie.Need-fill-requires
-fill-requires c κs =
+fill-plain-requires : tie.Need-fill-plain-requires
+fill-plain-requires c κs =
     let a = c .before .before .before .before .before .before .before .before .before .before .before .before .before .args in
     sound (profile-of (a .shape) (a .masks .now) (a .moves .now)) (a .log .now) (length (a .table .now)) (c .before .capacity .result)
     (sym (c .before .before .before .before .before .before .before .before .check-profile .ensures) ∙ ap checked (c .before .before .before .before .before .before .enum-told .given .1))
@@ -55,9 +55,9 @@ same-length c = search needs
 returns-3 : tie.Need-returns-3
 returns-3 c =
     let a = c .before .before .before .before .before .before .before .before .before .before .before .before .before .before .before .before .args in
-    answered (profile-of (a .shape) (a .masks .now) (a .moves .now)) (a .log .now) (a .table .now) (c .before .before .fill .last .0)
+    answered (profile-of (a .shape) (a .masks .now) (a .moves .now)) (a .log .now) (a .table .now) (c .before .before .fill-plain .last .0)
     (sym (c .before .before .before .before .before .before .before .before .before .before .before .check-profile .ensures) ∙ ap checked (c .before .before .before .before .before .before .before .before .before .enum-told .given .1))
-    (sym (c .before .before .before .before .before .before .before .before .check-log .ensures) ∙ ap checked (c .before .before .before .before .before .before .enum-told2 .given .1)) (c .before .before .fill .result) (c .before .before .fill .ensures)
+    (sym (c .before .before .before .before .before .before .before .before .check-log .ensures) ∙ ap checked (c .before .before .before .before .before .before .enum-told2 .given .1)) (c .before .before .fill-plain .result) (c .before .before .fill-plain .ensures)
 
 pub build-spec : {M : Type 1} → statement M
 build-spec =
@@ -72,6 +72,6 @@ build-spec =
     returns-2
     enum-told-2
     capacity-requires
-    fill-requires
+    fill-plain-requires
     same-length
     returns-3)

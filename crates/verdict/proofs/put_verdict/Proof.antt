@@ -3,7 +3,8 @@ use borrow.Author.Needs.{needs}
 use borrow.Author.Tests.{not-false, not-true}
 use mathlib.Core.Path.{sym, _∙_}
 use Rattle.profile.specs.Automata.{profile-of}
-use Rattle.profile.specs.Rules.{order-by, plain}
+use Rattle.profile.specs.Rules.{order-by}
+use Rattle.terms.specs.Coded.{rules-of}
 use Rattle.verdict.proofs.Judging.{none-found}
 use Rattle.verdict.proofs.put_verdict.Statement.{statement}
 use Rattle.verdict.proofs.put_verdict.Tie as tie
@@ -15,7 +16,7 @@ returns : tie.Need-returns
 returns c =
     let a = c .before .before .before .before .before .before .before .args in
     let e = sym (not-true (c .before .has-order .result) (c .if1 .taken)) ∙ c .before .has-order .ensures in
-    (e, none-found (order-by (plain (profile-of (a .shape) (a .masks .now) (a .moves .now))) (a .log .now)) (a .order .now) (sym e))
+    (e, none-found (order-by (rules-of (profile-of (a .shape) (a .masks .now) (a .moves .now)) (a .termed)) (a .log .now)) (a .order .now) (sym e))
 
 put-order-requires : tie.Need-put-order-requires
 put-order-requires c κs =

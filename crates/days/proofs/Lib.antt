@@ -1,0 +1,2 @@
+-- Laws by subject; `dates` cites them too.
+pub mod Loops

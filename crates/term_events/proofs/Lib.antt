@@ -1,0 +1,2 @@
+-- Laws about the test; other crates cite them.
+pub mod InTerms

@@ -1,0 +1,3 @@
+-- The demands of the judge with terms.
+pub mod Demands
+pub mod OneTerm

@@ -1,0 +1,2 @@
+-- What is promised of the judge with terms.
+pub mod Termed

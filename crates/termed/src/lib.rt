@@ -1,0 +1,1 @@
+// The promise of the judge with terms, and the demands as theorems about it. There is no code here.

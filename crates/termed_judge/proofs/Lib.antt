@@ -1,0 +1,4 @@
+-- Laws by subject.
+pub mod Answers
+pub mod Codes
+pub mod Finding
