@@ -1,7 +1,7 @@
 /* Fumarehi: a proved judge of loan logs. The C interface of the static library libcapi.a ('rt staticlib capi').
  *
  * Answers. Every function but fumarehi_next_event returns 0, or the number of the refusal that applies. If several do, it is the first of them in
- * this list, which is not by number throughout: 11, 12 and 13 stand where they are checked.
+ * this list, which is not by number throughout: 11 to 16 stand where they are checked.
  *
  *    1  file under 16 bytes
  *    2  k, s or start out of range; trailer byte 11 not zero; masks_len is not k, or moves_len is not s * k; counts_len is not 8
@@ -14,12 +14,15 @@
  *    6  a move or the final set has a bit from s on
  *    7  the log has more than 4,000 letters; in a file too, before 8 is looked for
  *    8  a letter of the log is k or more; its first place in the log is told, from 0
+ *   14  the days are not as many as the letters of the log, or one is no date from 1900-01-01 to 2199-12-31
+ *   15  the terms break their rules: none or more than 12, a first day without a last, no such date, a first day after the last, not rising, overlapping
+ *   16  the day of an event is in no term
  *    9  an output buffer is shorter than what it must receive
  *   10  the records of all prefixes do not fit the work table, or the table of a running judge
  *
  * Each call writes every element of 'told'. Element 0 is the refusal's place (fumarehi_find tells none): 0 but for refusals 8 and 11, and 0 where
  * nothing is refused. After a refusal the other elements are 0 (fumarehi_same also tells the log). Each array lent as a buffer is unchanged after a
- * refusal, but for the work table of fumarehi_judge and fumarehi_table after refusal 10, whose content is then free.
+ * refusal, but for the work table of fumarehi_judge, fumarehi_judge_terms and fumarehi_table after refusal 10, whose content is then free.
  *
  * Arguments. A slice is a pointer and its length in elements. No argument is out of bounds for these functions: they answer for all numbers and all
  * lengths. What the caller owes, since nothing here can test it:
@@ -27,7 +30,7 @@
  *   - it points to as many elements as the length says, which stay allocated and, unless the type is const, are no other argument's, during the call;
  *   - no other thread writes them meanwhile.
  * The functions keep no pointer, use no global data, no heap and no file, and may be called by several threads at once. The most stack measured is
- * 11.6 KB in fumarehi_expression, 11.0 KB in the others.
+ * 23.1 KB in fumarehi_judge_terms, 11.6 KB in the others.
  *
  * A profile is k letters (1 to 16), s states (1 to 32), the start state (below s), the set of final states (bit q for state q), k masks (bit j of mask i
  * is set where letter i directly followed by j may become j followed by i: an exchange; the other direction is bit i of mask j) and s * k moves (at
@@ -56,12 +59,15 @@ enum {
     FUMAREHI_FULL_TABLE = 10,
     FUMAREHI_BAD_TEXT = 11,
     FUMAREHI_DEEP_TEXT = 12,
-    FUMAREHI_LONG_TEXT = 13
+    FUMAREHI_LONG_TEXT = 13,
+    FUMAREHI_BAD_DAY = 14,
+    FUMAREHI_BAD_TERM = 15,
+    FUMAREHI_NO_TERM = 16
 };
 
 /* The limits by name: the most letters, states and moves of a profile, the most letters of a log; the numbers of a record and those of them that have the
  * counts; the bytes that a file has beside its sections (2 for a mask, 4 for a move, 1 for a letter); the most brackets inside each other and the most
- * letters in typed courses. */
+ * letters in typed courses; the most terms, each of two days. */
 #define FUMAREHI_MOST_LETTERS 16u
 #define FUMAREHI_MOST_STATES 32u
 #define FUMAREHI_MOST_MOVES (FUMAREHI_MOST_STATES * FUMAREHI_MOST_LETTERS)
@@ -71,6 +77,7 @@ enum {
 #define FUMAREHI_TRAILER_LENGTH 16u
 #define FUMAREHI_DEEPEST_BRACKETS 16u
 #define FUMAREHI_MOST_TYPED 31u
+#define FUMAREHI_MOST_TERMS 12u
 
 /* Judges a log. told: place, verdict, P, looks.
  * Verdict 1: some log that exchanges of neighbouring letters reach from the given one is accepted; the first log_len bytes of 'order' are the earliest such
@@ -85,6 +92,31 @@ uint32_t fumarehi_judge(size_t k, size_t s, size_t start, uint32_t finals,
                         uint8_t *order, size_t order_len,
                         uint32_t *work, size_t work_len,
                         uint64_t told[4]);
+
+/* A day as a number: year * 10,000 + month * 100 + day, as 20260914. */
+#define FUMAREHI_DAY(year, month, day) ((uint32_t)(year) * 10000u + (uint32_t)(month) * 100u + (uint32_t)(day))
+
+/* Judges a log with terms: events of different terms keep their order. told: place, verdict, P, looks.
+ * 'days' has a day for each event, a Gregorian date from 1900-01-01 to 2199-12-31. Days need not rise: only the term that a day is in counts. 'terms' has
+ * the first and the last day of each of 1 to 12 terms in turn, both inside it; terms rise and do not overlap, and need not touch. terms_len is twice
+ * the number of terms. An exchange now also needs both events in one term; all else, the order, P, looks, the work table and what stays, is as of
+ * fumarehi_judge, which judges logs without terms. With two terms, and the masks and moves of letters 0 and 1 that may be exchanged both ways:
+ *
+ *     uint32_t terms[4] = {FUMAREHI_DAY(2026, 9, 1), FUMAREHI_DAY(2026, 12, 18), FUMAREHI_DAY(2027, 1, 4), FUMAREHI_DAY(2027, 3, 26)};
+ *     uint32_t days[4] = {FUMAREHI_DAY(2026, 9, 14), FUMAREHI_DAY(2026, 9, 14), FUMAREHI_DAY(2027, 1, 11), FUMAREHI_DAY(2027, 1, 11)};
+ *     uint8_t log[4] = {1, 0, 1, 0}, order[4];
+ *     refused = fumarehi_judge_terms(2, 2, 0, 1, masks, 2, moves, 4, log, 4, days, 4, terms, 4, order, 4, work, work_len, told);
+ *
+ * Refused by 2, 4, 6, 7, 8, 14, 15, 16, 9 and 10, in this order; by 15 for an empty log too. */
+uint32_t fumarehi_judge_terms(size_t k, size_t s, size_t start, uint32_t finals,
+                              const uint16_t *masks, size_t masks_len,
+                              const uint32_t *moves, size_t moves_len,
+                              const uint8_t *log, size_t log_len,
+                              const uint32_t *days, size_t days_len,
+                              const uint32_t *terms, size_t terms_len,
+                              uint8_t *order, size_t order_len,
+                              uint32_t *work, size_t work_len,
+                              uint64_t told[4]);
 
 /* Builds the prefix table of a log. told: place, P, looks; both as of fumarehi_judge.
  * A record is ten numbers, one record for each prefix by rising total count, and within one total by the counts, the count of letter 0 first, the

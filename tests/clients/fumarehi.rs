@@ -17,6 +17,17 @@ mod c {
             work: *mut u32, work_len: usize,
             told: *mut u64,
         ) -> u32;
+        pub fn fumarehi_judge_terms(
+            k: usize, s: usize, start: usize, finals: u32,
+            masks: *const u16, masks_len: usize,
+            moves: *const u32, moves_len: usize,
+            log: *const u8, log_len: usize,
+            days: *const u32, days_len: usize,
+            terms: *const u32, terms_len: usize,
+            order: *mut u8, order_len: usize,
+            work: *mut u32, work_len: usize,
+            told: *mut u64,
+        ) -> u32;
         pub fn fumarehi_table(
             k: usize, s: usize, start: usize, finals: u32,
             masks: *const u16, masks_len: usize,
@@ -129,10 +140,13 @@ pub enum Refusal {
     BadText = 11,
     DeepText = 12,
     LongText = 13,
+    BadDay = 14,
+    BadTerm = 15,
+    NoTerm = 16,
 }
 
 impl Refusal {
-    const ALL: [Refusal; 12] = [
+    const ALL: [Refusal; 15] = [
         Refusal::ShortFile,
         Refusal::OutOfRange,
         Refusal::Distance,
@@ -145,6 +159,9 @@ impl Refusal {
         Refusal::BadText,
         Refusal::DeepText,
         Refusal::LongText,
+        Refusal::BadDay,
+        Refusal::BadTerm,
+        Refusal::NoTerm,
     ];
 
     pub fn number(self) -> u32 {
@@ -163,6 +180,13 @@ pub struct Refused {
     pub place: usize,
     /// The log that `same` refuses at `LongLog` and `BadLetter`, 1 or 2, else 0.
     pub log: usize,
+}
+
+/// A day for each event of a log, and the first and the last day of each term in turn; a day is year × 10,000 + month × 100 + day.
+#[derive(Clone, Copy, Debug)]
+pub struct Dates<'a> {
+    pub days: &'a [u32],
+    pub terms: &'a [u32],
 }
 
 #[derive(Clone, Copy, Debug, PartialEq, Eq)]
@@ -223,7 +247,7 @@ impl Courses {
 
 /// The calls with the header's numbers: the answer, and what is told.
 pub mod numbers {
-    use super::{c, Profile, Relation};
+    use super::{c, Dates, Profile, Relation};
 
     pub fn judge(p: &Profile, log: &[u8], order: &mut [u8], work: &mut [u32], told: &mut [u64; 4]) -> u32 {
         // SAFETY: slices meet what the header asks; so in every call below.
@@ -233,6 +257,22 @@ pub mod numbers {
                 p.masks.as_ptr(), p.masks.len(),
                 p.moves.as_ptr(), p.moves.len(),
                 log.as_ptr(), log.len(),
+                order.as_mut_ptr(), order.len(),
+                work.as_mut_ptr(), work.len(),
+                told.as_mut_ptr(),
+            )
+        }
+    }
+
+    pub fn judge_terms(p: &Profile, log: &[u8], dates: &Dates, order: &mut [u8], work: &mut [u32], told: &mut [u64; 4]) -> u32 {
+        unsafe {
+            c::fumarehi_judge_terms(
+                p.k, p.s, p.start, p.finals,
+                p.masks.as_ptr(), p.masks.len(),
+                p.moves.as_ptr(), p.moves.len(),
+                log.as_ptr(), log.len(),
+                dates.days.as_ptr(), dates.days.len(),
+                dates.terms.as_ptr(), dates.terms.len(),
                 order.as_mut_ptr(), order.len(),
                 work.as_mut_ptr(), work.len(),
                 told.as_mut_ptr(),
@@ -369,6 +409,13 @@ fn answer<T>(number: u32, place: u64, log: u64, value: impl FnOnce() -> T) -> Re
 pub fn judge(p: &Profile, log: &[u8], order: &mut [u8], work: &mut [u32]) -> Result<Verdict, Refused> {
     let mut told = [0; 4];
     let number = numbers::judge(p, log, order, work, &mut told);
+    answer(number, told[0], 0, || Verdict { has_order: told[1] == 1, prefixes: told[2], looks: told[3] })
+}
+
+/// Judges a log with a day for each event and with terms: events of different terms keep their order.
+pub fn judge_terms(p: &Profile, log: &[u8], dates: &Dates, order: &mut [u8], work: &mut [u32]) -> Result<Verdict, Refused> {
+    let mut told = [0; 4];
+    let number = numbers::judge_terms(p, log, dates, order, work, &mut told);
     answer(number, told[0], 0, || Verdict { has_order: told[1] == 1, prefixes: told[2], looks: told[3] })
 }
 

@@ -3,12 +3,13 @@
 //! Valid calls of small size, calls with damage, files laid out freely and damaged, texts right and wrong. Every call is made twice, by the
 //! header's numbers and by the safe wrapper, on buffers with random content and random guards around; every buffer is compared whole afterwards,
 //! only the lent part of the work table is left out after refusal 10. Logs are judged by the courses that right texts type. All short texts are
-//! tried too. Lists of calls of the running judge are in `running.rs`. A refusal that a function can give and never gave is a failure.
+//! tried too. Lists of calls of the running judge are in `running.rs`, logs with terms in `terms.rs`. A refusal that a function can give and never gave is a failure.
 
 mod courses;
 mod fumarehi;
 mod reference;
 mod running;
+mod terms;
 mod texts;
 
 use fumarehi::numbers;
@@ -25,7 +26,7 @@ const ENOUGH: u64 = 5;
 /// What every element of `told` holds before a call.
 const UNTOLD: u64 = 0xdead_beef_dead_beef;
 /// The last number of a refusal.
-const REFUSALS: usize = 13;
+const REFUSALS: usize = 16;
 /// All texts up to this length are tried.
 const LISTED_TEXT: usize = 5;
 
@@ -502,7 +503,7 @@ fn file(random: &mut Random) -> Vec<u8> {
 
 // What was met.
 
-const FUNCTIONS: [(&str, &[usize]); 13] = [
+const FUNCTIONS: [(&str, &[usize]); 14] = [
     ("judge", &[2, 4, 6, 7, 8, 9, 10]),
     ("table", &[2, 4, 6, 7, 8, 10]),
     ("same", &[2, 4, 7, 8]),
@@ -516,6 +517,7 @@ const FUNCTIONS: [(&str, &[usize]); 13] = [
     ("run_start", &[2, 4, 6, 10]),
     ("run_event", &[2, 4, 6, 7, 8, 10]),
     ("run_question", &[2, 4, 6, 10]),
+    ("judge_terms", &[2, 4, 6, 7, 8, 9, 10, 14, 15, 16]),
 ];
 
 #[derive(Default)]
@@ -542,6 +544,7 @@ struct Seen {
     /// Texts up to `LISTED_TEXT` bytes, wrong and right.
     listed: [u64; 2],
     running: running::Met,
+    terms: terms::Met,
 }
 
 impl Seen {
@@ -583,6 +586,7 @@ impl Seen {
         let ([letters, brackets], [wrong, right]) = (self.most_typed, self.listed);
         println!("texts answered with 31 letters: {letters}, 16 deep: {brackets}; all texts up to {LISTED_TEXT} bytes: right {right}, wrong {wrong}");
         self.running.print();
+        self.terms.print();
     }
 
     /// What a test of full size has met.
@@ -621,6 +625,7 @@ impl Seen {
             missing.push("no order other than log and first order, or a log that same never named".into());
         }
         missing.extend(self.running.missing());
+        missing.extend(self.terms.missing());
         missing
     }
 }
@@ -1091,7 +1096,7 @@ fn check_listed(random: &mut Random, seen: &mut Seen) -> Checked {
 }
 
 fn check(random: &mut Random, seen: &mut Seen) -> Checked {
-    match random.below(118) {
+    match random.below(134) {
         0..=29 => check_judge(random, seen),
         30..=46 => check_table(random, seen),
         47..=58 => check_same(random, seen),
@@ -1102,7 +1107,8 @@ fn check(random: &mut Random, seen: &mut Seen) -> Checked {
         98..=99 => check_next_event(random, seen),
         100..=109 => check_expression(random, seen),
         110..=113 => check_find(random, seen),
-        _ => running::check(random, seen),
+        114..=117 => running::check(random, seen),
+        _ => terms::check(random, seen),
     }
 }
 

@@ -92,7 +92,7 @@ pub fn profile(p: &Profile) -> Result<(), Refused> {
     state_bits(p)
 }
 
-fn letters(k: usize, log: &[u8]) -> Result<(), Refused> {
+pub fn letters(k: usize, log: &[u8]) -> Result<(), Refused> {
     if log.len() > MOST {
         return refuse(7);
     }
@@ -143,7 +143,7 @@ fn spelled(p: &Profile, set: u32, log: &[u8]) -> u32 {
     log.iter().fold(set, |set, &a| step(p, set, a))
 }
 
-fn accepted_from(p: &Profile, q: usize, log: &[u8]) -> bool {
+pub fn accepted_from(p: &Profile, q: usize, log: &[u8]) -> bool {
     spelled(p, 1 << q, log) & p.finals != 0
 }
 
@@ -164,7 +164,7 @@ fn events(log: &[u8], marks: &[bool], which: bool) -> Vec<u8> {
     log.iter().zip(marks).filter(|(_, &mark)| mark == which).map(|(&a, _)| a).collect()
 }
 
-fn counts_of(k: usize, log: &[u8]) -> Counts {
+pub fn counts_of(k: usize, log: &[u8]) -> Counts {
     let mut counts = vec![0; k];
     log.iter().for_each(|&a| counts[a as usize] += 1);
     counts
@@ -191,21 +191,24 @@ fn is_prefix_at_once(masks: &[u16], log: &[u8], counts: &[u16]) -> bool {
 }
 
 /// Every choice of counts up to the given ones.
-fn choices(most: &[u16]) -> Vec<Counts> {
+pub fn choices(most: &[u16]) -> Vec<Counts> {
     most.iter().fold(vec![vec![]], |chosen, &most| {
         chosen.iter().flat_map(|counts: &Counts| (0..=most).map(move |n| [counts.as_slice(), &[n]].concat())).collect()
     })
 }
 
-fn sets_by_listing(p: &Profile, log: &[u8], counts: &[u16]) -> Sets {
-    let marks = marked(log, counts);
-    let before = reachable(&p.masks, &events(log, &marks, true));
-    let after = reachable(&p.masks, &events(log, &marks, false));
+/// The sets of a prefix, by the orders of its events and of the others.
+pub fn sets_of(p: &Profile, before: &BTreeSet<Vec<u8>>, after: &BTreeSet<Vec<u8>>) -> Sets {
     let leads = |q: &usize| after.iter().any(|order| accepted_from(p, *q, order));
     Sets {
         forward: before.iter().fold(0, |set, order| set | spelled(p, 1 << p.start, order)),
         backward: (0..p.s).filter(leads).fold(0, |set, q| set | 1 << q),
     }
+}
+
+fn sets_by_listing(p: &Profile, log: &[u8], counts: &[u16]) -> Sets {
+    let marks = marked(log, counts);
+    sets_of(p, &reachable(&p.masks, &events(log, &marks, true)), &reachable(&p.masks, &events(log, &marks, false)))
 }
 
 fn records_by_listing(p: &Profile, log: &[u8]) -> Records {
@@ -219,9 +222,9 @@ fn order_by_listing(p: &Profile, log: &[u8]) -> Option<Vec<u8>> {
 
 // Recursion over prefixes, by totals.
 
-type Total = BTreeSet<Counts>;
+pub type Total = BTreeSet<Counts>;
 
-fn one_more(counts: &[u16], a: usize) -> Counts {
+pub fn one_more(counts: &[u16], a: usize) -> Counts {
     let mut more = counts.to_vec();
     more[a] += 1;
     more
@@ -313,18 +316,22 @@ pub struct Solved {
     log_len: usize,
 }
 
+/// What there is to say of a log, by its prefixes of each total.
+pub fn solve_totals(p: &Profile, totals: &[Total], log_len: usize) -> Solved {
+    let records = records_by_recursion(p, totals);
+    Solved { looks: looks(p.k, &records), order: order_by_recursion(p, totals), records, log_len }
+}
+
 /// Refusals 2, 4 and 6 to 8, or all there is to say.
 pub fn solve(p: &Profile, log: &[u8]) -> Result<Solved, Refused> {
     profile(p)?;
     letters(p.k, log)?;
-    let totals = totals(&p.masks, log);
-    let records = records_by_recursion(p, &totals);
-    let order = order_by_recursion(p, &totals);
+    let solved = solve_totals(p, &totals(&p.masks, log), log.len());
     if log.len() <= LISTED {
-        assert_eq!(records_by_listing(p, log), records, "the reference disagrees with itself: {p:?} {log:?}");
-        assert_eq!(order_by_listing(p, log), order, "the reference disagrees with itself: {p:?} {log:?}");
+        assert_eq!(records_by_listing(p, log), solved.records, "the reference disagrees with itself: {p:?} {log:?}");
+        assert_eq!(order_by_listing(p, log), solved.order, "the reference disagrees with itself: {p:?} {log:?}");
     }
-    Ok(Solved { looks: looks(p.k, &records), records, order, log_len: log.len() })
+    Ok(solved)
 }
 
 impl Solved {

@@ -11,7 +11,7 @@
 #include <string.h>
 #include <ucontext.h>
 
-enum { STACK = 1 << 18, PAINT = 0xA5, STATED = 116 * 1024 / 10 }; /* 11.6 KB */
+enum { STACK = 1 << 18, PAINT = 0xA5, STATED = 231 * 1024 / 10 }; /* 23.1 KB */
 
 static uint8_t stack[STACK] __attribute__((aligned(64)));
 static ucontext_t outside, inside;
@@ -37,6 +37,7 @@ static uint16_t masks[16];
 enum { EVENTS = 4000, NUMBERS = 10 * 4400 }; /* the log has 4,251 prefixes */
 
 static uint32_t moves[512], table[NUMBERS];
+static uint32_t days[EVENTS], terms[24];
 static uint8_t log[EVENTS], order[EVENTS], file[6144], text[4096];
 static size_t text_len, file_len;
 static uint64_t told[6], record[2];
@@ -44,6 +45,7 @@ static uint32_t answer;
 
 static void nothing(void) {}
 static void judge(void) { answer = fumarehi_judge(16, 32, 0, 1, masks, 16, moves, 512, log, EVENTS, order, EVENTS, table, NUMBERS, told); }
+static void judge_terms(void) { answer = fumarehi_judge_terms(16, 32, 0, 1, masks, 16, moves, 512, log, EVENTS, days, EVENTS, terms, 24, order, EVENTS, table, NUMBERS, told); }
 static void build(void) { answer = fumarehi_table(16, 32, 0, 1, masks, 16, moves, 512, log, EVENTS, table, NUMBERS, told); }
 static void same(void) { answer = fumarehi_same(16, masks, 16, log, EVENTS, log, EVENTS, told); }
 static void first_order(void) { answer = fumarehi_first_order(16, masks, 16, log, EVENTS, order, EVENTS, told); }
@@ -91,7 +93,12 @@ int main(void)
         log[i] = (uint8_t)(i % 16);
     masks[0] = 2;
     masks[1] = 1;
+    for (uint32_t i = 0; i < 24; i++)
+        terms[i] = FUMAREHI_DAY(2026, 9, 1) + i;
+    for (size_t i = 0; i < EVENTS; i++)
+        days[i] = terms[i % 24];
     print("judge", judge);
+    print("judge_terms", judge_terms);
     print("table", build);
     print("same", same);
     print("first_order", first_order);
