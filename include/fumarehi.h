@@ -1,7 +1,7 @@
 /* Fumarehi: a proved judge of loan logs. The C interface of the static library libcapi.a ('rt staticlib capi').
  *
  * Answers. Every function but fumarehi_next_event returns 0, or the number of the refusal that applies. If several do, it is the first of them in
- * this list, which is not by number throughout: 11 to 16 stand where they are checked.
+ * this list, which is not by number throughout: those from 11 on stand where they are checked.
  *
  *    1  file under 16 bytes
  *    2  k, s or start out of range; trailer byte 11 not zero; masks_len is not k, or moves_len is not s * k; counts_len is not 8
@@ -12,6 +12,7 @@
  *    4  a mask has a bit from k on, or its own bit
  *    5  unused: masks need not be symmetric
  *    6  a move or the final set has a bit from s on
+ *   20  the mask of visible letters has a bit from k on
  *    7  the log has more than 4,000 letters; in a file too, before 8 is looked for
  *    8  a letter of the log is k or more; its first place in the log is told, from 0
  *   14  the days are not as many as the letters of the log, or one is no date from 1900-01-01 to 2199-12-31
@@ -22,7 +23,8 @@
  *
  * Each call writes every element of 'told'. Element 0 is the refusal's place (fumarehi_find tells none): 0 but for refusals 8 and 11, and 0 where
  * nothing is refused. After a refusal the other elements are 0 (fumarehi_same also tells the log). Each array lent as a buffer is unchanged after a
- * refusal, but for the work table of fumarehi_judge, fumarehi_judge_terms and fumarehi_table after refusal 10, whose content is then free.
+ * refusal, but for the work table of fumarehi_judge, fumarehi_judge_terms and fumarehi_table after refusal 10, whose content is then free, and that of
+ * fumarehi_view, which is then cleared.
  *
  * Arguments. A slice is a pointer and its length in elements. No argument is out of bounds for these functions: they answer for all numbers and all
  * lengths. What the caller owes, since nothing here can test it:
@@ -30,7 +32,7 @@
  *   - it points to as many elements as the length says, which stay allocated and, unless the type is const, are no other argument's, during the call;
  *   - no other thread writes them meanwhile.
  * The functions keep no pointer, use no global data, no heap and no file, and may be called by several threads at once. The most stack measured is
- * 23.1 KB in fumarehi_judge_terms, 11.6 KB in the others.
+ * 23.1 KB in fumarehi_judge_terms, 17.3 KB in fumarehi_view, 11.6 KB in the others.
  *
  * A profile is k letters (1 to 16), s states (1 to 32), the start state (below s), the set of final states (bit q for state q), k masks (bit j of mask i
  * is set where letter i directly followed by j may become j followed by i: an exchange; the other direction is bit i of mask j) and s * k moves (at
@@ -62,7 +64,8 @@ enum {
     FUMAREHI_LONG_TEXT = 13,
     FUMAREHI_BAD_DAY = 14,
     FUMAREHI_BAD_TERM = 15,
-    FUMAREHI_NO_TERM = 16
+    FUMAREHI_NO_TERM = 16,
+    FUMAREHI_VIEW_BIT = 20
 };
 
 /* The limits by name: the most letters, states and moves of a profile, the most letters of a log; the numbers of a record and those of them that have the
@@ -245,6 +248,23 @@ uint32_t fumarehi_run_question(size_t k, size_t s, size_t start, uint32_t finals
                                const uint64_t record[2],
                                const uint32_t *table, size_t table_len,
                                uint64_t told[4]);
+
+/* A teacher's view: the judge for one who sees some letters and nothing about the others. Bit a of 'visible' is set where letter a is visible. The visible
+ * part of a list is its visible letters, in their order. told: place, verdict, P, looks.
+ * Verdict 1: some list of letters, of any length, leads the profile from its start to a final state, and its visible part is reachable from the log's.
+ * 'order' then begins with the earliest such visible part. P, looks and the work table's records are those of the log's visible part; forward and
+ * backward allow hidden letters anywhere, at either end too. With all letters visible it is fumarehi_judge; with none P is 1, and verdict 1 says that a
+ * final state can be reached at all.
+ * Refused by 2, 4, 6, 20, 7, 8, 9 and 10: 7 and 8 look at the whole log, 9 asks for the length of the visible part, 10 for its records. After 10 the numbers of
+ * the work table that have place for records are 0. Logs that pass 7 and 8 and have one visible part are told the same and leave the same, also when they
+ * are refused: nothing else of a log crosses. The time that a call takes is no part of this. */
+uint32_t fumarehi_view(size_t k, size_t s, size_t start, uint32_t finals, uint32_t visible,
+                       const uint16_t *masks, size_t masks_len,
+                       const uint32_t *moves, size_t moves_len,
+                       const uint8_t *log, size_t log_len,
+                       uint8_t *order, size_t order_len,
+                       uint32_t *work, size_t work_len,
+                       uint64_t told[4]);
 
 #ifdef __cplusplus
 }

@@ -102,6 +102,15 @@ mod c {
             table: *const u32, table_len: usize,
             told: *mut u64,
         ) -> u32;
+        pub fn fumarehi_view(
+            k: usize, s: usize, start: usize, finals: u32, visible: u32,
+            masks: *const u16, masks_len: usize,
+            moves: *const u32, moves_len: usize,
+            log: *const u8, log_len: usize,
+            order: *mut u8, order_len: usize,
+            work: *mut u32, work_len: usize,
+            told: *mut u64,
+        ) -> u32;
     }
 }
 
@@ -143,10 +152,11 @@ pub enum Refusal {
     BadDay = 14,
     BadTerm = 15,
     NoTerm = 16,
+    ViewBit = 20,
 }
 
 impl Refusal {
-    const ALL: [Refusal; 15] = [
+    const ALL: &'static [Refusal] = &[
         Refusal::ShortFile,
         Refusal::OutOfRange,
         Refusal::Distance,
@@ -162,6 +172,7 @@ impl Refusal {
         Refusal::BadDay,
         Refusal::BadTerm,
         Refusal::NoTerm,
+        Refusal::ViewBit,
     ];
 
     pub fn number(self) -> u32 {
@@ -396,6 +407,20 @@ pub mod numbers {
             )
         }
     }
+
+    pub fn view(p: &Profile, visible: u32, log: &[u8], order: &mut [u8], work: &mut [u32], told: &mut [u64; 4]) -> u32 {
+        unsafe {
+            c::fumarehi_view(
+                p.k, p.s, p.start, p.finals, visible,
+                p.masks.as_ptr(), p.masks.len(),
+                p.moves.as_ptr(), p.moves.len(),
+                log.as_ptr(), log.len(),
+                order.as_mut_ptr(), order.len(),
+                work.as_mut_ptr(), work.len(),
+                told.as_mut_ptr(),
+            )
+        }
+    }
 }
 
 fn answer<T>(number: u32, place: u64, log: u64, value: impl FnOnce() -> T) -> Result<T, Refused> {
@@ -416,6 +441,13 @@ pub fn judge(p: &Profile, log: &[u8], order: &mut [u8], work: &mut [u32]) -> Res
 pub fn judge_terms(p: &Profile, log: &[u8], dates: &Dates, order: &mut [u8], work: &mut [u32]) -> Result<Verdict, Refused> {
     let mut told = [0; 4];
     let number = numbers::judge_terms(p, log, dates, order, work, &mut told);
+    answer(number, told[0], 0, || Verdict { has_order: told[1] == 1, prefixes: told[2], looks: told[3] })
+}
+
+/// Judges a log for a teacher who sees the letters of a mask, bit a for letter a, and nothing about the others.
+pub fn view(p: &Profile, visible: u32, log: &[u8], order: &mut [u8], work: &mut [u32]) -> Result<Verdict, Refused> {
+    let mut told = [0; 4];
+    let number = numbers::view(p, visible, log, order, work, &mut told);
     answer(number, told[0], 0, || Verdict { has_order: told[1] == 1, prefixes: told[2], looks: told[3] })
 }
 

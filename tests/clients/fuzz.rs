@@ -3,7 +3,8 @@
 //! Valid calls of small size, calls with damage, files laid out freely and damaged, texts right and wrong. Every call is made twice, by the
 //! header's numbers and by the safe wrapper, on buffers with random content and random guards around; every buffer is compared whole afterwards,
 //! only the lent part of the work table is left out after refusal 10. Logs are judged by the courses that right texts type. All short texts are
-//! tried too. Lists of calls of the running judge are in `running.rs`, logs with terms in `terms.rs`. A refusal that a function can give and never gave is a failure.
+//! tried too. Lists of calls of the running judge are in `running.rs`, logs with terms in `terms.rs`, views in `views.rs`. A refusal that a function
+//! can give and never gave is a failure.
 
 mod courses;
 mod fumarehi;
@@ -11,6 +12,7 @@ mod reference;
 mod running;
 mod terms;
 mod texts;
+mod views;
 
 use fumarehi::numbers;
 use reference::{Counts, Profile, Records, Refused, Solved, COUNTS, MOST, RECORD};
@@ -26,7 +28,7 @@ const ENOUGH: u64 = 5;
 /// What every element of `told` holds before a call.
 const UNTOLD: u64 = 0xdead_beef_dead_beef;
 /// The last number of a refusal.
-const REFUSALS: usize = 16;
+const REFUSALS: usize = 20;
 /// All texts up to this length are tried.
 const LISTED_TEXT: usize = 5;
 
@@ -503,7 +505,7 @@ fn file(random: &mut Random) -> Vec<u8> {
 
 // What was met.
 
-const FUNCTIONS: [(&str, &[usize]); 14] = [
+const FUNCTIONS: &[(&str, &[usize])] = &[
     ("judge", &[2, 4, 6, 7, 8, 9, 10]),
     ("table", &[2, 4, 6, 7, 8, 10]),
     ("same", &[2, 4, 7, 8]),
@@ -518,6 +520,7 @@ const FUNCTIONS: [(&str, &[usize]); 14] = [
     ("run_event", &[2, 4, 6, 7, 8, 10]),
     ("run_question", &[2, 4, 6, 10]),
     ("judge_terms", &[2, 4, 6, 7, 8, 9, 10, 14, 15, 16]),
+    ("view", &[2, 4, 6, 20, 7, 8, 9, 10]),
 ];
 
 #[derive(Default)]
@@ -545,6 +548,7 @@ struct Seen {
     listed: [u64; 2],
     running: running::Met,
     terms: terms::Met,
+    views: views::Met,
 }
 
 impl Seen {
@@ -563,11 +567,12 @@ impl Seen {
 
     fn print(&self) {
         print!("{:<14}{:>9}", "function", "answered");
-        (1..=REFUSALS).for_each(|number| print!("{number:>7}"));
+        let given = |number: &usize| FUNCTIONS.iter().any(|(_, possible)| possible.contains(number));
+        (1..=REFUSALS).filter(given).for_each(|number| print!("{number:>7}"));
         println!("{:>9}", "calls");
         for ((name, possible), answers) in FUNCTIONS.iter().zip(&self.answers) {
             print!("{name:<14}{:>9}", answers[0]);
-            for number in 1..=REFUSALS {
+            for number in (1..=REFUSALS).filter(given) {
                 if possible.contains(&number) { print!("{:>7}", answers[number]) } else { print!("{:>7}", "-") }
             }
             println!("{:>9}", answers.iter().sum::<u64>());
@@ -587,6 +592,7 @@ impl Seen {
         println!("texts answered with 31 letters: {letters}, 16 deep: {brackets}; all texts up to {LISTED_TEXT} bytes: right {right}, wrong {wrong}");
         self.running.print();
         self.terms.print();
+        self.views.print();
     }
 
     /// What a test of full size has met.
@@ -626,6 +632,7 @@ impl Seen {
         }
         missing.extend(self.running.missing());
         missing.extend(self.terms.missing());
+        missing.extend(self.views.missing());
         missing
     }
 }
@@ -1096,7 +1103,7 @@ fn check_listed(random: &mut Random, seen: &mut Seen) -> Checked {
 }
 
 fn check(random: &mut Random, seen: &mut Seen) -> Checked {
-    match random.below(134) {
+    match random.below(150) {
         0..=29 => check_judge(random, seen),
         30..=46 => check_table(random, seen),
         47..=58 => check_same(random, seen),
@@ -1108,7 +1115,8 @@ fn check(random: &mut Random, seen: &mut Seen) -> Checked {
         100..=109 => check_expression(random, seen),
         110..=113 => check_find(random, seen),
         114..=117 => running::check(random, seen),
-        _ => terms::check(random, seen),
+        118..=133 => terms::check(random, seen),
+        _ => views::check(random, seen),
     }
 }
 

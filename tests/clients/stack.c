@@ -46,6 +46,7 @@ static uint32_t answer;
 static void nothing(void) {}
 static void judge(void) { answer = fumarehi_judge(16, 32, 0, 1, masks, 16, moves, 512, log, EVENTS, order, EVENTS, table, NUMBERS, told); }
 static void judge_terms(void) { answer = fumarehi_judge_terms(16, 32, 0, 1, masks, 16, moves, 512, log, EVENTS, days, EVENTS, terms, 24, order, EVENTS, table, NUMBERS, told); }
+static void view(void) { answer = fumarehi_view(16, 32, 0, 1, 0xFFFF, masks, 16, moves, 512, log, EVENTS, order, EVENTS, table, NUMBERS, told); }
 static void build(void) { answer = fumarehi_table(16, 32, 0, 1, masks, 16, moves, 512, log, EVENTS, table, NUMBERS, told); }
 static void same(void) { answer = fumarehi_same(16, masks, 16, log, EVENTS, log, EVENTS, told); }
 static void first_order(void) { answer = fumarehi_first_order(16, masks, 16, log, EVENTS, order, EVENTS, told); }
@@ -99,6 +100,7 @@ int main(void)
         days[i] = terms[i % 24];
     print("judge", judge);
     print("judge_terms", judge_terms);
+    print("view", view);
     print("table", build);
     print("same", same);
     print("first_order", first_order);

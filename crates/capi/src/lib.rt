@@ -12,6 +12,7 @@ ghost use Rattle.expression.specs.Making.{made-buffer, making};
 ghost use Rattle.capi.specs.Numbers.{Building, Finding, Judging, compared-code, compared-told, event-number, located-code, located-told, made-code, made-told, ordered-code, ordered-told, reading-code, reading-told, writing-code, writing-told};
 ghost use Rattle.calls.specs.Calls.{Asking, Starting, Stepping};
 ghost use Rattle.term_calls.specs.TermCalls.{TermJudging};
+ghost use Rattle.view_calls.specs.ViewCalls.{Viewing};
 use comparison::Compared;
 use expression::Made;
 use filewriter::Writing;
@@ -390,4 +391,30 @@ pub extern "C" fn fumarehi_judge_terms(
         finals: finals,
     };
     term_calls::judge(shape, masks, moves, log, days, terms, order, work, told)
+}
+
+// A teacher's view.
+#[no_mangle]
+pub extern "C" fn fumarehi_view(
+    k: usize,
+    s: usize,
+    start: usize,
+    finals: u32,
+    visible: u32,
+    masks: &[u16],
+    moves: &[u32],
+    log: &[u8],
+    order: &mut [u8],
+    work: &mut [u32],
+    told: &mut [u64; 4],
+) -> u32
+    ensures { λ r. ⌜ Viewing (profile-of (record { k = k; s = s; start = start; finals = finals }) (now (masks .entry)) (now (moves .entry))) visible (now (log .entry)) (now (order .entry)) (now (order .exit)) (now (work .entry)) (now (work .exit)) r (now (told .exit)) ⌝ }
+{
+    let shape = Shape {
+        k: k,
+        s: s,
+        start: start,
+        finals: finals,
+    };
+    view_calls::view(shape, visible, masks, moves, log, order, work, told)
 }

@@ -47,7 +47,7 @@ fn profile_out_of_range(shape: Shape, masks: &[u16], moves: &[u32]) -> bool
 }
 
 // The set has a bit from n on.
-fn set_from(set: u32, n: usize) -> bool
+pub fn set_from(set: u32, n: usize) -> bool
     ensures { λ r. ⌜ r ≡ bit-from n set ⌝ }
 {
     if 32 <= n {

@@ -26,6 +26,7 @@ pub enum Refusal {
     BadDay,
     BadTerm,
     NoTerm,
+    ViewBit,
 }
 
 // The answer of a check: nothing is refused, or the lowest refusal that applies.

@@ -23,6 +23,7 @@ pub fn number(r: Refusal) -> u32
         Refusal::BadDay => 14,
         Refusal::BadTerm => 15,
         Refusal::NoTerm => 16,
+        Refusal::ViewBit => 20,
     }
 }
 
@@ -46,5 +47,6 @@ pub fn place(r: Refusal) -> usize
         Refusal::BadDay => 0,
         Refusal::BadTerm => 0,
         Refusal::NoTerm => 0,
+        Refusal::ViewBit => 0,
     }
 }

@@ -50,6 +50,9 @@ enum-told-12 c = search needs
 enum-told-13 : tie.Need-enum-told-13
 enum-told-13 c = search needs
 
+enum-told-14 : tie.Need-enum-told-14
+enum-told-14 c = search needs
+
 returns : tie.Need-returns
 returns c = sym (ap refusal-place (c .enum-told .given .1))
 
@@ -95,6 +98,9 @@ returns-14 c = sym (ap refusal-place (c .enum-told12 .given .1))
 returns-15 : tie.Need-returns-15
 returns-15 c = sym (ap refusal-place (c .enum-told13 .given .1))
 
+returns-16 : tie.Need-returns-16
+returns-16 c = sym (ap refusal-place (c .enum-told14 .given .1))
+
 pub place-spec : {M : Type 1} → statement M
 place-spec =
     tie.close
@@ -114,6 +120,7 @@ place-spec =
     enum-told-11
     enum-told-12
     enum-told-13
+    enum-told-14
     returns
     returns-2
     returns-3
@@ -128,4 +135,5 @@ place-spec =
     returns-12
     returns-13
     returns-14
-    returns-15)
+    returns-15
+    returns-16)

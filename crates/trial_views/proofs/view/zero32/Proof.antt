@@ -1,0 +1,50 @@
+-- `trial_views::view::zero32` is safe and ends.
+use borrow.Author.Needs.{needs}
+use Prim.Native.Nat.{_≤_, _-_}
+use Rattle.trial_views.proofs.view.zero32.Statement.{statement}
+use Rattle.trial_views.proofs.view.zero32.Tie as tie
+
+abbrev Inv-loop : tie.InvT-loop
+Inv-loop numbers from n i₀ i = 0 ≤ 0
+
+abbrev μ-loop : tie.MeasureT-loop
+μ-loop numbers from n i₀ i = n - i
+
+loop-holds : tie.Need-loop-holds Inv-loop μ-loop
+loop-holds c = search needs
+
+plus-requires : tie.Need-plus-requires Inv-loop μ-loop
+plus-requires c κs = search needs
+
+at32-requires : tie.Need-at32-requires Inv-loop μ-loop
+at32-requires c κs = search needs
+
+returns : tie.Need-returns Inv-loop μ-loop
+returns c = search needs
+
+add-i : tie.Need-add-i Inv-loop μ-loop
+add-i c = search needs
+
+loop-less : tie.Need-loop-less Inv-loop μ-loop
+loop-less c = search needs
+
+loop-again : tie.Need-loop-again Inv-loop μ-loop
+loop-again c = search needs
+
+returns-2 : tie.Need-returns-2 Inv-loop μ-loop
+returns-2 c = search needs
+
+pub zero32-spec : {M : Type 1} → statement M
+zero32-spec =
+    tie.close
+    (tie.spec
+    Inv-loop
+    μ-loop
+    loop-holds
+    plus-requires
+    at32-requires
+    returns
+    add-i
+    loop-less
+    loop-again
+    returns-2)
