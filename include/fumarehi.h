@@ -13,6 +13,7 @@
  *    5  unused: masks need not be symmetric
  *    6  a move or the final set has a bit from s on
  *   20  the mask of visible letters has a bit from k on
+ *   21  a rule of a grammar uses a name or letter out of range or is of neither kind, or there are no names, more than 16 names or more than 64 rules
  *    7  the log has more than 4,000 letters; in a file too, before 8 is looked for
  *    8  a letter of the log is k or more; its first place in the log is told, from 0
  *   14  the days are not as many as the letters of the log, or one is no date from 1900-01-01 to 2199-12-31
@@ -20,11 +21,12 @@
  *   16  the day of an event is in no term
  *    9  an output buffer is shorter than what it must receive
  *   10  the records of all prefixes do not fit the work table, or the table of a running judge
+ *   22  fewer than P * P sets of names
  *
  * Each call writes every element of 'told'. Element 0 is the refusal's place (fumarehi_find tells none): 0 but for refusals 8 and 11, and 0 where
  * nothing is refused. After a refusal the other elements are 0 (fumarehi_same also tells the log). Each array lent as a buffer is unchanged after a
- * refusal, but for the work table of fumarehi_judge, fumarehi_judge_terms and fumarehi_table after refusal 10, whose content is then free, and that of
- * fumarehi_view, which is then cleared.
+ * refusal, but for the work table of fumarehi_judge, fumarehi_judge_terms, fumarehi_table and fumarehi_grammar after refusal 10, and of the last after 22,
+ * whose content is then free, and that of fumarehi_view, which is then cleared.
  *
  * Arguments. A slice is a pointer and its length in elements. No argument is out of bounds for these functions: they answer for all numbers and all
  * lengths. What the caller owes, since nothing here can test it:
@@ -65,7 +67,9 @@ enum {
     FUMAREHI_BAD_DAY = 14,
     FUMAREHI_BAD_TERM = 15,
     FUMAREHI_NO_TERM = 16,
-    FUMAREHI_VIEW_BIT = 20
+    FUMAREHI_VIEW_BIT = 20,
+    FUMAREHI_BAD_RULE = 21,
+    FUMAREHI_SHORT_SETS = 22
 };
 
 /* The limits by name: the most letters, states and moves of a profile, the most letters of a log; the numbers of a record and those of them that have the
@@ -265,6 +269,28 @@ uint32_t fumarehi_view(size_t k, size_t s, size_t start, uint32_t finals, uint32
                        uint8_t *order, size_t order_len,
                        uint32_t *work, size_t work_len,
                        uint64_t told[4]);
+
+/* A rule of a grammar: name n gives the names l and r one behind the other, or name n gives letter a. Names are 0 to 15. */
+#define FUMAREHI_NAMES_RULE(n, l, r) ((uint16_t)(4096u + 256u * (n) + 16u * (l) + (r)))
+#define FUMAREHI_LETTER_RULE(n, a) ((uint16_t)(256u * (n) + (a)))
+
+/* Judges a log by a grammar, for loans that contain loans: sets in sets, which no automaton follows. A grammar has 1 to 16 names and up to 64 rules, made
+ * by the two macros above; name 0 starts. A log can be derived from a name where a rule gives the name the log's one letter, or two names, from which
+ * the log's two parts can be derived, the first part from the first. told: place, verdict, P, looks.
+ * Verdict 1 exactly when some log that exchanges reach can be derived from name 0; such a log is then in the first log_len bytes of 'order', whichever.
+ * Verdict 0 leaves 'order'; an empty log gets 0. P, looks and the records in 'work' are as with fumarehi_judge, but forward and backward are 0.
+ * 'sets' has one element for each pair of prefixes, P * P of them: its content after a verdict is free. Its size and the time, which grows with P * P * P,
+ * are what P costs here: see docs/SPEED.md.
+ * Refused by 2, 4, 21, 7, 8, 9, 10 and 22, in this order; there are no states, so 2 is of k and masks_len alone. */
+uint32_t fumarehi_grammar(size_t k,
+                          const uint16_t *masks, size_t masks_len,
+                          size_t names,
+                          const uint16_t *rules, size_t rules_len,
+                          const uint8_t *log, size_t log_len,
+                          uint8_t *order, size_t order_len,
+                          uint32_t *work, size_t work_len,
+                          uint16_t *sets, size_t sets_len,
+                          uint64_t told[4]);
 
 #ifdef __cplusplus
 }

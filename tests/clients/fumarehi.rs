@@ -111,6 +111,17 @@ mod c {
             work: *mut u32, work_len: usize,
             told: *mut u64,
         ) -> u32;
+        pub fn fumarehi_grammar(
+            k: usize,
+            masks: *const u16, masks_len: usize,
+            names: usize,
+            rules: *const u16, rules_len: usize,
+            log: *const u8, log_len: usize,
+            order: *mut u8, order_len: usize,
+            work: *mut u32, work_len: usize,
+            sets: *mut u16, sets_len: usize,
+            told: *mut u64,
+        ) -> u32;
     }
 }
 
@@ -153,6 +164,8 @@ pub enum Refusal {
     BadTerm = 15,
     NoTerm = 16,
     ViewBit = 20,
+    BadRule = 21,
+    ShortSets = 22,
 }
 
 impl Refusal {
@@ -173,6 +186,8 @@ impl Refusal {
         Refusal::BadTerm,
         Refusal::NoTerm,
         Refusal::ViewBit,
+        Refusal::BadRule,
+        Refusal::ShortSets,
     ];
 
     pub fn number(self) -> u32 {
@@ -258,7 +273,7 @@ impl Courses {
 
 /// The calls with the header's numbers: the answer, and what is told.
 pub mod numbers {
-    use super::{c, Dates, Profile, Relation};
+    use super::{c, Dates, Grammar, Profile, Relation};
 
     pub fn judge(p: &Profile, log: &[u8], order: &mut [u8], work: &mut [u32], told: &mut [u64; 4]) -> u32 {
         // SAFETY: slices meet what the header asks; so in every call below.
@@ -421,6 +436,22 @@ pub mod numbers {
             )
         }
     }
+
+    pub fn grammar(g: &Grammar, log: &[u8], order: &mut [u8], work: &mut [u32], sets: &mut [u16], told: &mut [u64; 4]) -> u32 {
+        unsafe {
+            c::fumarehi_grammar(
+                g.relation.k,
+                g.relation.masks.as_ptr(), g.relation.masks.len(),
+                g.names,
+                g.rules.as_ptr(), g.rules.len(),
+                log.as_ptr(), log.len(),
+                order.as_mut_ptr(), order.len(),
+                work.as_mut_ptr(), work.len(),
+                sets.as_mut_ptr(), sets.len(),
+                told.as_mut_ptr(),
+            )
+        }
+    }
 }
 
 fn answer<T>(number: u32, place: u64, log: u64, value: impl FnOnce() -> T) -> Result<T, Refused> {
@@ -576,4 +607,29 @@ impl Running {
         let [place, verdict, prefixes, taken] = told;
         answer(number, place, 0, || Standing { has_order: verdict == 1, prefixes, taken })
     }
+}
+
+/// A grammar in the place of states and moves: name 0 starts.
+#[derive(Clone, Copy, Debug)]
+pub struct Grammar<'a> {
+    pub relation: Relation<'a>,
+    pub names: usize,
+    pub rules: &'a [u16],
+}
+
+/// The rule that gives name n the names l and r; names are 0 to 15.
+pub const fn names_rule(n: u16, l: u16, r: u16) -> u16 {
+    4096 + 256 * n + 16 * l + r
+}
+
+/// The rule that gives name n the letter a.
+pub const fn letter_rule(n: u16, a: u16) -> u16 {
+    256 * n + a
+}
+
+/// Judges a log by a grammar; with an order, its first bytes in `order` are a log that exchanges reach and that can be derived from name 0.
+pub fn grammar(g: &Grammar, log: &[u8], order: &mut [u8], work: &mut [u32], sets: &mut [u16]) -> Result<Verdict, Refused> {
+    let mut told = [0; 4];
+    let number = numbers::grammar(g, log, order, work, sets, &mut told);
+    answer(number, told[0], 0, || Verdict { has_order: told[1] == 1, prefixes: told[2], looks: told[3] })
 }

@@ -3,11 +3,12 @@
 //! Valid calls of small size, calls with damage, files laid out freely and damaged, texts right and wrong. Every call is made twice, by the
 //! header's numbers and by the safe wrapper, on buffers with random content and random guards around; every buffer is compared whole afterwards,
 //! only the lent part of the work table is left out after refusal 10. Logs are judged by the courses that right texts type. All short texts are
-//! tried too. Lists of calls of the running judge are in `running.rs`, logs with terms in `terms.rs`, views in `views.rs`. A refusal that a function
-//! can give and never gave is a failure.
+//! tried too. Lists of calls of the running judge are in `running.rs`, logs with terms in `terms.rs`, views in `views.rs`, grammars in
+//! `grammars.rs`. A refusal that a function can give and never gave is a failure.
 
 mod courses;
 mod fumarehi;
+mod grammars;
 mod reference;
 mod running;
 mod terms;
@@ -28,7 +29,7 @@ const ENOUGH: u64 = 5;
 /// What every element of `told` holds before a call.
 const UNTOLD: u64 = 0xdead_beef_dead_beef;
 /// The last number of a refusal.
-const REFUSALS: usize = 20;
+const REFUSALS: usize = 22;
 /// All texts up to this length are tried.
 const LISTED_TEXT: usize = 5;
 
@@ -521,6 +522,7 @@ const FUNCTIONS: &[(&str, &[usize])] = &[
     ("run_question", &[2, 4, 6, 10]),
     ("judge_terms", &[2, 4, 6, 7, 8, 9, 10, 14, 15, 16]),
     ("view", &[2, 4, 6, 20, 7, 8, 9, 10]),
+    ("grammar", &[2, 4, 7, 8, 9, 10, 21, 22]),
 ];
 
 #[derive(Default)]
@@ -549,6 +551,7 @@ struct Seen {
     running: running::Met,
     terms: terms::Met,
     views: views::Met,
+    grammars: grammars::Met,
 }
 
 impl Seen {
@@ -593,6 +596,7 @@ impl Seen {
         self.running.print();
         self.terms.print();
         self.views.print();
+        self.grammars.print();
     }
 
     /// What a test of full size has met.
@@ -633,6 +637,7 @@ impl Seen {
         missing.extend(self.running.missing());
         missing.extend(self.terms.missing());
         missing.extend(self.views.missing());
+        missing.extend(self.grammars.missing());
         missing
     }
 }
@@ -1103,7 +1108,7 @@ fn check_listed(random: &mut Random, seen: &mut Seen) -> Checked {
 }
 
 fn check(random: &mut Random, seen: &mut Seen) -> Checked {
-    match random.below(150) {
+    match random.below(156) {
         0..=29 => check_judge(random, seen),
         30..=46 => check_table(random, seen),
         47..=58 => check_same(random, seen),
@@ -1116,7 +1121,8 @@ fn check(random: &mut Random, seen: &mut Seen) -> Checked {
         110..=113 => check_find(random, seen),
         114..=117 => running::check(random, seen),
         118..=133 => terms::check(random, seen),
-        _ => views::check(random, seen),
+        134..=149 => views::check(random, seen),
+        _ => grammars::check(random, seen),
     }
 }
 

@@ -80,7 +80,7 @@ fn state_bits(p: &Profile) -> Result<(), Refused> {
     if p.moves.iter().any(|&set| wrong(set)) || wrong(p.finals) { refuse(6) } else { Ok(()) }
 }
 
-fn relation(k: usize, masks: &[u16]) -> Result<(), Refused> {
+pub fn relation(k: usize, masks: &[u16]) -> Result<(), Refused> {
     letters_in_range(k, masks)?;
     mask_bits(masks)
 }

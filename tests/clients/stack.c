@@ -40,6 +40,9 @@ static uint32_t moves[512], table[NUMBERS];
 static uint32_t days[EVENTS], terms[24];
 static uint8_t log[EVENTS], order[EVENTS], file[6144], text[4096];
 static size_t text_len, file_len;
+enum { HALVED = 1024 }; /* letters that a grammar halves ten times */
+
+static uint16_t rules[64], sets[(HALVED + 1) * (HALVED + 1)];
 static uint64_t told[6], record[2];
 static uint32_t answer;
 
@@ -57,6 +60,7 @@ static void run_event_of(uint8_t letter) { answer = fumarehi_run_event(16, 32, 0
 static void run_start(void) { answer = fumarehi_run_start(16, 32, 0, 1, masks, 16, moves, 512, record, table, NUMBERS, told); }
 static void run_event(void) { run_event_of(0); }
 static void run_question(void) { answer = fumarehi_run_question(16, 32, 0, 1, masks, 16, moves, 512, record, table, NUMBERS, told); }
+static void grammar(void) { answer = fumarehi_grammar(16, masks, 16, 16, rules, 64, log, HALVED, order, EVENTS, table, NUMBERS, sets, (HALVED + 1) * (HALVED + 1), told); }
 static void expression(void) { answer = fumarehi_expression(16, text, text_len, moves, 512, told); }
 
 static void type(const char *part, size_t count)
@@ -113,6 +117,10 @@ int main(void)
         run_event_of(log[i]);
     print("run_event", run_event);
     print("run_question", run_question);
+    memset(log, 0, HALVED);
+    for (size_t i = 0; i < 64; i++)
+        rules[i] = i < 10 ? FUMAREHI_NAMES_RULE(i, i + 1, i + 1) : FUMAREHI_LETTER_RULE(10, 0);
+    print("grammar, 1,024 letters halved", grammar);
     type_nested("a", 0);
     print("expression, 31 letters in a row", expression);
     type_nested("a|", 0);

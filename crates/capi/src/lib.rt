@@ -13,6 +13,7 @@ ghost use Rattle.capi.specs.Numbers.{Building, Finding, Judging, compare
 ghost use Rattle.calls.specs.Calls.{Asking, Starting, Stepping};
 ghost use Rattle.term_calls.specs.TermCalls.{TermJudging};
 ghost use Rattle.view_calls.specs.ViewCalls.{Viewing};
+ghost use Rattle.grammar_calls.specs.GrammarCalls.{Judging as GrammarJudging};
 use comparison::Compared;
 use expression::Made;
 use filewriter::Writing;
@@ -417,4 +418,22 @@ pub extern "C" fn fumarehi_view(
         finals: finals,
     };
     view_calls::view(shape, visible, masks, moves, log, order, work, told)
+}
+
+// The judge for grammars.
+#[no_mangle]
+pub extern "C" fn fumarehi_grammar(
+    k: usize,
+    masks: &[u16],
+    names: usize,
+    rules: &[u16],
+    log: &[u8],
+    order: &mut [u8],
+    work: &mut [u32],
+    sets: &mut [u16],
+    told: &mut [u64; 4],
+) -> u32
+    ensures { λ r. ⌜ GrammarJudging k (now (masks .entry)) names (now (rules .entry)) (now (log .entry)) (now (order .entry)) (now (order .exit)) (now (work .entry)) (now (work .exit)) (now (sets .entry)) (now (sets .exit)) r (now (told .exit)) ⌝ }
+{
+    grammar_calls::judge(k, masks, names, rules, log, order, work, sets, told)
 }

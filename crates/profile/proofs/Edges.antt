@@ -15,7 +15,7 @@ use Rattle.profile.specs.Tables.{capacity, layout}
 use Rattle.profile.specs.Orders.{accepted-order, first-order, same?}
 use Rattle.profile.specs.Refusals.{admission-refusals, first-order-refusal, judge-refusal, lowest, refusal-number, refusal-place, same-refusal}
 use Rattle.profile.specs.declared.Refusal.{Refusal}
-use Rattle.profile.specs.declared.Refusal.the-variants.{ShortFile, OutOfRange, Distance, MaskBit, StateBit, LongLog, BadLetter, ShortBuffer, FullTable, BadText, DeepText, LongText, BadDay, BadTerm, NoTerm, ViewBit}
+use Rattle.profile.specs.declared.Refusal.the-variants.{ShortFile, OutOfRange, Distance, MaskBit, StateBit, LongLog, BadLetter, ShortBuffer, FullTable, BadText, DeepText, LongText, BadDay, BadTerm, NoTerm, ViewBit, BadRule, ShortSets}
 use Rattle.profile.proofs.Lists.{all-at, any-at, equal-test}
 use Rattle.profile.proofs.Cases.{ab, alt, free}
 
@@ -115,6 +115,8 @@ five-unused BadDay e = omega arith
 five-unused BadTerm e = omega arith
 five-unused NoTerm e = omega arith
 five-unused ViewBit e = omega arith
+five-unused BadRule e = omega arith
+five-unused ShortSets e = omega arith
 
 -- calls that are not refused get both verdicts: M3 none, M2 an order
 pub both-verdicts : (told (judge-refusal (alt ab) (1 ∷ 0 ∷ 1 ∷ []) 3 60) ≡ []) × (accepted-order (independent ab) (λ a. a) (automaton (alt ab)) (1 ∷ 0 ∷ 1 ∷ []) ≡ none)

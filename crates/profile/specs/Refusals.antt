@@ -15,7 +15,7 @@ use Rattle.profile.specs.Tables.{capacity, layout}
 use Rattle.profile.specs.declared.Check.{Check}
 use Rattle.profile.specs.declared.Check.the-variants.{Good, Bad}
 use Rattle.profile.specs.declared.Refusal.{Refusal}
-use Rattle.profile.specs.declared.Refusal.the-variants.{ShortFile, OutOfRange, Distance, MaskBit, StateBit, LongLog, BadLetter, ShortBuffer, FullTable, BadText, DeepText, LongText, BadDay, BadTerm, NoTerm, ViewBit}
+use Rattle.profile.specs.declared.Refusal.the-variants.{ShortFile, OutOfRange, Distance, MaskBit, StateBit, LongLog, BadLetter, ShortBuffer, FullTable, BadText, DeepText, LongText, BadDay, BadTerm, NoTerm, ViewBit, BadRule, ShortSets}
 
 -- "A refusal gives its number …"; "Symmetry is dropped, so 5 never occurs": no refusal has it
 abbrev pub refusal-number : Refusal → ℕ
@@ -35,6 +35,8 @@ refusal-number BadDay = 14
 refusal-number BadTerm = 15
 refusal-number NoTerm = 16
 refusal-number ViewBit = 20
+refusal-number BadRule = 21
+refusal-number ShortSets = 22
 
 -- "… and a place": "Place is 0 except at 8", and at 11 (document 02, Paper 1)
 abbrev pub refusal-place : Refusal → ℕ
@@ -54,6 +56,8 @@ refusal-place BadDay = 0
 refusal-place BadTerm = 0
 refusal-place NoTerm = 0
 refusal-place ViewBit = 0
+refusal-place BadRule = 0
+refusal-place ShortSets = 0
 
 -- the number S has a bit from n on
 abbrev pub bit-from : ℕ → ℕ → Bool

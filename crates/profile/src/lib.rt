@@ -27,6 +27,8 @@ pub enum Refusal {
     BadTerm,
     NoTerm,
     ViewBit,
+    BadRule,
+    ShortSets,
 }
 
 // The answer of a check: nothing is refused, or the lowest refusal that applies.

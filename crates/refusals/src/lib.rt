@@ -24,6 +24,8 @@ pub fn number(r: Refusal) -> u32
         Refusal::BadTerm => 15,
         Refusal::NoTerm => 16,
         Refusal::ViewBit => 20,
+        Refusal::BadRule => 21,
+        Refusal::ShortSets => 22,
     }
 }
 
@@ -48,5 +50,7 @@ pub fn place(r: Refusal) -> usize
         Refusal::BadTerm => 0,
         Refusal::NoTerm => 0,
         Refusal::ViewBit => 0,
+        Refusal::BadRule => 0,
+        Refusal::ShortSets => 0,
     }
 }

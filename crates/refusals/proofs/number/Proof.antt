@@ -53,6 +53,12 @@ enum-told-15 c = search needs
 enum-told-16 : tie.Need-enum-told-16
 enum-told-16 c = search needs
 
+enum-told-17 : tie.Need-enum-told-17
+enum-told-17 c = search needs
+
+enum-told-18 : tie.Need-enum-told-18
+enum-told-18 c = search needs
+
 returns : tie.Need-returns
 returns c = sym (ap refusal-number (c .enum-told .given .1))
 
@@ -101,6 +107,12 @@ returns-15 c = sym (ap refusal-number (c .enum-told15 .given .1))
 returns-16 : tie.Need-returns-16
 returns-16 c = sym (ap refusal-number (c .enum-told16 .given .1))
 
+returns-17 : tie.Need-returns-17
+returns-17 c = sym (ap refusal-number (c .enum-told17 .given .1))
+
+returns-18 : tie.Need-returns-18
+returns-18 c = sym (ap refusal-number (c .enum-told18 .given .1))
+
 pub number-spec : {M : Type 1} → statement M
 number-spec =
     tie.close
@@ -121,6 +133,8 @@ number-spec =
     enum-told-14
     enum-told-15
     enum-told-16
+    enum-told-17
+    enum-told-18
     returns
     returns-2
     returns-3
@@ -136,4 +150,6 @@ number-spec =
     returns-13
     returns-14
     returns-15
-    returns-16)
+    returns-16
+    returns-17
+    returns-18)

@@ -53,6 +53,12 @@ enum-told-13 c = search needs
 enum-told-14 : tie.Need-enum-told-14
 enum-told-14 c = search needs
 
+enum-told-15 : tie.Need-enum-told-15
+enum-told-15 c = search needs
+
+enum-told-16 : tie.Need-enum-told-16
+enum-told-16 c = search needs
+
 returns : tie.Need-returns
 returns c = sym (ap refusal-place (c .enum-told .given .1))
 
@@ -101,6 +107,12 @@ returns-15 c = sym (ap refusal-place (c .enum-told13 .given .1))
 returns-16 : tie.Need-returns-16
 returns-16 c = sym (ap refusal-place (c .enum-told14 .given .1))
 
+returns-17 : tie.Need-returns-17
+returns-17 c = sym (ap refusal-place (c .enum-told15 .given .1))
+
+returns-18 : tie.Need-returns-18
+returns-18 c = sym (ap refusal-place (c .enum-told16 .given .1))
+
 pub place-spec : {M : Type 1} → statement M
 place-spec =
     tie.close
@@ -121,6 +133,8 @@ place-spec =
     enum-told-12
     enum-told-13
     enum-told-14
+    enum-told-15
+    enum-told-16
     returns
     returns-2
     returns-3
@@ -136,4 +150,6 @@ place-spec =
     returns-13
     returns-14
     returns-15
-    returns-16)
+    returns-16
+    returns-17
+    returns-18)

@@ -1,0 +1,2 @@
+-- The work table of a judge for grammars.
+pub mod Bare

@@ -1,0 +1,2 @@
+-- The order that is written.
+pub mod Deriving

@@ -1,0 +1,2 @@
+-- The events between two prefixes.
+pub mod Gaps

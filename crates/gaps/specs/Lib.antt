@@ -1,0 +1,2 @@
+-- How two prefixes stand to each other.
+pub mod Gaps

@@ -1,0 +1,2 @@
+-- The judge for grammars.
+pub mod GrammarJudge

@@ -1,0 +1,2 @@
+-- The sets of names of pairs of prefixes.
+pub mod Pairs

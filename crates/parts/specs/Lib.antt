@@ -1,0 +1,2 @@
+-- The next step of an order.
+pub mod Parts
