@@ -4,11 +4,12 @@
 //! header's numbers and by the safe wrapper, on buffers with random content and random guards around; every buffer is compared whole afterwards,
 //! only the lent part of the work table is left out after refusal 10. Logs are judged by the courses that right texts type. All short texts are
 //! tried too. Lists of calls of the running judge are in `running.rs`, logs with terms in `terms.rs`, views in `views.rs`, grammars in
-//! `grammars.rs`. A refusal that a function can give and never gave is a failure.
+//! `grammars.rs`, logs judged twice, with few pairs and with more, in `nested.rs`. A refusal that a function can give and never gave is a failure.
 
 mod courses;
 mod fumarehi;
 mod grammars;
+mod nested;
 mod reference;
 mod running;
 mod terms;
@@ -552,6 +553,7 @@ struct Seen {
     terms: terms::Met,
     views: views::Met,
     grammars: grammars::Met,
+    nested: nested::Met,
 }
 
 impl Seen {
@@ -597,6 +599,7 @@ impl Seen {
         self.terms.print();
         self.views.print();
         self.grammars.print();
+        self.nested.print();
     }
 
     /// What a test of full size has met.
@@ -638,6 +641,7 @@ impl Seen {
         missing.extend(self.terms.missing());
         missing.extend(self.views.missing());
         missing.extend(self.grammars.missing());
+        missing.extend(self.nested.missing());
         missing
     }
 }
@@ -1108,7 +1112,7 @@ fn check_listed(random: &mut Random, seen: &mut Seen) -> Checked {
 }
 
 fn check(random: &mut Random, seen: &mut Seen) -> Checked {
-    match random.below(156) {
+    match random.below(162) {
         0..=29 => check_judge(random, seen),
         30..=46 => check_table(random, seen),
         47..=58 => check_same(random, seen),
@@ -1122,7 +1126,8 @@ fn check(random: &mut Random, seen: &mut Seen) -> Checked {
         114..=117 => running::check(random, seen),
         118..=133 => terms::check(random, seen),
         134..=149 => views::check(random, seen),
-        _ => grammars::check(random, seen),
+        150..=155 => grammars::check(random, seen),
+        _ => nested::check(random, seen),
     }
 }
 
