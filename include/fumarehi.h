@@ -19,6 +19,8 @@
  *   14  the days are not as many as the letters of the log, or one is no date from 1900-01-01 to 2199-12-31
  *   15  the terms break their rules: none or more than 12, a first day without a last, no such date, a first day after the last, not rising, overlapping
  *   16  the day of an event is in no term
+ *   18  the letter groups of a ceiling break their rules, are none or above 16, or hold a bit from k on
+ *   19  the ceiling is above 4,294,967,295
  *    9  an output buffer is shorter than what it must receive
  *   10  the records of all prefixes do not fit the work table, or the table of a running judge
  *   22  fewer than P * P sets of names
@@ -67,6 +69,8 @@ enum {
     FUMAREHI_BAD_DAY = 14,
     FUMAREHI_BAD_TERM = 15,
     FUMAREHI_NO_TERM = 16,
+    FUMAREHI_BAD_GROUPS = 18,
+    FUMAREHI_HIGH_CEILING = 19,
     FUMAREHI_VIEW_BIT = 20,
     FUMAREHI_BAD_RULE = 21,
     FUMAREHI_SHORT_SETS = 22
@@ -74,7 +78,7 @@ enum {
 
 /* The limits by name: the most letters, states and moves of a profile, the most letters of a log; the numbers of a record and those of them that have the
  * counts; the bytes that a file has beside its sections (2 for a mask, 4 for a move, 1 for a letter); the most brackets inside each other and the most
- * letters in typed courses; the most terms, each of two days. */
+ * letters in typed courses; the most terms, each of two days; the most groups of a ceiling. */
 #define FUMAREHI_MOST_LETTERS 16u
 #define FUMAREHI_MOST_STATES 32u
 #define FUMAREHI_MOST_MOVES (FUMAREHI_MOST_STATES * FUMAREHI_MOST_LETTERS)
@@ -85,6 +89,7 @@ enum {
 #define FUMAREHI_DEEPEST_BRACKETS 16u
 #define FUMAREHI_MOST_TYPED 31u
 #define FUMAREHI_MOST_TERMS 12u
+#define FUMAREHI_MOST_GROUPS 16u
 
 /* Judges a log. told: place, verdict, P, looks.
  * Verdict 1: some log that exchanges of neighbouring letters reach from the given one is accepted; the first log_len bytes of 'order' are the earliest such
@@ -291,6 +296,21 @@ uint32_t fumarehi_grammar(size_t k,
                           uint32_t *work, size_t work_len,
                           uint16_t *sets, size_t sets_len,
                           uint64_t told[4]);
+
+/* Tells a ceiling of P before a log is judged: how large a table to buy. told: place, ceiling.
+ * Groups are 1 to 16 masks, bit j for letter j. Together they hold every letter, and no two letters of one group may be exchanged, in either direction;
+ * a group may be empty, and a letter may be in several. The ceiling is the product, over the groups, of one plus the number of events in that group. P
+ * never exceeds it for this k, masks and log, whatever the states and moves are, with terms or without. Few groups, of letters that often come together
+ * in a log, give low ceilings; one group for each letter is always right. No buffer is lent. A table that is long enough, for a ceiling up to 429,496,729:
+ *
+ *     size_t work_len = told[1] * FUMAREHI_RECORD_NUMBERS;
+ *
+ * Refused by 2, 4, 7, 8, 18 and 19. */
+uint32_t fumarehi_ceiling(size_t k,
+                          const uint16_t *masks, size_t masks_len,
+                          const uint8_t *log, size_t log_len,
+                          const uint16_t *groups, size_t groups_len,
+                          uint64_t told[2]);
 
 #ifdef __cplusplus
 }

@@ -122,6 +122,13 @@ mod c {
             sets: *mut u16, sets_len: usize,
             told: *mut u64,
         ) -> u32;
+        pub fn fumarehi_ceiling(
+            k: usize,
+            masks: *const u16, masks_len: usize,
+            log: *const u8, log_len: usize,
+            groups: *const u16, groups_len: usize,
+            told: *mut u64,
+        ) -> u32;
     }
 }
 
@@ -163,6 +170,8 @@ pub enum Refusal {
     BadDay = 14,
     BadTerm = 15,
     NoTerm = 16,
+    BadGroups = 18,
+    HighCeiling = 19,
     ViewBit = 20,
     BadRule = 21,
     ShortSets = 22,
@@ -185,6 +194,8 @@ impl Refusal {
         Refusal::BadDay,
         Refusal::BadTerm,
         Refusal::NoTerm,
+        Refusal::BadGroups,
+        Refusal::HighCeiling,
         Refusal::ViewBit,
         Refusal::BadRule,
         Refusal::ShortSets,
@@ -379,6 +390,18 @@ pub mod numbers {
         unsafe { c::fumarehi_next_event(log.as_ptr(), log.len(), at) }
     }
 
+    pub fn ceiling(r: &Relation, log: &[u8], groups: &[u16], told: &mut [u64; 2]) -> u32 {
+        unsafe {
+            c::fumarehi_ceiling(
+                r.k,
+                r.masks.as_ptr(), r.masks.len(),
+                log.as_ptr(), log.len(),
+                groups.as_ptr(), groups.len(),
+                told.as_mut_ptr(),
+            )
+        }
+    }
+
     pub fn expression(k: usize, text: &[u8], moves: &mut [u32], told: &mut [u64; 4]) -> u32 {
         unsafe { c::fumarehi_expression(k, text.as_ptr(), text.len(), moves.as_mut_ptr(), moves.len(), told.as_mut_ptr()) }
     }
@@ -537,6 +560,13 @@ pub fn write_file(p: &Profile, log: &[u8], file: &mut [u8]) -> Result<usize, Ref
     let mut told = [0; 2];
     let number = numbers::write_file(p, log, file, &mut told);
     answer(number, told[0], 0, || told[1] as usize)
+}
+
+/// A ceiling of P for a log, from groups of letters of which no two may be exchanged.
+pub fn ceiling(r: &Relation, log: &[u8], groups: &[u16]) -> Result<u32, Refused> {
+    let mut told = [0; 2];
+    let number = numbers::ceiling(r, log, groups, &mut told);
+    answer(number, told[0], 0, || told[1] as u32)
 }
 
 /// Makes a profile of courses typed as an expression; its moves go to the start of the buffer.

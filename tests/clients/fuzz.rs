@@ -4,8 +4,10 @@
 //! header's numbers and by the safe wrapper, on buffers with random content and random guards around; every buffer is compared whole afterwards,
 //! only the lent part of the work table is left out after refusal 10. Logs are judged by the courses that right texts type. All short texts are
 //! tried too. Lists of calls of the running judge are in `running.rs`, logs with terms in `terms.rs`, views in `views.rs`, grammars in
-//! `grammars.rs`, logs judged twice, with few pairs and with more, in `nested.rs`. A refusal that a function can give and never gave is a failure.
+//! `grammars.rs`, calls for a ceiling in `ceilings.rs`, logs judged twice, with few pairs and with more, in `nested.rs`. A refusal that a function
+//! can give and never gave is a failure.
 
+mod ceilings;
 mod courses;
 mod fumarehi;
 mod grammars;
@@ -524,6 +526,7 @@ const FUNCTIONS: &[(&str, &[usize])] = &[
     ("judge_terms", &[2, 4, 6, 7, 8, 9, 10, 14, 15, 16]),
     ("view", &[2, 4, 6, 20, 7, 8, 9, 10]),
     ("grammar", &[2, 4, 7, 8, 9, 10, 21, 22]),
+    ("ceiling", &[2, 4, 7, 8, 18, 19]),
 ];
 
 #[derive(Default)]
@@ -554,6 +557,7 @@ struct Seen {
     views: views::Met,
     grammars: grammars::Met,
     nested: nested::Met,
+    ceilings: ceilings::Met,
 }
 
 impl Seen {
@@ -600,6 +604,7 @@ impl Seen {
         self.views.print();
         self.grammars.print();
         self.nested.print();
+        self.ceilings.print();
     }
 
     /// What a test of full size has met.
@@ -642,6 +647,7 @@ impl Seen {
         missing.extend(self.views.missing());
         missing.extend(self.grammars.missing());
         missing.extend(self.nested.missing());
+        missing.extend(self.ceilings.missing());
         missing
     }
 }
@@ -1112,7 +1118,7 @@ fn check_listed(random: &mut Random, seen: &mut Seen) -> Checked {
 }
 
 fn check(random: &mut Random, seen: &mut Seen) -> Checked {
-    match random.below(162) {
+    match random.below(170) {
         0..=29 => check_judge(random, seen),
         30..=46 => check_table(random, seen),
         47..=58 => check_same(random, seen),
@@ -1127,7 +1133,8 @@ fn check(random: &mut Random, seen: &mut Seen) -> Checked {
         118..=133 => terms::check(random, seen),
         134..=149 => views::check(random, seen),
         150..=155 => grammars::check(random, seen),
-        _ => nested::check(random, seen),
+        156..=161 => nested::check(random, seen),
+        _ => ceilings::check(random, seen),
     }
 }
 

@@ -35,7 +35,7 @@ impl Met {
     }
 }
 
-fn note(seen: &mut Seen, name: &str, refused: Option<&Refused>) {
+pub fn note(seen: &mut Seen, name: &str, refused: Option<&Refused>) {
     let function = FUNCTIONS.iter().position(|(function, _)| *function == name).expect("a function of the list");
     seen.answer(function, refused);
 }

@@ -33,7 +33,7 @@ static size_t used(void (*call)(void))
 
 /* ---- Calls ---- */
 
-static uint16_t masks[16];
+static uint16_t masks[16], groups[2] = {0xFFFD, 2};
 enum { EVENTS = 4000, NUMBERS = 10 * 4400 }; /* the log has 4,251 prefixes */
 
 static uint32_t moves[512], table[NUMBERS];
@@ -61,6 +61,7 @@ static void run_start(void) { answer = fumarehi_run_start(16, 32, 0, 1, masks, 1
 static void run_event(void) { run_event_of(0); }
 static void run_question(void) { answer = fumarehi_run_question(16, 32, 0, 1, masks, 16, moves, 512, record, table, NUMBERS, told); }
 static void grammar(void) { answer = fumarehi_grammar(16, masks, 16, 16, rules, 64, log, HALVED, order, EVENTS, table, NUMBERS, sets, (HALVED + 1) * (HALVED + 1), told); }
+static void ceiling(void) { answer = fumarehi_ceiling(16, masks, 16, log, EVENTS, groups, 2, told); }
 static void expression(void) { answer = fumarehi_expression(16, text, text_len, moves, 512, told); }
 
 static void type(const char *part, size_t count)
@@ -117,6 +118,7 @@ int main(void)
         run_event_of(log[i]);
     print("run_event", run_event);
     print("run_question", run_question);
+    print("ceiling", ceiling);
     memset(log, 0, HALVED);
     for (size_t i = 0; i < 64; i++)
         rules[i] = i < 10 ? FUMAREHI_NAMES_RULE(i, i + 1, i + 1) : FUMAREHI_LETTER_RULE(10, 0);

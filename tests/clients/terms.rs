@@ -238,7 +238,7 @@ fn solve(call: &Call) -> Result<Solved, Refused> {
 // Random days and terms.
 
 /// Terms of one to six days, touching or up to four days apart, laid out from an edge of the calendar or from anywhere; the last may end with it.
-fn some_terms(random: &mut Random) -> Vec<u32> {
+pub fn some_terms(random: &mut Random) -> Vec<u32> {
     let all = calendar();
     let many = random.pick(&[1, 1, 2, 2, 2, 3, 4, 7, 12, 12]);
     let room = all.len() - 12 * 10;
@@ -269,7 +269,7 @@ fn day_of(random: &mut Random, terms: &[u32], term: usize) -> u32 {
 }
 
 /// All events in one term, or in terms that rise, or in any of a few.
-fn some_days(random: &mut Random, terms: &[u32], len: usize) -> Vec<u32> {
+pub fn some_days(random: &mut Random, terms: &[u32], len: usize) -> Vec<u32> {
     let many = terms.len() / 2;
     let few = random.within(1..many.min(4) + 1);
     let kind = random.below(4);

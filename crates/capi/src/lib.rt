@@ -14,6 +14,7 @@ ghost use Rattle.calls.specs.Calls.{Asking, Starting, Stepping};
 ghost use Rattle.term_calls.specs.TermCalls.{TermJudging};
 ghost use Rattle.view_calls.specs.ViewCalls.{Viewing};
 ghost use Rattle.grammar_calls.specs.GrammarCalls.{Judging as GrammarJudging};
+ghost use Rattle.ceiling_calls.specs.CeilingCalls.{Bounding};
 use comparison::Compared;
 use expression::Made;
 use filewriter::Writing;
@@ -436,4 +437,18 @@ pub extern "C" fn fumarehi_grammar(
     ensures { λ r. ⌜ GrammarJudging k (now (masks .entry)) names (now (rules .entry)) (now (log .entry)) (now (order .entry)) (now (order .exit)) (now (work .entry)) (now (work .exit)) (now (sets .entry)) (now (sets .exit)) r (now (told .exit)) ⌝ }
 {
     grammar_calls::judge(k, masks, names, rules, log, order, work, sets, told)
+}
+
+// A ceiling: place, ceiling.
+#[no_mangle]
+pub extern "C" fn fumarehi_ceiling(
+    k: usize,
+    masks: &[u16],
+    log: &[u8],
+    groups: &[u16],
+    told: &mut [u64; 2],
+) -> u32
+    ensures { λ r. ⌜ Bounding k (now (masks .entry)) (now (log .entry)) (now (groups .entry)) r (now (told .exit)) ⌝ }
+{
+    ceiling_calls::tell(k, masks, log, groups, told)
 }

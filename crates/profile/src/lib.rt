@@ -26,6 +26,8 @@ pub enum Refusal {
     BadDay,
     BadTerm,
     NoTerm,
+    BadGroups,
+    HighCeiling,
     ViewBit,
     BadRule,
     ShortSets,

@@ -59,6 +59,12 @@ enum-told-15 c = search needs
 enum-told-16 : tie.Need-enum-told-16
 enum-told-16 c = search needs
 
+enum-told-17 : tie.Need-enum-told-17
+enum-told-17 c = search needs
+
+enum-told-18 : tie.Need-enum-told-18
+enum-told-18 c = search needs
+
 returns : tie.Need-returns
 returns c = sym (ap refusal-place (c .enum-told .given .1))
 
@@ -113,6 +119,12 @@ returns-17 c = sym (ap refusal-place (c .enum-told15 .given .1))
 returns-18 : tie.Need-returns-18
 returns-18 c = sym (ap refusal-place (c .enum-told16 .given .1))
 
+returns-19 : tie.Need-returns-19
+returns-19 c = sym (ap refusal-place (c .enum-told17 .given .1))
+
+returns-20 : tie.Need-returns-20
+returns-20 c = sym (ap refusal-place (c .enum-told18 .given .1))
+
 pub place-spec : {M : Type 1} → statement M
 place-spec =
     tie.close
@@ -135,6 +147,8 @@ place-spec =
     enum-told-14
     enum-told-15
     enum-told-16
+    enum-told-17
+    enum-told-18
     returns
     returns-2
     returns-3
@@ -152,4 +166,6 @@ place-spec =
     returns-15
     returns-16
     returns-17
-    returns-18)
+    returns-18
+    returns-19
+    returns-20)

@@ -1,0 +1,3 @@
+-- The answers, and what they say.
+pub mod Answers
+pub mod Demands

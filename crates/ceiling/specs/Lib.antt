@@ -1,0 +1,2 @@
+-- The answer of a ceiling.
+pub mod Ceiling

@@ -1,0 +1,2 @@
+-- Letter groups, the ceiling, and its refusals.
+pub mod Ceilings

@@ -1,0 +1,2 @@
+-- The ceiling by the counts of the letters.
+pub mod Products

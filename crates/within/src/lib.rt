@@ -1,0 +1,1 @@
+// What a ceiling says of the judge's answers; no code.
