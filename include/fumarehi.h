@@ -23,12 +23,14 @@
  *   19  the ceiling is above 4,294,967,295
  *    9  an output buffer is shorter than what it must receive
  *   10  the records of all prefixes do not fit the work table, or the table of a running judge
+ *   17  the cost table has fewer than P * s numbers
  *   22  fewer than P * P sets of names
  *
  * Each call writes every element of 'told'. Element 0 is the refusal's place (fumarehi_find tells none): 0 but for refusals 8 and 11, and 0 where
  * nothing is refused. After a refusal the other elements are 0 (fumarehi_same also tells the log). Each array lent as a buffer is unchanged after a
- * refusal, but for the work table of fumarehi_judge, fumarehi_judge_terms, fumarehi_table and fumarehi_grammar after refusal 10, and of the last after 22,
- * whose content is then free, and that of fumarehi_view, which is then cleared.
+ * refusal, but for the work table of fumarehi_judge, fumarehi_judge_terms, fumarehi_table, fumarehi_closest, fumarehi_closest_terms and fumarehi_grammar
+ * after refusal 10, of the two for the closest order after 17 and of fumarehi_grammar after 22, whose content is then free, and that of fumarehi_view after
+ * 10, which is then cleared.
  *
  * Arguments. A slice is a pointer and its length in elements. No argument is out of bounds for these functions: they answer for all numbers and all
  * lengths. What the caller owes, since nothing here can test it:
@@ -36,7 +38,7 @@
  *   - it points to as many elements as the length says, which stay allocated and, unless the type is const, are no other argument's, during the call;
  *   - no other thread writes them meanwhile.
  * The functions keep no pointer, use no global data, no heap and no file, and may be called by several threads at once. The most stack measured is
- * 23.2 KB in fumarehi_judge_terms, 17.6 KB in fumarehi_view, 11.6 KB in the others.
+ * 23.2 KB in fumarehi_judge_terms, 19.3 KB in fumarehi_closest, 17.6 KB in fumarehi_view, 11.6 KB in the others.
  *
  * A profile is k letters (1 to 16), s states (1 to 32), the start state (below s), the set of final states (bit q for state q), k masks (bit j of mask i
  * is set where letter i directly followed by j may become j followed by i: an exchange; the other direction is bit i of mask j) and s * k moves (at
@@ -69,6 +71,7 @@ enum {
     FUMAREHI_BAD_DAY = 14,
     FUMAREHI_BAD_TERM = 15,
     FUMAREHI_NO_TERM = 16,
+    FUMAREHI_SHORT_COSTS = 17,
     FUMAREHI_BAD_GROUPS = 18,
     FUMAREHI_HIGH_CEILING = 19,
     FUMAREHI_VIEW_BIT = 20,
@@ -211,6 +214,40 @@ uint32_t fumarehi_expression(size_t k,
                              const uint8_t *text, size_t text_len,
                              uint32_t *moves, size_t moves_len,
                              uint64_t told[4]);
+
+/* Finds the order closest to what was recorded. told: place, verdict, P, looks, swaps, floor.
+ * Verdict, P, looks and the work table are those of fumarehi_judge; with verdict 0 'order' stays, and swaps and floor are told as 0. With verdict 1 the
+ * first log_len bytes of 'order' are an accepted log that exchanges reach, the others stay. The swaps of an order are the pairs of events that stand the
+ * other way round in it than in the log. The budget counts pairs of a prefix and a state of its forward set (number 8 of its record): with as many pairs
+ * as bits are set in these numbers of all records, or more, the order is the one with the fewest swaps, of several the earliest in letter order, and floor
+ * is its swaps; UINT64_MAX is always enough. With a smaller budget the order is the judge's, and floor is the smaller of the fewest swaps of any accepted
+ * order and the swaps of the pair that stands after 'budget' others when all are ranked by the fewest swaps with which the prefix, brought to the front,
+ * leads to the state. No accepted order has fewer swaps than floor. 'costs' has P * s numbers, whose content after an answer is free.
+ * Refused by 2, 4, 6 to 10 and 17, in this order, also where the verdict would be 0. */
+uint32_t fumarehi_closest(size_t k, size_t s, size_t start, uint32_t finals,
+                          const uint16_t *masks, size_t masks_len,
+                          const uint32_t *moves, size_t moves_len,
+                          const uint8_t *log, size_t log_len,
+                          uint8_t *order, size_t order_len,
+                          uint32_t *work, size_t work_len,
+                          uint32_t *costs, size_t costs_len,
+                          uint64_t budget,
+                          uint64_t told[6]);
+
+/* The same for a log with a day for each event and with terms, given as to fumarehi_judge_terms: an exchange also needs both events in one term. Verdict, P,
+ * looks and the work table are those of fumarehi_judge_terms, and so is the order with a small budget.
+ * Refused by 2, 4, 6 to 8, 14 to 16, 9, 10 and 17, in this order. */
+uint32_t fumarehi_closest_terms(size_t k, size_t s, size_t start, uint32_t finals,
+                                const uint16_t *masks, size_t masks_len,
+                                const uint32_t *moves, size_t moves_len,
+                                const uint8_t *log, size_t log_len,
+                                const uint32_t *days, size_t days_len,
+                                const uint32_t *terms, size_t terms_len,
+                                uint8_t *order, size_t order_len,
+                                uint32_t *work, size_t work_len,
+                                uint32_t *costs, size_t costs_len,
+                                uint64_t budget,
+                                uint64_t told[6]);
 
 /* A running judge: the verdict while events come in. Its record belongs to the caller: P, then the number of events taken. Start it once, then give it
  * events and ask it at any moment, with the same profile, and with the record and the table lent each time as the last call left them:

@@ -15,6 +15,7 @@ ghost use Rattle.term_calls.specs.TermCalls.{TermJudging};
 ghost use Rattle.view_calls.specs.ViewCalls.{Viewing};
 ghost use Rattle.grammar_calls.specs.GrammarCalls.{Judging as GrammarJudging};
 ghost use Rattle.ceiling_calls.specs.CeilingCalls.{Bounding};
+ghost use Rattle.closest_calls.specs.Calls.{Closing, TermClosing};
 use comparison::Compared;
 use expression::Made;
 use filewriter::Writing;
@@ -451,4 +452,72 @@ pub extern "C" fn fumarehi_ceiling(
     ensures { λ r. ⌜ Bounding k (now (masks .entry)) (now (log .entry)) (now (groups .entry)) r (now (told .exit)) ⌝ }
 {
     ceiling_calls::tell(k, masks, log, groups, told)
+}
+
+// The order closest to what was recorded: place, verdict, P, looks, swaps, floor.
+#[no_mangle]
+pub extern "C" fn fumarehi_closest(
+    k: usize,
+    s: usize,
+    start: usize,
+    finals: u32,
+    masks: &[u16],
+    moves: &[u32],
+    log: &[u8],
+    order: &mut [u8],
+    work: &mut [u32],
+    costs: &mut [u32],
+    budget: u64,
+    told: &mut [u64; 6],
+) -> u32
+    ensures { λ r. ⌜ Closing (profile-of (record { k = k; s = s; start = start; finals = finals }) (now (masks .entry)) (now (moves .entry))) (now (log .entry)) budget (now (order .entry)) (now (order .exit)) (now (work .entry)) (now (work .exit)) (now (costs .entry)) (now (costs .exit)) r (now (told .exit)) ⌝ }
+{
+    let shape = Shape {
+        k: k,
+        s: s,
+        start: start,
+        finals: finals,
+    };
+    closest_calls::closest(shape, masks, moves, log, order, work, costs, budget, told)
+}
+
+// The same for a log with terms; days and terms as the judge with terms has them.
+#[no_mangle]
+pub extern "C" fn fumarehi_closest_terms(
+    k: usize,
+    s: usize,
+    start: usize,
+    finals: u32,
+    masks: &[u16],
+    moves: &[u32],
+    log: &[u8],
+    days: &[u32],
+    terms: &[u32],
+    order: &mut [u8],
+    work: &mut [u32],
+    costs: &mut [u32],
+    budget: u64,
+    told: &mut [u64; 6],
+) -> u32
+    ensures { λ r. ⌜ TermClosing (profile-of (record { k = k; s = s; start = start; finals = finals }) (now (masks .entry)) (now (moves .entry))) (now (log .entry)) (now (days .entry)) (now (terms .entry)) budget (now (order .entry)) (now (order .exit)) (now (work .entry)) (now (work .exit)) (now (costs .entry)) (now (costs .exit)) r (now (told .exit)) ⌝ }
+{
+    let shape = Shape {
+        k: k,
+        s: s,
+        start: start,
+        finals: finals,
+    };
+    closest_calls::closest_terms(
+        shape,
+        masks,
+        moves,
+        log,
+        days,
+        terms,
+        order,
+        work,
+        costs,
+        budget,
+        told,
+    )
 }

@@ -15,7 +15,7 @@ use Rattle.profile.specs.Tables.{capacity, layout}
 use Rattle.profile.specs.Orders.{accepted-order, first-order, same?}
 use Rattle.profile.specs.Refusals.{admission-refusals, first-order-refusal, judge-refusal, lowest, refusal-number, refusal-place, same-refusal}
 use Rattle.profile.specs.declared.Refusal.{Refusal}
-use Rattle.profile.specs.declared.Refusal.the-variants.{ShortFile, OutOfRange, Distance, MaskBit, StateBit, LongLog, BadLetter, ShortBuffer, FullTable, BadText, DeepText, LongText, BadDay, BadTerm, NoTerm, BadGroups, HighCeiling, ViewBit, BadRule, ShortSets}
+use Rattle.profile.specs.declared.Refusal.the-variants.{ShortFile, OutOfRange, Distance, MaskBit, StateBit, LongLog, BadLetter, ShortBuffer, FullTable, BadText, DeepText, LongText, BadDay, BadTerm, NoTerm, ShortCosts, BadGroups, HighCeiling, ViewBit, BadRule, ShortSets}
 use Rattle.profile.proofs.Lists.{all-at, any-at, equal-test}
 use Rattle.profile.proofs.Cases.{ab, alt, free}
 
@@ -114,6 +114,7 @@ five-unused LongText e = omega arith
 five-unused BadDay e = omega arith
 five-unused BadTerm e = omega arith
 five-unused NoTerm e = omega arith
+five-unused ShortCosts e = omega arith
 five-unused BadGroups e = omega arith
 five-unused HighCeiling e = omega arith
 five-unused ViewBit e = omega arith

@@ -15,7 +15,7 @@ use Rattle.profile.specs.Tables.{capacity, layout}
 use Rattle.profile.specs.declared.Check.{Check}
 use Rattle.profile.specs.declared.Check.the-variants.{Good, Bad}
 use Rattle.profile.specs.declared.Refusal.{Refusal}
-use Rattle.profile.specs.declared.Refusal.the-variants.{ShortFile, OutOfRange, Distance, MaskBit, StateBit, LongLog, BadLetter, ShortBuffer, FullTable, BadText, DeepText, LongText, BadDay, BadTerm, NoTerm, BadGroups, HighCeiling, ViewBit, BadRule, ShortSets}
+use Rattle.profile.specs.declared.Refusal.the-variants.{ShortFile, OutOfRange, Distance, MaskBit, StateBit, LongLog, BadLetter, ShortBuffer, FullTable, BadText, DeepText, LongText, BadDay, BadTerm, NoTerm, ShortCosts, BadGroups, HighCeiling, ViewBit, BadRule, ShortSets}
 
 -- "A refusal gives its number …"; "Symmetry is dropped, so 5 never occurs": no refusal has it
 abbrev pub refusal-number : Refusal → ℕ
@@ -34,6 +34,7 @@ refusal-number LongText = 13
 refusal-number BadDay = 14
 refusal-number BadTerm = 15
 refusal-number NoTerm = 16
+refusal-number ShortCosts = 17
 refusal-number BadGroups = 18
 refusal-number HighCeiling = 19
 refusal-number ViewBit = 20
@@ -57,6 +58,7 @@ refusal-place LongText = 0
 refusal-place BadDay = 0
 refusal-place BadTerm = 0
 refusal-place NoTerm = 0
+refusal-place ShortCosts = 0
 refusal-place BadGroups = 0
 refusal-place HighCeiling = 0
 refusal-place ViewBit = 0

@@ -26,6 +26,7 @@ pub enum Refusal {
     BadDay,
     BadTerm,
     NoTerm,
+    ShortCosts,
     BadGroups,
     HighCeiling,
     ViewBit,

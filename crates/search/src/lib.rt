@@ -11,7 +11,7 @@ pub enum Found {
 }
 
 // The counts a stand before b: by their totals, then by the counts, the count of letter 0 first.
-fn stands_before(a: Counts, b: Counts) -> bool
+pub fn stands_before(a: Counts, b: Counts) -> bool
     ensures { λ r. ⌜ r ≡ stands-before? (words a) (words b) ⌝ }
 {
     let m = counts::total_of(a);

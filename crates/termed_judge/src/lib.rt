@@ -17,7 +17,7 @@ use table::Built;
 use verdict::Judged;
 
 // Fills the table with the records of events that are codes; the log has their letters.
-fn fill_coded(
+pub fn fill_coded(
     table: &mut [u32],
     shape: Shape,
     masks: &[u16],

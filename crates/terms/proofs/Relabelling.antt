@@ -28,7 +28,7 @@ map-flat-map : {A B C : Type 0} (g : B → C) (f : A → List B) (l : List A) �
 map-flat-map g f [] = refl
 map-flat-map g f (a ∷ l) = map-append g (f a) (flat-map f l) ∙ ap (λ r. map g (f a) ++ r) (map-flat-map g f l)
 
-map-twice : {A B C : Type 0} (g : B → C) (f : A → B) (l : List A) → map g (map f l) ≡ map (λ a. g (f a)) l
+pub map-twice : {A B C : Type 0} (g : B → C) (f : A → B) (l : List A) → map g (map f l) ≡ map (λ a. g (f a)) l
 map-twice g f [] = refl
 map-twice g f (a ∷ l) = ap (_∷_ (g (f a))) (map-twice g f l)
 
@@ -40,11 +40,11 @@ union-on : {A : Type 0} (f g : A → ℕ) (l : List A) → ((a : A) → Mem a l 
 union-on f g [] h = refl
 union-on f g (a ∷ l) h = ap₂ bitOr (h a (List·Memᴰ·head refl)) (union-on f g l (λ b m. h b (List·Memᴰ·tail m)))
 
-map-on : {A B : Type 0} (f g : A → B) (l : List A) → ((a : A) → Mem a l → f a ≡ g a) → map f l ≡ map g l
+pub map-on : {A B : Type 0} (f g : A → B) (l : List A) → ((a : A) → Mem a l → f a ≡ g a) → map f l ≡ map g l
 map-on f g [] h = refl
 map-on f g (a ∷ l) h = ap₂ _∷_ (h a (List·Memᴰ·head refl)) (map-on f g l (λ b m. h b (List·Memᴰ·tail m)))
 
-filter-map : {A B : Type 0} (p : B → Bool) (f : A → B) (l : List A) → filter p (map f l) ≡ map f (filter (λ a. p (f a)) l)
+pub filter-map : {A B : Type 0} (p : B → Bool) (f : A → B) (l : List A) → filter p (map f l) ≡ map f (filter (λ a. p (f a)) l)
 filter-map p f [] = refl
 filter-map p f (a ∷ l) = go (p (f a)) refl (filter-map p f l)
   where
@@ -80,7 +80,7 @@ module _ (may may′ : ℕ → ℕ → Bool) (letter letter′ : ℕ → ℕ) (f
       (λ n. subst (λ l. T (all ok l)) (n .3) (both (ok b) (all ok (n .0)) (fst-of (ok b) (all ok u) k) (insertions-ok a u h (snd-of (ok b) (all ok u) k) (n .0) (n .2))))
       (insert-cases may a b u m)
 
-  orders-ok : (w : List ℕ) → T (all ok w) → (v : List ℕ) → Mem v (orders may w) → T (all ok v)
+  pub orders-ok : (w : List ℕ) → T (all ok w) → (v : List ℕ) → Mem v (orders may w) → T (all ok v)
   orders-ok [] h v m = ⊎-elim (λ e. subst (λ l. T (all ok l)) (sym e) tt) (λ n. absurd (List·Memᴰ·not-nil n)) (List·Memᴰ·cases-cons m)
   orders-ok (a ∷ w) h v m =
       let n = flat-map-at (insertions may a) (orders may w) m in
@@ -100,7 +100,7 @@ module _ (may may′ : ℕ → ℕ → Bool) (letter letter′ : ℕ → ℕ) (f
   count-named [] h x = refl
   count-named (a ∷ w) h x = ap₂ (λ y n. one y x + n) (same-letter a (fst-of (ok a) (all ok w) h)) (count-named w (snd-of (ok a) (all ok w) h) x)
 
-  marked-named : (w : List ℕ) → T (all ok w) → (c : ℕ → ℕ) → marked letter′ (map f w) c ≡ map f (marked letter w c)
+  pub marked-named : (w : List ℕ) → T (all ok w) → (c : ℕ → ℕ) → marked letter′ (map f w) c ≡ map f (marked letter w c)
   marked-named [] h c = refl
   marked-named (a ∷ w) h c = go (c (letter a)) refl (marked-named w (snd-of (ok a) (all ok w) h))
     where
@@ -113,7 +113,7 @@ module _ (may may′ : ℕ → ℕ → Bool) (letter letter′ : ℕ → ℕ) (f
           marked-suc may′ letter′ (f a) (map f w) c (ap c e ∙ q) ∙ ap (_∷_ (f a)) (ap (λ y. marked letter′ (map f w) (less c y)) e ∙ ih (less c (letter a)))
           ∙ sym (ap (map f) (marked-suc may letter a w c q))
 
-  unmarked-named : (w : List ℕ) → T (all ok w) → (c : ℕ → ℕ) → unmarked letter′ (map f w) c ≡ map f (unmarked letter w c)
+  pub unmarked-named : (w : List ℕ) → T (all ok w) → (c : ℕ → ℕ) → unmarked letter′ (map f w) c ≡ map f (unmarked letter w c)
   unmarked-named [] h c = refl
   unmarked-named (a ∷ w) h c = go (c (letter a)) refl (unmarked-named w (snd-of (ok a) (all ok w) h))
     where
@@ -126,7 +126,7 @@ module _ (may may′ : ℕ → ℕ → Bool) (letter letter′ : ℕ → ℕ) (f
           unmarked-suc may′ letter′ (f a) (map f w) c (ap c e ∙ q) ∙ ap (λ y. unmarked letter′ (map f w) (less c y)) e ∙ ih (less c (letter a))
           ∙ sym (ap (map f) (unmarked-suc may letter a w c q))
 
-  marked-ok : (w : List ℕ) → T (all ok w) → (c : ℕ → ℕ) → T (all ok (marked letter w c)) × T (all ok (unmarked letter w c))
+  pub marked-ok : (w : List ℕ) → T (all ok w) → (c : ℕ → ℕ) → T (all ok (marked letter w c)) × T (all ok (unmarked letter w c))
   marked-ok [] h c = (tt, tt)
   marked-ok (a ∷ w) h c = go (c (letter a)) refl (marked-ok w (snd-of (ok a) (all ok w) h))
     where
@@ -176,7 +176,7 @@ module _ (may may′ : ℕ → ℕ → Bool) (letter letter′ : ℕ → ℕ) (f
   -- ---- orders and sets of states
 
   module _ (M : Automaton) where
-    run-named : (u : List ℕ) → T (all ok u) → (S : ℕ) → run M letter′ S (map f u) ≡ run M letter S u
+    pub run-named : (u : List ℕ) → T (all ok u) → (S : ℕ) → run M letter′ S (map f u) ≡ run M letter S u
     run-named [] h S = refl
     run-named (a ∷ u) h S = ap (λ y. run M letter′ (M .step S y) (map f u)) (same-letter a (fst-of (ok a) (all ok u) h)) ∙ run-named u (snd-of (ok a) (all ok u) h) (M .step S (letter a))
 
@@ -185,7 +185,7 @@ module _ (may may′ : ℕ → ℕ → Bool) (letter letter′ : ℕ → ℕ) (f
     run-back-named (a ∷ u) h R = ap₂ (M .back) (run-back-named u (snd-of (ok a) (all ok u) h) R) (same-letter a (fst-of (ok a) (all ok u) h))
 
     module _ (w : List ℕ) (h : T (all ok w)) where
-      forward-named : (c : ℕ → ℕ) → forward may′ letter′ M (map f w) c ≡ forward may letter M w c
+      pub forward-named : (c : ℕ → ℕ) → forward may′ letter′ M (map f w) c ≡ forward may letter M w c
       forward-named c =
           let m = marked letter w c in
           let km = marked-ok w h c .0 in

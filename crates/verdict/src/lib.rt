@@ -25,7 +25,7 @@ pub enum Judged {
 }
 
 // The lowest refusal of a call whose order buffer is too short: one of the profile, one of the log, or 9.
-fn refusal_of_short(shape: Shape, masks: &[u16], moves: &[u32], log: &[u8]) -> Refusal
+pub fn refusal_of_short(shape: Shape, masks: &[u16], moves: &[u32], log: &[u8]) -> Refusal
     ensures { λ r. ⌜ some r
         ≡ lowest (profile-refusals (profile-of shape (now (masks .entry)) (now (moves .entry))) ++ (log-refusals (shape .k) (now (log .entry)) ++ ((true, ShortBuffer) ∷ []))) ⌝ }
 {

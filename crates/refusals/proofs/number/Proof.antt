@@ -65,6 +65,9 @@ enum-told-19 c = search needs
 enum-told-20 : tie.Need-enum-told-20
 enum-told-20 c = search needs
 
+enum-told-21 : tie.Need-enum-told-21
+enum-told-21 c = search needs
+
 returns : tie.Need-returns
 returns c = sym (ap refusal-number (c .enum-told .given .1))
 
@@ -125,6 +128,9 @@ returns-19 c = sym (ap refusal-number (c .enum-told19 .given .1))
 returns-20 : tie.Need-returns-20
 returns-20 c = sym (ap refusal-number (c .enum-told20 .given .1))
 
+returns-21 : tie.Need-returns-21
+returns-21 c = sym (ap refusal-number (c .enum-told21 .given .1))
+
 pub number-spec : {M : Type 1} → statement M
 number-spec =
     tie.close
@@ -149,6 +155,7 @@ number-spec =
     enum-told-18
     enum-told-19
     enum-told-20
+    enum-told-21
     returns
     returns-2
     returns-3
@@ -168,4 +175,5 @@ number-spec =
     returns-17
     returns-18
     returns-19
-    returns-20)
+    returns-20
+    returns-21)

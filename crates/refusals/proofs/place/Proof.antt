@@ -65,6 +65,9 @@ enum-told-17 c = search needs
 enum-told-18 : tie.Need-enum-told-18
 enum-told-18 c = search needs
 
+enum-told-19 : tie.Need-enum-told-19
+enum-told-19 c = search needs
+
 returns : tie.Need-returns
 returns c = sym (ap refusal-place (c .enum-told .given .1))
 
@@ -125,6 +128,9 @@ returns-19 c = sym (ap refusal-place (c .enum-told17 .given .1))
 returns-20 : tie.Need-returns-20
 returns-20 c = sym (ap refusal-place (c .enum-told18 .given .1))
 
+returns-21 : tie.Need-returns-21
+returns-21 c = sym (ap refusal-place (c .enum-told19 .given .1))
+
 pub place-spec : {M : Type 1} → statement M
 place-spec =
     tie.close
@@ -149,6 +155,7 @@ place-spec =
     enum-told-16
     enum-told-17
     enum-told-18
+    enum-told-19
     returns
     returns-2
     returns-3
@@ -168,4 +175,5 @@ place-spec =
     returns-17
     returns-18
     returns-19
-    returns-20)
+    returns-20
+    returns-21)

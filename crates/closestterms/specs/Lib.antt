@@ -1,0 +1,2 @@
+-- What is promised of the call for the closest order with terms.
+pub mod Dated

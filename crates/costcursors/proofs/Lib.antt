@@ -1,0 +1,4 @@
+-- Laws of cursors.
+pub mod Bumps
+pub mod Cursors
+pub mod Successors

@@ -1,0 +1,2 @@
+-- Laws of cells that are written.
+pub mod Writing

@@ -1,0 +1,2 @@
+-- The definitions that the contracts of the private functions cite.
+pub mod CodedAnswers
