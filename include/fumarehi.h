@@ -38,7 +38,7 @@
  *   - it points to as many elements as the length says, which stay allocated and, unless the type is const, are no other argument's, during the call;
  *   - no other thread writes them meanwhile.
  * The functions keep no pointer, use no global data, no heap and no file, and may be called by several threads at once. The most stack measured is
- * 23.2 KB in fumarehi_judge_terms, 19.3 KB in fumarehi_closest, 17.6 KB in fumarehi_view, 11.6 KB in the others.
+ * 23.5 KB in fumarehi_judge_terms and fumarehi_closest_terms, 17.6 KB in fumarehi_view, 11.6 KB in the others.
  *
  * A profile is k letters (1 to 16), s states (1 to 32), the start state (below s), the set of final states (bit q for state q), k masks (bit j of mask i
  * is set where letter i directly followed by j may become j followed by i: an exchange; the other direction is bit i of mask j) and s * k moves (at
@@ -235,8 +235,9 @@ uint32_t fumarehi_closest(size_t k, size_t s, size_t start, uint32_t finals,
                           uint64_t told[6]);
 
 /* The same for a log with a day for each event and with terms, given as to fumarehi_judge_terms: an exchange also needs both events in one term. Verdict, P,
- * looks and the work table are those of fumarehi_judge_terms, and so is the order with a small budget.
- * Refused by 2, 4, 6 to 8, 14 to 16, 9, 10 and 17, in this order. */
+ * looks and the work table are those of fumarehi_judge_terms, and so is the order with a small budget. Swaps, pairs, floor and costs are as above, for these
+ * exchanges and for the prefixes that they have.
+ * Refused by 2, 4, 6 to 8, 14 to 16, 9, 10 and 17, in this order, also where the verdict would be 0. */
 uint32_t fumarehi_closest_terms(size_t k, size_t s, size_t start, uint32_t finals,
                                 const uint16_t *masks, size_t masks_len,
                                 const uint32_t *moves, size_t moves_len,

@@ -77,6 +77,30 @@ mod c {
             moves: *mut u32, moves_len: usize,
             told: *mut u64,
         ) -> u32;
+        pub fn fumarehi_closest(
+            k: usize, s: usize, start: usize, finals: u32,
+            masks: *const u16, masks_len: usize,
+            moves: *const u32, moves_len: usize,
+            log: *const u8, log_len: usize,
+            order: *mut u8, order_len: usize,
+            work: *mut u32, work_len: usize,
+            costs: *mut u32, costs_len: usize,
+            budget: u64,
+            told: *mut u64,
+        ) -> u32;
+        pub fn fumarehi_closest_terms(
+            k: usize, s: usize, start: usize, finals: u32,
+            masks: *const u16, masks_len: usize,
+            moves: *const u32, moves_len: usize,
+            log: *const u8, log_len: usize,
+            days: *const u32, days_len: usize,
+            terms: *const u32, terms_len: usize,
+            order: *mut u8, order_len: usize,
+            work: *mut u32, work_len: usize,
+            costs: *mut u32, costs_len: usize,
+            budget: u64,
+            told: *mut u64,
+        ) -> u32;
         pub fn fumarehi_run_start(
             k: usize, s: usize, start: usize, finals: u32,
             masks: *const u16, masks_len: usize,
@@ -170,6 +194,7 @@ pub enum Refusal {
     BadDay = 14,
     BadTerm = 15,
     NoTerm = 16,
+    ShortCosts = 17,
     BadGroups = 18,
     HighCeiling = 19,
     ViewBit = 20,
@@ -194,6 +219,7 @@ impl Refusal {
         Refusal::BadDay,
         Refusal::BadTerm,
         Refusal::NoTerm,
+        Refusal::ShortCosts,
         Refusal::BadGroups,
         Refusal::HighCeiling,
         Refusal::ViewBit,
@@ -232,6 +258,21 @@ pub struct Verdict {
     pub has_order: bool,
     pub prefixes: u64,
     pub looks: u64,
+}
+
+/// What `closest` and `closest_terms` tell.
+#[derive(Clone, Copy, Debug, PartialEq, Eq)]
+pub struct Closest {
+    /// The swaps of the order in the buffer and the floor; none where the verdict is 0.
+    pub order: Option<Swaps>,
+    pub prefixes: u64,
+    pub looks: u64,
+}
+
+#[derive(Clone, Copy, Debug, PartialEq, Eq)]
+pub struct Swaps {
+    pub swaps: u64,
+    pub floor: u64,
 }
 
 #[derive(Clone, Copy, Debug, PartialEq, Eq)]
@@ -312,6 +353,44 @@ pub mod numbers {
                 dates.terms.as_ptr(), dates.terms.len(),
                 order.as_mut_ptr(), order.len(),
                 work.as_mut_ptr(), work.len(),
+                told.as_mut_ptr(),
+            )
+        }
+    }
+
+    pub fn closest(
+        p: &Profile, log: &[u8], order: &mut [u8], work: &mut [u32], costs: &mut [u32], budget: u64, told: &mut [u64; 6],
+    ) -> u32 {
+        unsafe {
+            c::fumarehi_closest(
+                p.k, p.s, p.start, p.finals,
+                p.masks.as_ptr(), p.masks.len(),
+                p.moves.as_ptr(), p.moves.len(),
+                log.as_ptr(), log.len(),
+                order.as_mut_ptr(), order.len(),
+                work.as_mut_ptr(), work.len(),
+                costs.as_mut_ptr(), costs.len(),
+                budget,
+                told.as_mut_ptr(),
+            )
+        }
+    }
+
+    pub fn closest_terms(
+        p: &Profile, log: &[u8], dates: &Dates, order: &mut [u8], work: &mut [u32], costs: &mut [u32], budget: u64, told: &mut [u64; 6],
+    ) -> u32 {
+        unsafe {
+            c::fumarehi_closest_terms(
+                p.k, p.s, p.start, p.finals,
+                p.masks.as_ptr(), p.masks.len(),
+                p.moves.as_ptr(), p.moves.len(),
+                log.as_ptr(), log.len(),
+                dates.days.as_ptr(), dates.days.len(),
+                dates.terms.as_ptr(), dates.terms.len(),
+                order.as_mut_ptr(), order.len(),
+                work.as_mut_ptr(), work.len(),
+                costs.as_mut_ptr(), costs.len(),
+                budget,
                 told.as_mut_ptr(),
             )
         }
@@ -503,6 +582,29 @@ pub fn view(p: &Profile, visible: u32, log: &[u8], order: &mut [u8], work: &mut 
     let mut told = [0; 4];
     let number = numbers::view(p, visible, log, order, work, &mut told);
     answer(number, told[0], 0, || Verdict { has_order: told[1] == 1, prefixes: told[2], looks: told[3] })
+}
+
+fn closest_answer(number: u32, told: [u64; 6]) -> Result<Closest, Refused> {
+    let [place, verdict, prefixes, looks, swaps, floor] = told;
+    answer(number, place, 0, || Closest { order: (verdict == 1).then_some(Swaps { swaps, floor }), prefixes, looks })
+}
+
+/// Finds the order closest to the log, with a budget of pairs of a prefix and a state; its first bytes are in `order`.
+pub fn closest(
+    p: &Profile, log: &[u8], order: &mut [u8], work: &mut [u32], costs: &mut [u32], budget: u64,
+) -> Result<Closest, Refused> {
+    let mut told = [0; 6];
+    let number = numbers::closest(p, log, order, work, costs, budget, &mut told);
+    closest_answer(number, told)
+}
+
+/// The same for a log with a day for each event and with terms: events of different terms keep their order.
+pub fn closest_terms(
+    p: &Profile, log: &[u8], dates: &Dates, order: &mut [u8], work: &mut [u32], costs: &mut [u32], budget: u64,
+) -> Result<Closest, Refused> {
+    let mut told = [0; 6];
+    let number = numbers::closest_terms(p, log, dates, order, work, costs, budget, &mut told);
+    closest_answer(number, told)
 }
 
 /// Builds the prefix table of a log.

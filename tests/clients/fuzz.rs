@@ -2,12 +2,13 @@
 //!
 //! Valid calls of small size, calls with damage, files laid out freely and damaged, texts right and wrong. Every call is made twice, by the
 //! header's numbers and by the safe wrapper, on buffers with random content and random guards around; every buffer is compared whole afterwards,
-//! only the lent part of the work table is left out after refusal 10. Logs are judged by the courses that right texts type. All short texts are
-//! tried too. Lists of calls of the running judge are in `running.rs`, logs with terms in `terms.rs`, views in `views.rs`, grammars in
-//! `grammars.rs`, calls for a ceiling in `ceilings.rs`, logs judged twice, with few pairs and with more, in `nested.rs`. A refusal that a function
-//! can give and never gave is a failure.
+//! only what the header calls free is left out. Logs are judged by the courses that right texts type. All short texts are tried too. Lists of calls
+//! of the running judge are in `running.rs`, logs with terms in `terms.rs`, views in `views.rs`, grammars in `grammars.rs`, calls for a ceiling in
+//! `ceilings.rs`, logs judged twice, with few pairs and with more, in `nested.rs`, closest orders in `closest.rs`. A refusal that a function can give
+//! and never gave is a failure.
 
 mod ceilings;
+mod closest;
 mod courses;
 mod fumarehi;
 mod grammars;
@@ -527,6 +528,8 @@ const FUNCTIONS: &[(&str, &[usize])] = &[
     ("view", &[2, 4, 6, 20, 7, 8, 9, 10]),
     ("grammar", &[2, 4, 7, 8, 9, 10, 21, 22]),
     ("ceiling", &[2, 4, 7, 8, 18, 19]),
+    ("closest", &[2, 4, 6, 7, 8, 9, 10, 17]),
+    ("closest_terms", &[2, 4, 6, 7, 8, 9, 10, 14, 15, 16, 17]),
 ];
 
 #[derive(Default)]
@@ -558,6 +561,7 @@ struct Seen {
     grammars: grammars::Met,
     nested: nested::Met,
     ceilings: ceilings::Met,
+    closest: closest::Met,
 }
 
 impl Seen {
@@ -605,6 +609,7 @@ impl Seen {
         self.grammars.print();
         self.nested.print();
         self.ceilings.print();
+        self.closest.print();
     }
 
     /// What a test of full size has met.
@@ -648,6 +653,7 @@ impl Seen {
         missing.extend(self.grammars.missing());
         missing.extend(self.nested.missing());
         missing.extend(self.ceilings.missing());
+        missing.extend(self.closest.missing());
         missing
     }
 }
@@ -1118,7 +1124,7 @@ fn check_listed(random: &mut Random, seen: &mut Seen) -> Checked {
 }
 
 fn check(random: &mut Random, seen: &mut Seen) -> Checked {
-    match random.below(170) {
+    match random.below(192) {
         0..=29 => check_judge(random, seen),
         30..=46 => check_table(random, seen),
         47..=58 => check_same(random, seen),
@@ -1134,7 +1140,8 @@ fn check(random: &mut Random, seen: &mut Seen) -> Checked {
         134..=149 => views::check(random, seen),
         150..=155 => grammars::check(random, seen),
         156..=161 => nested::check(random, seen),
-        _ => ceilings::check(random, seen),
+        162..=169 => ceilings::check(random, seen),
+        _ => closest::check(random, seen),
     }
 }
 

@@ -11,7 +11,7 @@
 #include <string.h>
 #include <ucontext.h>
 
-enum { STACK = 1 << 18, PAINT = 0xA5, STATED = 232 * 1024 / 10 }; /* 23.2 KB */
+enum { STACK = 1 << 18, PAINT = 0xA5, STATED = 235 * 1024 / 10 }; /* 23.5 KB */
 
 static uint8_t stack[STACK] __attribute__((aligned(64)));
 static ucontext_t outside, inside;
@@ -34,9 +34,9 @@ static size_t used(void (*call)(void))
 /* ---- Calls ---- */
 
 static uint16_t masks[16], groups[2] = {0xFFFD, 2};
-enum { EVENTS = 4000, NUMBERS = 10 * 4400 }; /* the log has 4,251 prefixes */
+enum { EVENTS = 4000, NUMBERS = 10 * 4400, COSTS = 32 * 4400 }; /* the log has 4,251 prefixes */
 
-static uint32_t moves[512], table[NUMBERS];
+static uint32_t moves[512], table[NUMBERS], costs[COSTS];
 static uint32_t days[EVENTS], terms[24];
 static uint8_t log[EVENTS], order[EVENTS], file[6144], text[4096];
 static size_t text_len, file_len;
@@ -49,6 +49,9 @@ static uint32_t answer;
 static void nothing(void) {}
 static void judge(void) { answer = fumarehi_judge(16, 32, 0, 1, masks, 16, moves, 512, log, EVENTS, order, EVENTS, table, NUMBERS, told); }
 static void judge_terms(void) { answer = fumarehi_judge_terms(16, 32, 0, 1, masks, 16, moves, 512, log, EVENTS, days, EVENTS, terms, 24, order, EVENTS, table, NUMBERS, told); }
+static void closest(void) { answer = fumarehi_closest(16, 32, 0, 1, masks, 16, moves, 512, log, EVENTS, order, EVENTS, table, NUMBERS, costs, COSTS, UINT64_MAX, told); }
+static void closest_terms(void) { answer = fumarehi_closest_terms(16, 32, 0, 1, masks, 16, moves, 512, log, EVENTS, days, EVENTS, terms, 24, order, EVENTS, table, NUMBERS, costs, COSTS, UINT64_MAX, told); }
+static void judged(void) { answer = fumarehi_closest(16, 32, 0, 1, masks, 16, moves, 512, log, EVENTS, order, EVENTS, table, NUMBERS, costs, COSTS, 0, told); }
 static void view(void) { answer = fumarehi_view(16, 32, 0, 1, 0xFFFF, masks, 16, moves, 512, log, EVENTS, order, EVENTS, table, NUMBERS, told); }
 static void build(void) { answer = fumarehi_table(16, 32, 0, 1, masks, 16, moves, 512, log, EVENTS, table, NUMBERS, told); }
 static void same(void) { answer = fumarehi_same(16, masks, 16, log, EVENTS, log, EVENTS, told); }
@@ -105,6 +108,9 @@ int main(void)
         days[i] = terms[i % 24];
     print("judge", judge);
     print("judge_terms", judge_terms);
+    print("closest, all pairs", closest);
+    print("closest, budget 0", judged);
+    print("closest_terms, all pairs", closest_terms);
     print("view", view);
     print("table", build);
     print("same", same);

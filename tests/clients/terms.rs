@@ -114,33 +114,37 @@ fn in_terms(days: &[u32], terms: &[u32]) -> Result<(), Refused> {
 /// What a call hands over.
 #[derive(Clone, Debug)]
 pub struct Call {
-    p: Profile,
-    log: Vec<u8>,
-    days: Vec<u32>,
-    terms: Vec<u32>,
+    pub p: Profile,
+    pub log: Vec<u8>,
+    pub days: Vec<u32>,
+    pub terms: Vec<u32>,
 }
 
 /// The events of an unrefused call: each has its letter, its term, and how many of its letter stand before it.
-struct Dated<'a> {
-    p: &'a Profile,
-    log: &'a [u8],
-    term: Vec<usize>,
+pub struct Dated<'a> {
+    pub p: &'a Profile,
+    pub log: &'a [u8],
+    pub term: Vec<usize>,
     nth: Vec<u16>,
 }
 
 impl Dated<'_> {
-    fn of(call: &Call) -> Dated<'_> {
-        let mut seen = vec![0; call.p.k];
+    fn new<'a>(p: &'a Profile, log: &'a [u8], term: Vec<usize>) -> Dated<'a> {
+        let mut seen = vec![0; p.k];
         let mut nth = |&a: &u8| {
             seen[a as usize] += 1;
             seen[a as usize] - 1
         };
-        Dated {
-            p: &call.p,
-            log: &call.log,
-            term: call.days.iter().map(|&day| term_of(&call.terms, day).unwrap()).collect(),
-            nth: call.log.iter().map(&mut nth).collect(),
-        }
+        Dated { p, log, term, nth: log.iter().map(&mut nth).collect() }
+    }
+
+    pub fn of(call: &Call) -> Dated<'_> {
+        Dated::new(&call.p, &call.log, call.days.iter().map(|&day| term_of(&call.terms, day).unwrap()).collect())
+    }
+
+    /// Without terms all events are in one.
+    pub fn undated<'a>(p: &'a Profile, log: &'a [u8]) -> Dated<'a> {
+        Dated::new(p, log, vec![0; log.len()])
     }
 
     /// Event i directly followed by j may become j followed by i.
@@ -148,7 +152,7 @@ impl Dated<'_> {
         self.term[i] == self.term[j] && reference::independent(&self.p.masks, self.log[i], self.log[j])
     }
 
-    fn marked(&self, counts: &[u16], i: usize) -> bool {
+    pub fn marked(&self, counts: &[u16], i: usize) -> bool {
         self.nth[i] < counts[self.log[i] as usize]
     }
 
@@ -182,7 +186,7 @@ impl Dated<'_> {
     }
 
     /// Every list of events, by their places, that exchanges reach.
-    fn reachable(&self, events: Vec<usize>) -> BTreeSet<Vec<usize>> {
+    pub fn reachable(&self, events: Vec<usize>) -> BTreeSet<Vec<usize>> {
         let mut found = BTreeSet::from([events.clone()]);
         let mut new = vec![events];
         while let Some(events) = new.pop() {
@@ -219,7 +223,7 @@ impl Dated<'_> {
 }
 
 /// Refusals 2, 4, 6, 7, 8, 14, 15 and 16, or all there is to say.
-fn solve(call: &Call) -> Result<Solved, Refused> {
+pub fn solve(call: &Call) -> Result<Solved, Refused> {
     reference::profile(&call.p)?;
     reference::letters(call.p.k, &call.log)?;
     dated(&call.log, &call.days)?;
@@ -323,7 +327,7 @@ fn move_day(random: &mut Random, days: &mut [u32]) {
     }
 }
 
-fn some_call(random: &mut Random) -> Call {
+pub fn some_call(random: &mut Random) -> Call {
     let (mut p, mut log) = match random.below(800) {
         0..=15 => medium_call(random),
         16 => long_call(random),
@@ -352,7 +356,7 @@ fn some_call(random: &mut Random) -> Call {
 
 // The comparisons.
 
-fn dates(call: &Call) -> fumarehi::Dates<'_> {
+pub fn dates(call: &Call) -> fumarehi::Dates<'_> {
     fumarehi::Dates { days: &call.days, terms: &call.terms }
 }
 

@@ -5,7 +5,6 @@ use trial::cells::part8;
 use trial::cells::part16;
 use trial::cells::part32;
 use trial::cells::plus;
-use trial::cells::put32;
 use trial::cells::times;
 use trial::logs::log_count;
 use trial::logs::put_log_number;
@@ -22,12 +21,12 @@ use trial_term_refusals::combined::combine_all;
 use trial_term_refusals::lists::all_lists;
 use trial_term_refusals::numbers::all_numbers;
 use trial_terms::dated::put_days;
+use trial_terms::dated::put_halves;
 use trial_terms::dated::put_terms;
 use trial_terms::judging::compare_dated;
 use trial_terms::judging::compare_one_term;
 use trial_terms::met::BY_DAMAGE;
 use trial_terms::met::LOGS;
-use trial_terms::spans::first_of;
 
 // One to three letters, or four to sixteen in one of four logs.
 fn letters_of(seed: usize) -> usize {
@@ -114,13 +113,6 @@ fn random_profiles(seed: usize, many: usize, t: Tally) -> Tally {
         u = one_profile(seed_of(seed, i), u);
     }
     u
-}
-
-// The event is in the second of two terms where its bit is set.
-fn put_halves(halves: usize, n: usize, terms: &[u32], days: &mut [u32]) {
-    for i in 0..n {
-        put32(days, i, first_of(terms, (halves >> (i % 8)) % 2));
-    }
 }
 
 // Log v of Alt with its events in two terms; the pairs are both ways, one way, the other way or none.

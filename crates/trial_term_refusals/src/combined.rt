@@ -25,9 +25,9 @@ use trial_terms::met::BY_DAMAGE;
 use trial_terms::met::COMBINED;
 use trial_terms::met::REFUSAL;
 
-const VARIANTS: usize = 12;
+pub const VARIANTS: usize = 12;
 
-fn number_of(i: usize) -> usize {
+pub fn number_of(i: usize) -> usize {
     match i {
         0 => 2,
         1 => 4,
@@ -44,7 +44,7 @@ fn number_of(i: usize) -> usize {
 }
 
 // The first damage; 10 where there is none.
-fn first_damage(damages: usize) -> usize {
+pub fn first_damage(damages: usize) -> usize {
     for i in 0..10 {
         if bit(damages, i) {
             return i;
@@ -54,7 +54,7 @@ fn first_damage(damages: usize) -> usize {
 }
 
 // 2: k is 0 or 17, s is 33, the start is s; or a mask or a move too few.
-fn damaged_shape(damages: usize, variant: usize) -> Shape {
+pub fn damaged_shape(damages: usize, variant: usize) -> Shape {
     let finals = if bit(damages, 2) & (variant % 2 == 0) {
         13
     } else {
@@ -72,7 +72,7 @@ fn damaged_shape(damages: usize, variant: usize) -> Shape {
     }
 }
 
-fn mask_count(damages: usize, variant: usize) -> usize {
+pub fn mask_count(damages: usize, variant: usize) -> usize {
     if bit(damages, 0) & (variant % 6 == 4) {
         2
     } else {
@@ -80,7 +80,7 @@ fn mask_count(damages: usize, variant: usize) -> usize {
     }
 }
 
-fn move_count(damages: usize, variant: usize) -> usize {
+pub fn move_count(damages: usize, variant: usize) -> usize {
     if bit(damages, 0) & (variant % 6 == 5) {
         8
     } else {
@@ -89,7 +89,7 @@ fn move_count(damages: usize, variant: usize) -> usize {
 }
 
 // 4: a bit of the first mask from k on, or its own.
-fn first_mask(damages: usize, variant: usize) -> u16 {
+pub fn first_mask(damages: usize, variant: usize) -> u16 {
     if !bit(damages, 1) {
         return 2;
     }
@@ -101,7 +101,7 @@ fn first_mask(damages: usize, variant: usize) -> u16 {
 }
 
 // 6: a move to a state from s on, where it is not the final set that has one.
-fn first_move(damages: usize, variant: usize) -> u32 {
+pub fn first_move(damages: usize, variant: usize) -> u32 {
     if bit(damages, 2) & (variant % 2 == 1) {
         11
     } else {
@@ -110,12 +110,12 @@ fn first_move(damages: usize, variant: usize) -> u32 {
 }
 
 // 7: 4,001 letters.
-fn log_length(damages: usize) -> usize {
+pub fn log_length(damages: usize) -> usize {
     if bit(damages, 3) { 4001 } else { 3 }
 }
 
 // 8: a letter of k or more at this place.
-fn bad_place(variant: usize) -> usize {
+pub fn bad_place(variant: usize) -> usize {
     variant % 3
 }
 
@@ -126,14 +126,14 @@ fn letter_of(damages: usize, variant: usize, i: usize) -> usize {
     plus(i, 2) % 3
 }
 
-fn put_log(damages: usize, variant: usize, log: &mut [u8]) {
+pub fn put_log(damages: usize, variant: usize, log: &mut [u8]) {
     for i in 0..log_length(damages) {
         put8(log, i, byte(letter_of(damages, variant, i)));
     }
 }
 
 // 14: days too few or too many, or none, or one that is no such date.
-fn day_count(damages: usize, variant: usize) -> usize {
+pub fn day_count(damages: usize, variant: usize) -> usize {
     let n = log_length(damages);
     if !bit(damages, 5) {
         return n;
@@ -188,7 +188,7 @@ fn third_day(damages: usize, variant: usize) -> u32 {
 }
 
 // 15: no terms, thirteen, a first day without a last, no such date, a first day after the last, terms that touch in a day, that fall or that are the same.
-fn term_numbers(damages: usize, variant: usize) -> usize {
+pub fn term_numbers(damages: usize, variant: usize) -> usize {
     if !bit(damages, 6) {
         return 4;
     }
@@ -230,8 +230,23 @@ fn bad_number_of_terms(damages: usize, variant: usize) -> u32 {
     }
 }
 
+// The second and third day; the others are there.
+pub fn put_days(damages: usize, variant: usize, days: &mut [u32]) {
+    put32(days, 1, second_day(damages, variant));
+    put32(days, 2, third_day(damages, variant));
+}
+
+// The two terms; the first day of the first is there.
+pub fn put_terms(damages: usize, variant: usize, terms: &mut [u32]) {
+    put32(terms, 1, 20261218);
+    put32(terms, 2, 20270104);
+    put32(terms, 3, 20270326);
+    let place = bad_place_of_terms(damages, variant);
+    put32(terms, place, bad_number_of_terms(damages, variant));
+}
+
 // 9: a buffer that is one byte short, or empty.
-fn room_for(damages: usize, variant: usize, needed: usize) -> usize {
+pub fn room_for(damages: usize, variant: usize, needed: usize) -> usize {
     if !bit(damages, 8) {
         return plus(needed, variant % 3);
     }
@@ -243,7 +258,7 @@ fn room_for(damages: usize, variant: usize, needed: usize) -> usize {
 }
 
 // 10: a table that is empty, or one number short of one record or of all.
-fn table_size(damages: usize, variant: usize) -> usize {
+pub fn table_size(damages: usize, variant: usize) -> usize {
     if !bit(damages, 9) {
         return plus(60, variant % 11);
     }
@@ -305,14 +320,9 @@ fn combine(damages: usize, variant: usize, t: Tally) -> Tally {
     let mut log = [0u8; 4004];
     let mut days = [20260901u32; 4004];
     let mut terms = [20260901u32; 26];
-    terms[1] = 20261218;
-    terms[2] = 20270104;
-    terms[3] = 20270326;
     put_log(damages, variant, &mut log);
-    days[1] = second_day(damages, variant);
-    days[2] = third_day(damages, variant);
-    let place = bad_place_of_terms(damages, variant);
-    put32(&mut terms, place, bad_number_of_terms(damages, variant));
+    put_days(damages, variant, &mut days);
+    put_terms(damages, variant, &mut terms);
     judge_with(
         damages,
         variant,

@@ -55,3 +55,10 @@ pub fn put_days(seed: usize, n: usize, few: usize, terms: &[u32], days: &mut [u3
         put32(days, i, day_in(seed_of(seed, i), few, terms));
     }
 }
+
+// The first day of the second of two terms where the bit of the event is set, else of the first.
+pub fn put_halves(halves: usize, n: usize, terms: &[u32], days: &mut [u32]) {
+    for i in 0..n {
+        put32(days, i, first_of(terms, (halves >> (i % 8)) % 2));
+    }
+}

@@ -429,7 +429,7 @@ fn same_answer(a: Answer, b: Answer) -> bool {
         & (a.looks == b.looks)
 }
 
-fn equal32(a: &[u32], b: &[u32]) -> bool {
+pub fn equal32(a: &[u32], b: &[u32]) -> bool {
     for i in 0..a.len() {
         if at32(a, i) != at32(b, i) {
             return false;

@@ -1,10 +1,10 @@
--- `term_cases::put_halves` is safe and ends.
+-- `trial_terms::dated::put_halves` is safe and ends.
 use borrow.Author.Needs.{needs}
 use Prim.Native.Nat.{_-_}
 use mathlib.Core.Path.{_≡_}
 use lib.ListN.{length}
-use Rattle.term_cases.proofs.put_halves.Statement.{statement}
-use Rattle.term_cases.proofs.put_halves.Tie as tie
+use Rattle.trial_terms.proofs.dated.put_halves.Statement.{statement}
+use Rattle.trial_terms.proofs.dated.put_halves.Tie as tie
 
 abbrev Inv-loop : tie.InvT-loop
 Inv-loop halves n terms days₀ i₀ days i = (length days ≡ length days₀)
