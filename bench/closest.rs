@@ -21,7 +21,7 @@ const RECORDS: usize = 700_000;
 const COSTS: usize = 32 * RECORDS;
 
 /// Rounds of each row, of which the least time is taken.
-const ROUNDS: usize = 5;
+const ROUNDS: usize = 15;
 
 /// k, letters, s and the lengths of the logs.
 const LINES: &[(usize, Letters, usize, &[usize])] = &[

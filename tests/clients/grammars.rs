@@ -6,7 +6,7 @@
 use crate::reference::{self, refuse, Profile, Refused, COUNTS, RECORD};
 use crate::{agree, as_numbers, counts, damage_relation, fumarehi, lent_bytes, lent_masks, lent_numbers, masks, numbers, refusal, some_log};
 use crate::{Checked, Lent, Random, Seen, FUNCTIONS, UNTOLD};
-use std::collections::BTreeSet;
+use std::collections::{BTreeSet, HashMap};
 
 /// Verdicts 0 and 1, orders other than the log, logs with more than one order, and the most prefixes of a log.
 #[derive(Default)]
@@ -71,12 +71,22 @@ impl Grammar {
 
     /// Some derivation from the name ends in the log.
     fn derives(&self, name: u16, log: &[u8]) -> bool {
-        let cut = |l: u16, r: u16| (1..log.len()).any(|at| self.derives(l, &log[..at]) && self.derives(r, &log[at..]));
-        self.rules.iter().any(|&rule| match read(rule) {
+        self.derives_part(name, log, &mut HashMap::new())
+    }
+
+    /// The same; a part of the log that was tried with a name is not tried with it again.
+    fn derives_part<'a>(&self, name: u16, part: &'a [u8], tried: &mut HashMap<(u16, &'a [u8]), bool>) -> bool {
+        if let Some(&found) = tried.get(&(name, part)) {
+            return found;
+        }
+        let mut cut = |l: u16, r: u16| (1..part.len()).any(|at| self.derives_part(l, &part[..at], tried) && self.derives_part(r, &part[at..], tried));
+        let found = self.rules.iter().any(|&rule| match read(rule) {
             Rule::Names(n, l, r) => n == name && cut(l, r),
-            Rule::Letter(n, a) => n == name && log == [a as u8],
+            Rule::Letter(n, a) => n == name && part == [a as u8],
             Rule::Neither => false,
-        })
+        });
+        tried.insert((name, part), found);
+        found
     }
 
     /// The states of a profile play no part in prefixes.

@@ -63,18 +63,21 @@ fn length_of(seed: usize, k: usize, s: usize) -> usize {
 
 // One to four terms, now and then twelve, and days of n events in the first few of them, which need not rise.
 fn random_terms(seed: usize, n: usize) -> Dated {
-    let mut dated = no_terms();
+    let mut days = [0u32; 8];
+    let mut terms = [0u32; 24];
     let many = if below(seed, 18, 8) == 0 {
         12
     } else {
         plus(1, below(seed, 19, 4))
     };
     let few = plus(1, below(seed, 20, many));
-    put_terms(seed_of(seed, 2), many, &mut dated.terms);
-    let terms = dated.terms;
-    put_days(seed_of(seed, 3), n, few, &terms, &mut dated.days);
-    dated.numbers = plus(many, many);
-    dated
+    put_terms(seed_of(seed, 2), many, &mut terms);
+    put_days(seed_of(seed, 3), n, few, &terms, &mut days);
+    Dated {
+        days: days,
+        terms: terms,
+        numbers: plus(many, many),
+    }
 }
 
 fn dated_for(seed: usize, n: usize, with_terms: bool) -> Dated {
@@ -134,15 +137,18 @@ fn random_profiles(seed: usize, many: usize, with_terms: bool, t: Tally) -> Tall
 
 // The event is in the second of two terms where its bit is set.
 fn halves_of(halves: usize) -> Dated {
-    let mut dated = no_terms();
-    dated.terms[0] = 20260901;
-    dated.terms[1] = 20261218;
-    dated.terms[2] = 20261219;
-    dated.terms[3] = 20270326;
-    dated.numbers = 4;
-    let terms = dated.terms;
-    put_halves(halves, 8, &terms, &mut dated.days);
-    dated
+    let mut days = [0u32; 8];
+    let mut terms = [0u32; 24];
+    terms[0] = 20260901;
+    terms[1] = 20261218;
+    terms[2] = 20261219;
+    terms[3] = 20270326;
+    put_halves(halves, 8, &terms, &mut days);
+    Dated {
+        days: days,
+        terms: terms,
+        numbers: 4,
+    }
 }
 
 // Log v of Alt and of one state that accepts everything; the pairs are both ways, one way, the other way or none.

@@ -161,16 +161,7 @@ pub fn ask(
     costs: &mut [u32],
 ) -> Told {
     if call.dated.numbers == 0 {
-        closest_in(
-            shape,
-            masks,
-            moves,
-            log,
-            call.lent,
-            buffer,
-            numbers,
-            costs,
-        )
+        closest_in(shape, masks, moves, log, call.lent, buffer, numbers, costs)
     } else {
         closest_dated_in(shape, masks, moves, log, call, buffer, numbers, costs)
     }
