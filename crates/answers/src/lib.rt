@@ -1,6 +1,6 @@
 // A judge's answer as numbers, as C has it.
 ghost use mathlib.Core.Path.{_≡_};
-ghost use Rattle.answers.specs.Answers.{judged-code, judged-told};
+ghost use Rattle.verdict.specs.Verdict.{judged-code, judged-told};
 use verdict::Judged;
 
 // Returns the refusal's number, or 0; tells the place, the verdict, P and looks.

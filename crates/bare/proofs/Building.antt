@@ -62,8 +62,8 @@ module _ (k : ℕ) (masks moves w : List ℕ) (none-moves : (i : ℕ) → getD m
       let m = place-of (independent masks) d k w (log-at k w log .letters) (prefix-of-front (independent masks) (λ a. a) d (front-none (independent masks) w)) in
       omega (arith, m .1)
 
-  pub built-full : (before after after′ : List ℕ) (r : Refusal) → Filling (silent k masks moves none-moves) w before after (Refused r) → BuiltIs k masks w before after′ (Refused r)
-  built-full before after after′ r f = go (full-table P (length before)) refl (f .refused ∙ behind (length before))
+  pub built-full : (before after : List ℕ) (r : Refusal) → Filling (silent k masks moves none-moves) w before after (Refused r) → BuiltIs k masks w before after (Refused r)
+  built-full before after r f = let g = go (full-table P (length before)) refl (f .refused ∙ behind (length before)) in (g .0, g .1, f .table .1)
     where
       go : (b : Bool) → full-table P (length before) ≡ b → some r ≡ lowest ((full-table P (length before), FullTable) ∷ []) → (r ≡ FullTable) × (capacity layout (length before) < P)
       go true e q = (let z : lowest ((full-table P (length before), FullTable) ∷ []) ≡ some FullTable = rw (e, lowest) in Option·some-injective _ _ (q ∙ z), ltb→lt (capacity layout (length before)) P (subst T (sym e) tt))

@@ -8,6 +8,7 @@ use Rattle.profile.specs.Traces.{independent}
 use Rattle.profile.specs.Prefixes.{by-total, looks as looks-of, prefix-count}
 use Rattle.profile.specs.Tables.{capacity, layout, packed, record-length}
 use Rattle.profile.specs.declared.Refusal.the-variants.{FullTable}
+use Rattle.table.specs.Table.{Spared}
 use Rattle.table.specs.declared.Built.{Built}
 use Rattle.table.specs.declared.Built.the-variants.{Filled, Refused as NotBuilt}
 
@@ -31,5 +32,5 @@ pub record Counted (k : ℕ) (masks w before after : List ℕ) (P n : ℕ) : Typ
 
 -- the table is built, or P records do not fit it
 abbrev pub BuiltIs : ℕ → List ℕ → List ℕ → List ℕ → List ℕ → Built → Type 0
-BuiltIs k masks w before after (NotBuilt r) = (r ≡ FullTable) × (capacity layout (length before) < prefixes-of k masks w)
+BuiltIs k masks w before after (NotBuilt r) = (r ≡ FullTable) × (capacity layout (length before) < prefixes-of k masks w) × Spared before after
 BuiltIs k masks w before after (Filled P n) = Counted k masks w before after P n × (P ≤ capacity layout (length before))

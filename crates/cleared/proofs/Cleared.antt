@@ -7,7 +7,7 @@ use Prim.Native.Nat.{ℕ, zero, suc, _+_, _*_, _≤_}
 use native.Mathlib.Omega.{arith}
 use borrow.Author.Tests.{le-ltb, ltb-false}
 use lib.Dec.{T, eqb, ltb}
-use lib.ListN.{length, take, drop, replicate, take-append-drop}
+use lib.ListN.{length, length-replicate, take, drop, replicate, take-append-drop}
 use lib.Seq.{drop-append-le, drop-at, length-take-le, take-at}
 use Rattle.profile.specs.Lists.{flat-map, range}
 use Rattle.profile.specs.Traces.{independent}
@@ -19,6 +19,8 @@ use Rattle.profile.specs.Refusals.{full-table, judge-refusal, log-refusals, low
 use Rattle.profile.specs.declared.Refusal.{Refusal}
 use Rattle.profile.specs.declared.Refusal.the-variants.{FullTable, ShortBuffer}
 use Rattle.theory.proofs.Refusals.{lowest-append}
+use Rattle.table.specs.Table.{Spared}
+use Rattle.table.proofs.Filling.{spared-part}
 use Rattle.verdict.specs.Verdict.{Promise}
 use Rattle.verdict.specs.declared.Judged.{Judged}
 use Rattle.verdict.specs.declared.Judged.the-variants.{NoOrder, Order, Refused}
@@ -30,6 +32,10 @@ use Rattle.cleared.specs.Cleared.{Clean, answer, cleared, order-as, orde
 pub map-zero : (n a : ℕ) → map {B = ℕ} (λ (x : ℕ). 0) (range a n) ≡ replicate n 0
 map-zero zero a = refl
 map-zero (suc n) a = ap (_∷_ 0) (map-zero n (suc a))
+
+-- a table whose usable part is cleared has the other numbers as they were
+pub cleared-spared : (t : List ℕ) → Spared t (cleared t)
+cleared-spared t = spared-part (replicate (usable (length t)) 0) t (usable (length t)) refl (length-replicate (usable (length t)) 0)
 
 -- the usable part has place for as many records as the table
 pub usable-capacity : (m : ℕ) → capacity layout (usable m) ≡ capacity layout m

@@ -3,23 +3,20 @@ use mathlib.Core.Path.{_≡_}
 use mathlib.Core.Bool.{cond}
 use mathlib.Core.List.{List, _++_}
 use mathlib.Core.Option.{Option, none, some}
-use Prim.Native.Nat.{ℕ, _*_}
+use Prim.Native.Nat.{ℕ}
 use lib.Dec.{eqb}
 use lib.ListN.{drop, length, replicate}
 use Rattle.profile.specs.Traces.{independent}
 use Rattle.profile.specs.Automata.{Automaton, Profile}
 use Rattle.profile.specs.Prefixes.{looks, prefix-count}
 use Rattle.profile.specs.Orders.{accepted-order}
-use Rattle.profile.specs.Tables.{capacity, layout, record-length, table-of}
+use Rattle.profile.specs.Tables.{layout, table-of}
 use Rattle.profile.specs.Refusals.{log-refusals, lowest, profile-refusals, refusal-number}
 use Rattle.profile.specs.declared.Refusal.{Refusal}
+pub use Rattle.table.specs.Table.{usable}
 use Rattle.verdict.specs.declared.Judged.{Judged}
 use Rattle.verdict.specs.declared.Judged.the-variants.{NoOrder, Order, Refused}
 use Rattle.views.specs.Views.{buffer-refusals}
-
--- the numbers of a table of m that have place for records: "a rest below" ten, "and all numbers past the first 4,294,967,292, are unused"
-abbrev pub usable : ℕ → ℕ
-usable m = record-length layout * capacity layout m
 
 -- "only after 10 is the work table's content free": a view leaves 0 in its usable part, so that nothing of the log can be read there
 abbrev pub cleared : List ℕ → List ℕ

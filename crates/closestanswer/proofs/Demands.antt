@@ -18,6 +18,7 @@ use Rattle.profile.specs.declared.Refusal.the-variants.{FullTable, ShortCosts}
 use Rattle.theory.proofs.Demands.{Witness, order-of, prefixes-of}
 use Rattle.swaps.specs.Swaps.{swaps}
 use Rattle.swaps.specs.Closest.{covers, fewest-swaps}
+use Rattle.table.specs.Table.{Spared}
 use Rattle.verdict.specs.Verdict as judge
 use Rattle.verdict.specs.declared.Judged.{Judged}
 use Rattle.verdict.proofs.Promises as told
@@ -45,9 +46,9 @@ module _ (p : Profile) (w : List ℕ) (B : ℕ) (order order′ table table′ c
       let z = seventeen-exactly (judge-refusals p w (length order) (length table)) (prefixes-of p w) (p .s) (length costs) (judge-not-short p w (length order) (length table)) in
       (λ e. z .0 (sym (h .refused) ∙ e), λ k. h .refused ∙ z .1 k)
 
-  -- a refused call changes nothing it was lent, save the work table at 10 and 17
+  -- a refused call changes nothing it was lent, save the usable numbers of the work table at 10 and 17
   pub refused-unchanged : (r : Refusal) → Promise p w B order order′ table table′ costs costs′ (Refused r)
-      → (order′ ≡ order) × (costs′ ≡ costs) × (r ≢ FullTable → r ≢ ShortCosts → table′ ≡ table)
+      → (order′ ≡ order) × (costs′ ≡ costs) × (r ≢ FullTable → r ≢ ShortCosts → table′ ≡ table) × Spared table table′
   refused-unchanged r h = h .tells
 
   -- ---- the verdict

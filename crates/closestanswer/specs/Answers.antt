@@ -14,6 +14,7 @@ use Rattle.profile.specs.declared.Refusal.{Refusal}
 use Rattle.profile.specs.declared.Refusal.the-variants.{FullTable, ShortCosts}
 use Rattle.swaps.specs.Closest.{closest-order, floor}
 use Rattle.swaps.specs.Swaps.{swaps}
+use Rattle.table.specs.Table.{Spared}
 use Rattle.verdict.specs.Verdict.{Counted}
 use Rattle.closestanswer.specs.declared.Closest.{Closest}
 use Rattle.closestanswer.specs.declared.Closest.the-variants.{NoOrder, Order, Refused}
@@ -59,10 +60,10 @@ module _ (p : Rules) (w : List ℕ) (B : ℕ) where
     pub its-floor : floor-within ≡ some f
 
   -- what is told, and what is promised of the buffers: "Verdict 0 remains as it is"; "after 17 the work table's content is free, as after 10, and after an
-  -- answer the cost table's is"
+  -- answer the cost table's is"; the numbers of the work table that are unused stay
   abbrev pub told : List ℕ → List ℕ → List ℕ → List ℕ → List ℕ → List ℕ → Closest → Type 0
   told order order′ table table′ costs costs′ (Refused r) =
-      (order′ ≡ order) × (costs′ ≡ costs) × (r ≢ FullTable → r ≢ ShortCosts → table′ ≡ table)
+      (order′ ≡ order) × (costs′ ≡ costs) × (r ≢ FullTable → r ≢ ShortCosts → table′ ≡ table) × Spared table table′
   told order order′ table table′ costs costs′ (NoOrder P n) = (order-by p w ≡ none) × (order′ ≡ order) × Counted p w table table′ P n
   told order order′ table table′ costs costs′ (Order P n c f) = Close order order′ c f × Counted p w table table′ P n
 

@@ -55,9 +55,9 @@ module _ (p : Rules) (w : List ℕ) (B : ℕ) (order table costs : List ℕ) (J 
   seventeenth = (short-costs (prefixes-by p w) (p .profile .s) (length costs), ShortCosts) ∷ []
 
   -- what J refuses is refused alike
-  pub refused-before : {r : Refusal} → some r ≡ lowest J → (table′ : List ℕ) → (r ≢ FullTable → table′ ≡ table)
+  pub refused-before : {r : Refusal} → some r ≡ lowest J → (table′ : List ℕ) → (r ≢ FullTable → table′ ≡ table) → Built.Spared table table′
       → PromiseBy p w B order order table table′ costs costs (lowest (J ++ ((short-costs (prefixes-by p w) (p .profile .s) (length costs), ShortCosts) ∷ []))) (Refused r)
-  refused-before e table′ t = record { refused = sym (lowest-first J seventeenth (sym e)); tells = (refl, refl, λ a b. t a) }
+  refused-before e table′ t u = record { refused = sym (lowest-first J seventeenth (sym e)); tells = (refl, refl, (λ a b. t a), u) }
 
   -- J refuses nothing, and the table is filled
   module _ (table′ : List ℕ) (P n : ℕ) (unrefused : none ≡ lowest J) (h : Built.promised p w table table′ (built.Filled P n)) where
@@ -76,7 +76,7 @@ module _ (p : Rules) (w : List ℕ) (B : ℕ) (order table costs : List ℕ) (J 
         → PromiseBy p w B order order′ table table′ costs costs′ (lowest (J ++ ((short-costs (prefixes-by p w) (p .profile .s) (length costs), ShortCosts) ∷ []))) r
     told-answer order′ costs′ (Refused r) (short, e, o, c) = record {
       refused = ap some e ∙ seventeen true (lt-ltb (length costs) (prefixes-by p w * p .profile .s) (omega (arith, short, in-all)));
-      tells = (o, c, λ a b. absurd (b e));
+      tells = (o, c, (λ a b. absurd (b e)), h .3);
     }
     told-answer order′ costs′ (NoOrder Q m) (room, e, q, f, o) = record {
       refused = seventeen false (le-ltb (length costs) (prefixes-by p w * p .profile .s) (omega (arith, room, in-all)));

@@ -20,6 +20,7 @@ use Rattle.terms.specs.Terms.{dated-refusal, dated-refusals, events, letter-of,
 use Rattle.terms.proofs.Logs.{events-length}
 use Rattle.swaps.specs.Swaps.{swaps}
 use Rattle.swaps.specs.Closest.{covers, fewest-swaps}
+use Rattle.table.specs.Table.{Spared}
 use Rattle.verdict.specs.Verdict as judge
 use Rattle.verdict.specs.declared.Judged.{Judged}
 use Rattle.verdict.proofs.Promises as told
@@ -51,9 +52,9 @@ module _ (p : Profile) (w days terms : List ℕ) (B : ℕ) (order order′ table
       (judge-not-short p w days terms (length order) (length table)) in
       (λ e. z .0 (sym (h .refused) ∙ e), λ k. h .refused ∙ z .1 k)
 
-  -- a refused call changes nothing it was lent, save the work table at 10 and 17
+  -- a refused call changes nothing it was lent, save the usable numbers of the work table at 10 and 17
   pub refused-unchanged : (r : Refusal) → Promise p w days terms B order order′ table table′ costs costs′ (Refused r)
-      → (order′ ≡ order) × (costs′ ≡ costs) × (r ≢ FullTable → r ≢ ShortCosts → table′ ≡ table)
+      → (order′ ≡ order) × (costs′ ≡ costs) × (r ≢ FullTable → r ≢ ShortCosts → table′ ≡ table) × Spared table table′
   refused-unchanged r h = h .tells
 
   -- ---- the verdict

@@ -27,6 +27,17 @@ compared-values Equal = 1 ∷ []
 compared-values Different = 0 ∷ []
 compared-values (Refused r n) = refusal-number r ∷ refusal-place r ∷ n ∷ []
 
+-- the numbers of an answer: the refusal's number, or 0; place, the refused log's number, 1 for yes
+abbrev pub compared-code : Compared → ℕ
+compared-code Equal = 0
+compared-code Different = 0
+compared-code (Refused r n) = refusal-number r
+
+abbrev pub compared-told : Compared → List ℕ
+compared-told Equal = 0 ∷ 0 ∷ 1 ∷ []
+compared-told Different = 0 ∷ 0 ∷ 0 ∷ []
+compared-told (Refused r n) = refusal-place r ∷ n ∷ 0 ∷ []
+
 -- letters x and y are exchanged both ways, or the logs agree where only x and y are kept
 abbrev pub pair-agrees? : List ℕ → List ℕ → List ℕ → ℕ → ℕ → Bool
 pair-agrees? masks v w x y = mutual? (independent masks) x y || equal? (project x y v) (project x y w)

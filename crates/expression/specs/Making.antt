@@ -12,7 +12,7 @@ use Rattle.profile.specs.declared.Refusal.{Refusal}
 use Rattle.profile.specs.declared.Refusal.the-variants.{BadText, DeepText, LongText, OutOfRange, ShortBuffer}
 use Rattle.profile.specs.declared.Shape.{Shape}
 use Rattle.profile.specs.Lists.{below}
-use Rattle.profile.specs.Refusals.{lowest}
+use Rattle.profile.specs.Refusals.{lowest, refusal-number, refusal-place}
 use Rattle.expressions.specs.Expressions.{Expr, size}
 use Rattle.expressions.specs.Positions.{finals-of, moves-of}
 use Rattle.expressions.specs.Texts.{Typed, expression}
@@ -63,6 +63,15 @@ make-refusal k u n = lowest (make-refusals k u n)
 abbrev pub refused-by : Made → Option Refusal
 refused-by (Profile h) = none
 refused-by (Refused x) = some x
+
+-- the numbers of an answer: the refusal's number, or 0; place, s, start, final set
+abbrev pub made-code : Made → ℕ
+made-code (Refused x) = refusal-number x
+made-code (Profile h) = 0
+
+abbrev pub made-told : Made → List ℕ
+made-told (Refused x) = refusal-place x ∷ 0 ∷ 0 ∷ 0 ∷ []
+made-told (Profile h) = 0 ∷ h .s ∷ h .start ∷ h .finals ∷ []
 
 -- "the profile made": its numbers; its moves stand in the first s × k numbers of the buffer, "the rest of a longer move buffer stays"
 abbrev pub shape-of : ℕ → Expr → Shape

@@ -18,7 +18,7 @@ use Rattle.profile.proofs.Lists.{Rising, flat-map-length}
 use Rattle.theory.proofs.Refusals.{GoodLog, GoodProfile, lowest-append}
 use Rattle.logfile.specs.Files.{filled}
 use Rattle.logfile.proofs.Answers.{content-rises, no-larger, numbers, room}
-use Rattle.filewriter.specs.Written.{Fit, file-bytes, low-bytes, trailer-bytes, write-refusal, write-refusals, writing}
+use Rattle.filewriter.specs.Written.{Fit, Writes, file-bytes, low-bytes, trailer-bytes, write-refusal, write-refusals, writing}
 use Rattle.filewriter.specs.declared.Writing.{Writing}
 use Rattle.filewriter.specs.declared.Writing.the-variants.{Length}
 use Rattle.filewriter.proofs.Bytes.{low-length}
@@ -68,13 +68,9 @@ fit-of h masks moves w out g l r = record {
 }
 
 module _ (p : Profile) (w out : List ℕ) where
-  -- the answer, and the buffer afterwards
-  abbrev pub WrittenTo : Writing → List ℕ → Type 0
-  WrittenTo r o = let q = write-refusal p w (length out) in (r ≡ writing q (length (file-bytes p w))) × (o ≡ filled q (file-bytes p w) out)
-
-  pub write-refused : {r : Refusal} → write-refusal p w (length out) ≡ some r → WrittenTo (Writing.Refused r) out
+  pub write-refused : {r : Refusal} → write-refusal p w (length out) ≡ some r → Writes p w out out (Writing.Refused r)
   write-refused e = (sym (ap (λ o. writing o (length (file-bytes p w))) e), sym (ap (λ o. filled o (file-bytes p w) out) e))
 
   pub write-told : {n : ℕ} {o : List ℕ} → write-refusal p w (length out) ≡ none → n ≡ length (file-bytes p w)
-      → o ≡ file-bytes p w ++ drop (length (file-bytes p w)) out → WrittenTo (Length n) o
+      → o ≡ file-bytes p w ++ drop (length (file-bytes p w)) out → Writes p w out o (Length n)
   write-told e q r = (ap Length q ∙ sym (ap (λ o. writing o (length (file-bytes p w))) e), r ∙ sym (ap (λ o. filled o (file-bytes p w) out) e))

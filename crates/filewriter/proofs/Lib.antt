@@ -2,4 +2,5 @@
 pub mod Bytes
 pub mod Answers
 pub mod RoundTrip
+pub mod ReadBack
 pub mod FileCases

@@ -8,10 +8,11 @@ use lib.ListN.{length}
 use Rattle.profile.specs.Limits.{most-letters, most-states}
 use Rattle.profile.specs.Lists.{flat-map}
 use Rattle.profile.specs.Automata.{Profile, profile-of}
-use Rattle.profile.specs.Refusals.{log-refusals, longest, lowest, profile-refusals, short-buffer}
+use Rattle.profile.specs.Refusals.{log-refusals, longest, lowest, profile-refusals, refusal-number, refusal-place, short-buffer}
 use Rattle.profile.specs.declared.Shape.{Shape}
 use Rattle.profile.specs.declared.Refusal.{Refusal}
 use Rattle.profile.specs.declared.Refusal.the-variants.{ShortBuffer}
+use Rattle.logfile.specs.Files.{filled}
 use Rattle.filewriter.specs.declared.Writing.{Writing}
 use Rattle.filewriter.specs.declared.Writing.the-variants.{Length}
 
@@ -55,6 +56,21 @@ write-refusal p w m = lowest (write-refusals p w m)
 abbrev pub writing : Option Refusal → ℕ → Writing
 writing none n = Length n
 writing (some r) n = Writing.Refused r
+
+-- its numbers: the refusal's number, or 0; place, the file's length
+abbrev pub writing-code : Writing → ℕ
+writing-code (Writing.Refused r) = refusal-number r
+writing-code (Length n) = 0
+
+abbrev pub writing-told : Writing → List ℕ
+writing-told (Writing.Refused r) = refusal-place r ∷ 0 ∷ []
+writing-told (Length n) = 0 ∷ n ∷ []
+
+-- what the writer promises: its answer, and the lent buffer afterwards
+abbrev pub Writes : Profile → List ℕ → List ℕ → List ℕ → Writing → Type 0
+Writes p w out out′ r =
+    let q = write-refusal p w (length out) in
+    (r ≡ writing q (length (file-bytes p w))) × (out′ ≡ filled q (file-bytes p w) out)
 
 -- what the writer knows of a call that nothing refuses
 pub record Fit (h : Shape) (masks moves w out : List ℕ) : Type 0 where

@@ -5,8 +5,7 @@ ghost use lib.ListN.{length};
 ghost use lib.Seq.{sets};
 ghost use Rattle.profile.specs.Lists.{flat-map};
 ghost use Rattle.profile.specs.Automata.{profile-of};
-ghost use Rattle.logfile.specs.Files.{filled};
-ghost use Rattle.filewriter.specs.Written.{Fit, file-bytes, low-bytes, trailer-of, write-refusal, writing};
+ghost use Rattle.filewriter.specs.Written.{Fit, Writes, file-bytes, low-bytes, trailer-of};
 use profile::Check;
 use profile::Refusal;
 use profile::Shape;
@@ -122,9 +121,7 @@ fn put_file(shape: Shape, masks: &[u16], moves: &[u32], log: &[u8], out: &mut [u
 
 // Puts masks, moves, log and trailer, without gaps, and tells the file's length.
 pub fn write_file(shape: Shape, masks: &[u16], moves: &[u32], log: &[u8], out: &mut [u8]) -> Writing
-    ensures { λ r. ⌜ (let p = profile-of shape (now (masks .entry)) (now (moves .entry)) in let l = file-bytes p (now (log .entry)) in
-        let q = write-refusal p (now (log .entry)) (length (now (out .entry))) in
-        (r ≡ writing q (length l)) × (now (out .exit) ≡ filled q l (now (out .entry)))) ⌝ }
+    ensures { λ r. ⌜ Writes (profile-of shape (now (masks .entry)) (now (moves .entry))) (now (log .entry)) (now (out .entry)) (now (out .exit)) r ⌝ }
 {
     let k = shape.k;
     let of_profile = checks::check_profile(shape, masks, moves);

@@ -1,6 +1,5 @@
 // The judge for grammars as C has it: Paper 13. It returns the refusal's number, or 0, and tells the place, the verdict, P and looks. `capi` exports it.
 ghost use Rattle.grammar_calls.specs.GrammarCalls.{Judging};
-use verdict::Judged;
 
 pub fn judge(
     k: usize,
@@ -16,18 +15,5 @@ pub fn judge(
     ensures { λ r. ⌜ Judging k (now (masks .entry)) names (now (rules .entry)) (now (log .entry)) (now (order .entry)) (now (order .exit)) (now (work .entry)) (now (work .exit)) (now (sets .entry)) (now (sets .exit)) r (now (told .exit)) ⌝ }
 {
     let judged = grammar_judge::judge(k, masks, names, rules, log, order, work, sets);
-    match judged {
-        Judged::Refused(r) => {
-            *told = [refusals::place(r) as u64, 0, 0, 0];
-            refusals::number(r)
-        }
-        Judged::NoOrder { prefixes, looks } => {
-            *told = [0, 0, prefixes as u64, looks];
-            0
-        }
-        Judged::Order { prefixes, looks } => {
-            *told = [0, 1, prefixes as u64, looks];
-            0
-        }
-    }
+    answers::tell_judged(judged, told)
 }

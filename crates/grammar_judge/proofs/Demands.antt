@@ -23,6 +23,7 @@ use Rattle.theory.proofs.Profiles.{distinct}
 use Rattle.theory.proofs.Refusals.{GoodLog, Relation, log-at, relation-at}
 use Rattle.grammars.specs.Grammars.{Derivable, grammar-of}
 use Rattle.grammars.proofs.Verdicts.{derivable-grows, derivable-reach, empty-none, prefixes-grow}
+use Rattle.table.specs.Table.{Spared}
 use Rattle.verdict.specs.declared.Judged.{Judged}
 use Rattle.verdict.specs.declared.Judged.the-variants.{NoOrder, Order, Refused}
 use Rattle.verdict.specs.Verdict.{refused-by, verdict-number}
@@ -47,7 +48,7 @@ module _ (k : ℕ) (masks : List ℕ) (names : ℕ) (rules w order order′ tabl
 
   -- "Refusals leave every buffer unchanged", and "22 …, after 10 and with the work table free as there"
   pub refused-unchanged : (r : Refusal) → Promise k masks names rules w order order′ table table′ sets sets′ (Refused r)
-      → (order′ ≡ order) × (sets′ ≡ sets) × (r ≢ FullTable → r ≢ ShortSets → table′ ≡ table)
+      → (order′ ≡ order) × (sets′ ≡ sets) × (r ≢ FullTable → r ≢ ShortSets → table′ ≡ table) × Spared table table′
   refused-unchanged r h = h .told
 
 -- ---- demand 3, the existence half

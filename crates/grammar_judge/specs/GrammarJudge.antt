@@ -11,6 +11,7 @@ use Rattle.profile.specs.Traces.{independent}
 use Rattle.profile.specs.Refusals.{full-table, log-refusals, lowest, relation-refusals, short-buffer}
 use Rattle.profile.specs.declared.Refusal.{Refusal}
 use Rattle.profile.specs.declared.Refusal.the-variants.{BadRule, FullTable, ShortBuffer, ShortSets}
+use Rattle.table.specs.Table.{Spared}
 use Rattle.verdict.specs.declared.Judged.{Judged}
 use Rattle.verdict.specs.declared.Judged.the-variants.{NoOrder, Order, Refused}
 use Rattle.verdict.specs.Verdict.{refused-by}
@@ -35,10 +36,10 @@ abbrev pub grammar-refusal : ℕ → List ℕ → ℕ → List ℕ → List ℕ 
 grammar-refusal k masks names rules w n m z = lowest (grammar-refusals k masks names rules w n m z)
 
 -- "The verdict is 1 exactly when some reachable log can be derived from name 0, and such a log is returned, which one being free." A refusal leaves every
--- buffer, save the work table after 10 and 22; the second table's content after a verdict is free.
+-- buffer, save the usable numbers of the work table after 10 and 22; the second table's content after a verdict is free.
 abbrev pub judged : ℕ → List ℕ → List ℕ → List ℕ → List ℕ → List ℕ → List ℕ → List ℕ → List ℕ → List ℕ → Judged → Type 0
 judged k masks rules w order order′ table table′ sets sets′ (Refused r) =
-    (order′ ≡ order) × (sets′ ≡ sets) × (r ≢ FullTable → r ≢ ShortSets → table′ ≡ table)
+    (order′ ≡ order) × (sets′ ≡ sets) × (r ≢ FullTable → r ≢ ShortSets → table′ ≡ table) × Spared table table′
 judged k masks rules w order order′ table table′ sets sets′ (NoOrder P n) =
     ((v : List ℕ) → Derivable (grammar-of rules) (independent masks) w v → ⊥) × (order′ ≡ order) × Counted k masks w table table′ P n
 judged k masks rules w order order′ table table′ sets sets′ (Order P n) =

@@ -16,7 +16,7 @@ use Rattle.profile.specs.declared.Refusal.the-variants.{ShortBuffer}
 use Rattle.profile.specs.declared.Shape.{Shape}
 use Rattle.profile.proofs.Lists.{Rising, all-at}
 use Rattle.theory.proofs.Refusals.{lowest-append}
-use Rattle.logfile.specs.Files.{field, file-masks, file-moves, file-refusals, file-shape, filled, log-length, read-refusal, read-refusals, reading, section, short-buffers}
+use Rattle.logfile.specs.Files.{Reads, field, file-masks, file-moves, file-refusals, file-shape, filled, log-length, read-refusal, read-refusals, reading, section, short-buffers}
 use Rattle.logfile.specs.declared.Reading.{Reading}
 use Rattle.logfile.specs.declared.Reading.the-variants.{Told}
 use Rattle.logfile.proofs.Bytes.{numbers-length}
@@ -65,13 +65,7 @@ module _ (f : List ℕ) (a b : ℕ) (good : lowest (file-refusals f) ≡ none) w
       read-room ∙ ap₂ (λ t u. room (t || u)) (le-ltb a (length (file-masks f)) e) (le-ltb b (length (file-moves f)) d)
 
 module _ (f masks moves : List ℕ) where
-  -- the answer, and the buffers afterwards
-  abbrev pub ReadFrom : Reading → List ℕ → List ℕ → Type 0
-  ReadFrom r m v =
-      let q = read-refusal f (length masks) (length moves) in
-      (r ≡ reading q (file-shape f) (log-length f)) × (m ≡ filled q (file-masks f) masks) × (v ≡ filled q (file-moves f) moves)
-
-  pub read-refused : {r : Refusal} → read-refusal f (length masks) (length moves) ≡ some r → ReadFrom (Reading.Refused r) masks moves
+  pub read-refused : {r : Refusal} → read-refusal f (length masks) (length moves) ≡ some r → Reads f masks masks moves moves (Reading.Refused r)
   read-refused e = (
     sym (ap (λ o. reading o (file-shape f) (log-length f)) e),
     sym (ap (λ o. filled o (file-masks f) masks) e),
@@ -79,7 +73,7 @@ module _ (f masks moves : List ℕ) where
   )
 
   pub read-told : {h : Shape} {n : ℕ} {m v : List ℕ} → read-refusal f (length masks) (length moves) ≡ none → h ≡ file-shape f → n ≡ log-length f
-      → m ≡ file-masks f ++ drop (length (file-masks f)) masks → v ≡ file-moves f ++ drop (length (file-moves f)) moves → ReadFrom (Told h n) m v
+      → m ≡ file-masks f ++ drop (length (file-masks f)) masks → v ≡ file-moves f ++ drop (length (file-moves f)) moves → Reads f masks m moves v (Told h n)
   read-told e p q r s = (
     ap₂ Told p q ∙ sym (ap (λ o. reading o (file-shape f) (log-length f)) e),
     r ∙ sym (ap (λ o. filled o (file-masks f) masks) e),

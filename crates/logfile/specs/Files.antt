@@ -1,4 +1,5 @@
 -- Document 01, "Log file": what a file holds, why it is refused, what the reader gives. A file is a list of bytes.
+use mathlib.Core.Path.{_≡_}
 use mathlib.Core.Bool.{Bool, _||_, not}
 use mathlib.Core.List.{List, [], _∷_, _++_, map}
 use mathlib.Core.Option.{Option, none, some}
@@ -9,7 +10,7 @@ use Rattle.profile.specs.Limits.{finals-byte, length-byte, length-high-byte, le
 use Rattle.profile.specs.Lists.{below}
 use Rattle.profile.specs.Automata.{Profile, profile-of}
 use Rattle.profile.specs.Tables.{pack}
-use Rattle.profile.specs.Refusals.{log-refusals, lowest, mask-bit, profile-out-of-range, short-buffer, state-bit}
+use Rattle.profile.specs.Refusals.{log-refusals, lowest, mask-bit, profile-out-of-range, refusal-number, refusal-place, short-buffer, state-bit}
 use Rattle.profile.specs.declared.Shape.{Shape}
 use Rattle.profile.specs.declared.Refusal.{Refusal}
 use Rattle.profile.specs.declared.Refusal.the-variants.{Distance, MaskBit, OutOfRange, ShortBuffer, ShortFile, StateBit}
@@ -117,9 +118,24 @@ abbrev pub reading : Option Refusal → Shape → ℕ → Reading
 reading none h n = Told h n
 reading (some r) h n = Reading.Refused r
 
+-- its numbers: the refusal's number, or 0; place, k, s, start, final set, n
+abbrev pub reading-code : Reading → ℕ
+reading-code (Reading.Refused r) = refusal-number r
+reading-code (Told h n) = 0
+
+abbrev pub reading-told : Reading → List ℕ
+reading-told (Reading.Refused r) = refusal-place r ∷ 0 ∷ 0 ∷ 0 ∷ 0 ∷ 0 ∷ []
+reading-told (Told h n) = 0 ∷ h .k ∷ h .s ∷ h .start ∷ h .finals ∷ n ∷ []
+
 -- "a lent … buffer": l from its start, "further elements unchanged"; refused, it is as before
 abbrev pub filled : Option Refusal → List ℕ → List ℕ → List ℕ
 filled r l before = unless r (l ++ drop (length l) before) before
+
+-- what the reader promises: its answer, and each lent buffer afterwards
+abbrev pub Reads : List ℕ → List ℕ → List ℕ → List ℕ → List ℕ → Reading → Type 0
+Reads f masks masks′ moves moves′ r =
+    let q = read-refusal f (length masks) (length moves) in
+    (r ≡ reading q (file-shape f) (log-length f)) × (masks′ ≡ filled q (file-masks f) masks) × (moves′ ≡ filled q (file-moves f) moves)
 
 -- where the log section stands: its first place and its length, or the refusal
 abbrev pub located : Option Refusal → ℕ → ℕ → Located
@@ -128,6 +144,15 @@ located (some r) i n = Located.Refused r
 
 abbrev pub log-location : List ℕ → Located
 log-location f = located (lowest (file-refusals f)) (section f log-byte) (log-length f)
+
+-- its numbers: the refusal's number, or 0; place, the section's first place, its length
+abbrev pub located-code : Located → ℕ
+located-code (Located.Refused r) = refusal-number r
+located-code (At i n) = 0
+
+abbrev pub located-told : Located → List ℕ
+located-told (Located.Refused r) = refusal-place r ∷ 0 ∷ 0 ∷ []
+located-told (At i n) = 0 ∷ i ∷ n ∷ []
 
 -- "handed back as that part of the file"; "A file refused by 1 to 8 hands back an empty part"
 abbrev pub log-part-of : List ℕ → List ℕ

@@ -6,7 +6,7 @@ ghost use Prim.Native.Nat.{_+_, _*_, _≤_};
 ghost use lib.ListN.{length, getD, drop};
 ghost use Rattle.profile.specs.Limits.{finals-byte};
 ghost use Rattle.profile.specs.Refusals.{checked, lowest};
-ghost use Rattle.logfile.specs.Files.{content-refusals, distance-out-of-range, field, file-log, file-masks, file-moves, file-out-of-range, file-profile, file-refusals, file-shape, filled, half, log-length, log-location, log-part-of, numbers-from, numbers-out-of-range, outside, read-refusal, reading, section, trailer, word};
+ghost use Rattle.logfile.specs.Files.{Reads, content-refusals, distance-out-of-range, field, file-log, file-out-of-range, file-profile, file-refusals, file-shape, half, log-length, log-location, log-part-of, numbers-from, numbers-out-of-range, outside, section, trailer, word};
 use profile::Check;
 use profile::Refusal;
 use profile::Shape;
@@ -285,9 +285,7 @@ pub fn log_part(file: &[u8]) -> &[u8]
 
 // Tells k, s, start state, final set and n, and fills the mask buffer and the move buffer from their starts.
 pub fn read_file(file: &[u8], masks: &mut [u16], moves: &mut [u32]) -> Reading
-    ensures { λ r. ⌜ (let f = now (file .entry) in let q = read-refusal f (length (now (masks .entry))) (length (now (moves .entry))) in
-        (r ≡ reading q (file-shape f) (log-length f)) × (now (masks .exit) ≡ filled q (file-masks f) (now (masks .entry)))
-        × (now (moves .exit) ≡ filled q (file-moves f) (now (moves .entry)))) ⌝ }
+    ensures { λ r. ⌜ Reads (now (file .entry)) (now (masks .entry)) (now (masks .exit)) (now (moves .entry)) (now (moves .exit)) r ⌝ }
 {
     let check = check_file(file);
     if let Check::Bad(r) = check {

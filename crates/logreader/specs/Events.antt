@@ -16,6 +16,11 @@ pick false a b = b
 abbrev pub event-of : List ℕ → ℕ → Event
 event-of s at = pick (ltb at (length s)) (Letter (getD s at 0)) End
 
+-- its number: the letter, or 256 at the end, which is no letter
+abbrev pub event-number : Event → ℕ
+event-number (Letter a) = a
+event-number End = 256
+
 -- "and advances one": the place of the event after it; at the end the place stays
 abbrev pub place-behind : List ℕ → ℕ → ℕ
 place-behind s at = cond (ltb at (length s)) (at + 1) at

@@ -23,6 +23,15 @@ abbrev pub ordered-values : Ordered → List ℕ
 ordered-values Written = []
 ordered-values (Refused r) = refusal-number r ∷ refusal-place r ∷ []
 
+-- the numbers of an answer: the refusal's number, or 0; place
+abbrev pub ordered-code : Ordered → ℕ
+ordered-code Written = 0
+ordered-code (Refused r) = refusal-number r
+
+abbrev pub ordered-told : Ordered → List ℕ
+ordered-told Written = 0 ∷ []
+ordered-told (Refused r) = refusal-place r ∷ []
+
 -- "First order", where the order buffer has n places
 abbrev pub ordering : ℕ → List ℕ → List ℕ → ℕ → Ordered
 ordering k masks w n = ordered-as (first-order-refusal k masks w n)

@@ -12,7 +12,7 @@ use Rattle.profile.specs.Traces.{Reachable, independent, orders}
 use Rattle.profile.specs.Automata.{Profile, automaton}
 use Rattle.profile.specs.Prefixes.{at, backward, by-total, forward, looks as looks-by, prefix-count}
 use Rattle.profile.specs.Orders.{accepted-order}
-use Rattle.profile.specs.Tables.{layout, table-of}
+use Rattle.profile.specs.Tables.{count-field, layout, packed, table-of}
 use Rattle.profile.proofs.Lists.{all-at, any-at, equal-test, fst-of, snd-of}
 use Rattle.profile.proofs.Traces.{reach-orders}
 
@@ -238,6 +238,11 @@ right-of r t =
             eqb→eq (backward-of r (e .0)) (e .2) (snd-of (eqb (forward-of r (e .0)) (e .1)) (eqb (backward-of r (e .0)) (e .2)) x),
           );
     }
+
+-- "letter i in number i div 2, the even letter in the low half", of letters 0, 3 and 4
+pub fields : (count-field layout (packed layout (1 ∷ 2 ∷ 3 ∷ 4 ∷ 5 ∷ [])) 0 ≡ 1) × (count-field layout (packed layout (1 ∷ 2 ∷ 3 ∷ 4 ∷ 5 ∷ [])) 3 ≡ 4)
+    × (count-field layout (packed layout (1 ∷ 2 ∷ 3 ∷ 4 ∷ 5 ∷ [])) 4 ≡ 5)
+fields = (refl, refl, refl)
 
 -- "case M9 now reads empty, b, a, ab" (document 02, Paper 5): its table in 42 numbers, a row for each record, counts in eight numbers, then forward and
 -- backward; the last two numbers are as before

@@ -4,7 +4,10 @@ pub mod Lists
 pub mod Sets
 -- reachable logs
 pub mod Traces
--- what the relations say; worked cases
-pub mod Meanings
+-- each relation and its test: prefixes, accepted logs, letter order and the same logs
+pub mod Marks
+pub mod Paths
+pub mod Orders
+-- worked cases
 pub mod Cases
 pub mod Edges

@@ -37,15 +37,18 @@ module _ (letter : ℕ → ℕ) where
   unmarked [] c = []
   unmarked (a ∷ w) c = elim (c (letter a)) [ zero ↦ a ∷ unmarked w c | suc n ↦ unmarked w (less c (letter a)) ]
 
--- "prefix": no count exceeds that letter's count in w; and wherever w is u a v b x and b is marked, a is marked too unless a directly followed by b may
--- become b a: "an earlier event must be marked unless its letter may be moved past by the marked one". An event is marked when fewer events of its letter
--- stand before it than its letter's count.
+-- wherever w is u a v b x and b is marked, a is marked too unless a directly followed by b may become b a: "an earlier event must be marked unless its
+-- letter may be moved past by the marked one". An event is marked when fewer events of its letter stand before it than its letter's count.
+abbrev pub Closed : (ℕ → ℕ → Bool) → (ℕ → ℕ) → List ℕ → (ℕ → ℕ) → Type 0
+Closed may letter w c = (u v x : List ℕ) (a b : ℕ) → w ≡ u ++ (a ∷ (v ++ (b ∷ x))) → count letter (u ++ (a ∷ v)) (letter b) < c (letter b)
+    → T (not (may a b)) → count letter u (letter a) < c (letter a)
+
+-- "prefix": no count exceeds that letter's count in w, and the rule holds
 pub record IsPrefix (may : ℕ → ℕ → Bool) (letter : ℕ → ℕ) (w : List ℕ) (c : ℕ → ℕ) : Type 0 where
   pub fits : (x : ℕ) → c x ≤ count letter w x
-  pub closed : (u v x : List ℕ) (a b : ℕ) → w ≡ u ++ (a ∷ (v ++ (b ∷ x))) → count letter (u ++ (a ∷ v)) (letter b) < c (letter b)
-      → T (not (may a b)) → count letter u (letter a) < c (letter a)
+  pub closed : Closed may letter w c
 
--- the second part as a test: what is marked behind an unmarked event may pass it
+-- the rule as a test: what is marked behind an unmarked event may pass it
 abbrev pub closed? : (ℕ → ℕ → Bool) → (ℕ → ℕ) → List ℕ → (ℕ → ℕ) → Bool
 closed? may letter [] c = true
 closed? may letter (a ∷ w) c =

@@ -3,4 +3,5 @@ pub mod Decimal
 pub mod Texts
 pub mod Printing
 pub mod ProgramCases
+pub mod Program
 pub mod ProgramRefusals

@@ -1,11 +1,11 @@
 // What the program prints for an input: document 01, "Program".
 ghost use mathlib.Core.Path.{_≡_};
 ghost use Prim.Native.Nat.{_+_, _*_, _≤_};
-ghost use lib.ListN.{length, take, drop};
-ghost use Rattle.profile.specs.Limits.{program-numbers, program-text};
+ghost use lib.ListN.{length};
+ghost use Rattle.profile.specs.Limits.{program-text};
 ghost use Rattle.profile.specs.Lists.{flat-map};
 ghost use Rattle.profile.specs.Automata.{profile-of};
-ghost use Rattle.report.specs.Report.{Put, decimal, file-text, judged-text, number-line, order-line, printed, refusal-line, spaced, verdict-lines};
+ghost use Rattle.report.specs.Report.{Put, Responds, decimal, file-table, file-text, judged-table, judged-text, number-line, order-line, refusal-line, spaced, verdict-lines};
 use logfile::Reading;
 use profile::Refusal;
 use profile::Shape;
@@ -13,6 +13,7 @@ use profile::limits::LONGEST;
 use profile::limits::LONGEST_INPUT;
 use profile::limits::MOST_LETTERS;
 use profile::limits::MOST_MOVES;
+use profile::limits::PROGRAM_TEXT;
 use verdict::Judged;
 
 // Puts the bytes from place `at` on, and tells the place behind them.
@@ -112,8 +113,9 @@ fn put_judged(
     out: &mut [u8],
     work: &mut [u32],
 ) -> usize
-    requires { ⌜ (program-text ≤ length (now out)) × (length (now work) ≡ program-numbers) ⌝ }
-    ensures { λ r. ⌜ Put (now (out .entry)) 0 (judged-text (profile-of shape (now (masks .entry)) (now (moves .entry))) (now (log .entry))) (now (out .exit)) r ⌝ }
+    requires { ⌜ program-text ≤ length (now out) ⌝ }
+    ensures { λ r. ⌜ Put (now (out .entry)) 0 (judged-text (profile-of shape (now (masks .entry)) (now (moves .entry))) (now (log .entry)) (length (now (work .entry)))) (now (out .exit)) r ⌝ }
+    ensures { λ _. ⌜ judged-table (profile-of shape (now (masks .entry)) (now (moves .entry))) (now (log .entry)) (now (work .entry)) (now (work .exit)) ⌝ }
 {
     let mut order = [0u8; LONGEST];
     let judged = verdict::judge(shape, masks, moves, log, &mut order, work);
@@ -130,8 +132,9 @@ fn put_judged(
 
 // Puts what is printed for a file, and tells its length.
 fn put_file(file: &[u8], out: &mut [u8], work: &mut [u32]) -> usize
-    requires { ⌜ (program-text ≤ length (now out)) × (length (now work) ≡ program-numbers) ⌝ }
-    ensures { λ r. ⌜ Put (now (out .entry)) 0 (file-text (now (file .entry))) (now (out .exit)) r ⌝ }
+    requires { ⌜ program-text ≤ length (now out) ⌝ }
+    ensures { λ r. ⌜ Put (now (out .entry)) 0 (file-text (now (file .entry)) (length (now (work .entry)))) (now (out .exit)) r ⌝ }
+    ensures { λ _. ⌜ file-table (now (file .entry)) (now (work .entry)) (now (work .exit)) ⌝ }
 {
     let mut masks = [0u16; MOST_LETTERS];
     let mut moves = [0u32; MOST_MOVES];
@@ -148,13 +151,15 @@ fn put_file(file: &[u8], out: &mut [u8], work: &mut [u32]) -> usize
     }
 }
 
-// Puts exactly what the program prints for its input, with a table of 16,380 numbers, and tells its length. The other bytes of `out` stay; what
-// the table holds afterwards is free.
+// Puts what the program prints for its input, with the table that is lent, and tells its length; the other bytes of `out` stay. With fewer bytes than
+// the longest text may need nothing is put. The table is as before where the input is too long or a refusal before 10 is printed, free after 10, and
+// holds the prefixes after a verdict.
 pub fn respond(input: &[u8], out: &mut [u8], work: &mut [u32]) -> usize
-    requires { ⌜ (program-text ≤ length (now out)) × (length (now work) ≡ program-numbers) ⌝ }
-    ensures { λ r. ⌜ take r (now (out .exit)) ≡ printed (now (input .entry)) ⌝ }
-    ensures { λ r. ⌜ (r ≤ length (now (out .entry))) × (drop r (now (out .exit)) ≡ drop r (now (out .entry))) ⌝ }
+    ensures { λ r. ⌜ Responds (now (input .entry)) (now (out .entry)) (now (out .exit)) (now (work .entry)) (now (work .exit)) r ⌝ }
 {
+    if out.len() < PROGRAM_TEXT {
+        return 0;
+    }
     if LONGEST_INPUT < input.len() {
         return put_bytes(out, 0, b"too long\n");
     }

@@ -1,6 +1,6 @@
 -- Paper 7, "Verdict while the class is lending": the record of a running judge, its calls, what refuses them, and what each promises.
 use mathlib.Core.Path.{_≡_}
-use mathlib.Core.Bool.{Bool, true, false}
+use mathlib.Core.Bool.{Bool, true, false, cond}
 use mathlib.Core.List.{List, [], _∷_, _++_}
 use mathlib.Core.Option.{Option, none, some}
 use Prim.Native.Nat.{ℕ, suc, _*_}
@@ -10,7 +10,7 @@ use Rattle.profile.specs.Traces.{independent}
 use Rattle.profile.specs.Automata.{Profile, automaton}
 use Rattle.profile.specs.Rules.{order-by, plain, prefixes-by}
 use Rattle.profile.specs.Tables.{layout, record-length}
-use Rattle.profile.specs.Refusals.{full-table, longest, lowest, profile-refusals}
+use Rattle.profile.specs.Refusals.{full-table, longest, lowest, profile-refusals, refusal-number, refusal-place}
 use Rattle.profile.specs.declared.Refusal.{Refusal}
 use Rattle.profile.specs.declared.Refusal.the-variants.{BadLetter, FullTable, LongLog}
 use Rattle.theory.proofs.Refusals.{GoodLog}
@@ -65,6 +65,31 @@ step-refused Taken = none
 abbrev pub told-refused : Told → Option Refusal
 told-refused (NotTold x) = some x
 told-refused (Verdict v P n) = none
+
+-- the numbers of an answer: the refusal's number, or 0, and what is told: the place; of a question also verdict, P and the number of events taken
+abbrev pub started-code : Started → ℕ
+started-code (NotBegun x) = refusal-number x
+started-code (Begun r) = 0
+
+abbrev pub started-told : Started → List ℕ
+started-told (NotBegun x) = refusal-place x ∷ []
+started-told (Begun r) = 0 ∷ []
+
+abbrev pub step-code : Step → ℕ
+step-code (NotTaken x) = refusal-number x
+step-code Taken = 0
+
+abbrev pub step-told : Step → List ℕ
+step-told (NotTaken x) = refusal-place x ∷ []
+step-told Taken = 0 ∷ []
+
+abbrev pub question-code : Told → ℕ
+question-code (NotTold x) = refusal-number x
+question-code (Verdict v P n) = 0
+
+abbrev pub question-told : Told → List ℕ
+question-told (NotTold x) = refusal-place x ∷ 0 ∷ 0 ∷ 0 ∷ []
+question-told (Verdict v P n) = 0 ∷ cond v 1 0 ∷ P ∷ n ∷ []
 
 -- ---- the record and the table
 

@@ -1,6 +1,6 @@
 -- Document 02, Paper 5: the order of records, and the search for a prefix by its counts. t is a table or a part of one, c the numbers of counts of a record.
 use mathlib.Core.Bool.{Bool, not, cond}
-use mathlib.Core.List.{List}
+use mathlib.Core.List.{List, [], _∷_}
 use Prim.Native.Nat.{ℕ, _<_}
 use lib.Dec.{T}
 use lib.ListN.{length}
@@ -12,6 +12,11 @@ use Rattle.counts.specs.Counts.{counts-in}
 use Rattle.records.specs.Records.{counts-at, records-in}
 use Rattle.search.specs.declared.Found.{Found}
 use Rattle.search.specs.declared.Found.the-variants.{Absent, At}
+
+-- the numbers of an answer: 1 and the record, or 0 and how many records stand before
+abbrev pub found-told : Found → List ℕ
+found-told (At i) = 1 ∷ i ∷ []
+found-told (Absent n) = 0 ∷ n ∷ []
 
 -- "by their counts, the count of letter 0 first, the smaller first", the total before them: c stands before d
 abbrev pub stands-before? : List ℕ → List ℕ → Bool

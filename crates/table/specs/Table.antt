@@ -4,12 +4,12 @@ use mathlib.Core.Bool.{Bool}
 use mathlib.Core.Logic.{_≢_}
 use mathlib.Core.List.{List, [], _∷_, _++_}
 use mathlib.Core.Option.{Option, none, some}
-use Prim.Native.Nat.{ℕ, _≤_, _<_}
-use lib.ListN.{length}
+use Prim.Native.Nat.{ℕ, _*_, _≤_, _<_}
+use lib.ListN.{drop, length}
 use Rattle.profile.specs.Automata.{Profile}
-use Rattle.profile.specs.Tables.{capacity, layout}
+use Rattle.profile.specs.Tables.{capacity, layout, record-length}
 use Rattle.profile.specs.Rules.{Rules, looks-by, plain, prefixes-by, table-by}
-use Rattle.profile.specs.Refusals.{full-table, log-refusals, lowest, profile-refusals}
+use Rattle.profile.specs.Refusals.{full-table, log-refusals, lowest, profile-refusals, refusal-number, refusal-place}
 use Rattle.theory.proofs.Refusals.{GoodEvents, GoodProfile}
 use Rattle.profile.specs.declared.Refusal.{Refusal}
 use Rattle.profile.specs.declared.Refusal.the-variants.{FullTable}
@@ -32,12 +32,34 @@ abbrev pub refused-by : Built → Option Refusal
 refused-by (Refused r) = some r
 refused-by (Filled P n) = none
 
--- what is promised of the table: "Refusals leave every buffer unchanged; only after 10 is the work table's content free"; after an answer the table
--- holds the prefixes, P is their number, and looks that of their additions
+-- the numbers of an answer: the refusal's number, or 0; place, P, looks
+abbrev pub built-code : Built → ℕ
+built-code (Refused r) = refusal-number r
+built-code (Filled P n) = 0
+
+abbrev pub built-told : Built → List ℕ
+built-told (Refused r) = refusal-place r ∷ 0 ∷ 0 ∷ []
+built-told (Filled P n) = 0 ∷ P ∷ n ∷ []
+
+-- the numbers of a table of m that have place for records, and those of the table t that have not: "a rest below" ten, "and all numbers past the first
+-- 4,294,967,292, are unused"
+abbrev pub usable : ℕ → ℕ
+usable m = record-length layout * capacity layout m
+
+abbrev pub unused : List ℕ → List ℕ
+unused t = drop (usable (length t)) t
+
+-- "are unused": these numbers stay
+pub record Spared (before after : List ℕ) : Type 0 where
+  pub long : length after ≡ length before
+  pub rest : unused after ≡ unused before
+
+-- what is promised of the table: "Refusals leave every buffer unchanged; only after 10 is the work table's content free", that of its usable numbers; after
+-- an answer the table holds the prefixes, P is their number, and looks that of their additions
 abbrev pub promised : Rules → List ℕ → List ℕ → List ℕ → Built → Type 0
-promised p w before after (Refused r) = r ≢ FullTable → after ≡ before
+promised p w before after (Refused r) = (r ≢ FullTable → after ≡ before) × Spared before after
 promised p w before after (Filled P n) =
-    (P ≡ prefixes-by p w) × (n ≡ looks-by p w) × (after ≡ table-by p w before)
+    (P ≡ prefixes-by p w) × (n ≡ looks-by p w) × (after ≡ table-by p w before) × Spared before after
 
 -- the answer of filling a table that was `before`: refused by 10 exactly when the records do not fit, and what is promised of the table
 abbrev pub fills : Rules → List ℕ → List ℕ → Built → Type 0

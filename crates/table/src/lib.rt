@@ -12,6 +12,7 @@ use profile::Shape;
 use profile::limits::MOST_LETTERS;
 use profile::limits::MOST_PLACES;
 use profile::limits::Place;
+use profile::limits::RECORD_NUMBERS;
 
 // The answer of building: P and looks, or the refusal.
 pub enum Built {
@@ -36,8 +37,9 @@ pub fn fill(
     requires { ⌜ Finds (rules-of (profile-of shape (now masks) (now moves)) termed) (now log) (now starts) (now places) (now turns) termed ⌝ }
     ensures { λ r. ⌜ Fills (rules-of (profile-of shape (now (masks .entry)) (now (moves .entry))) termed) (now (log .entry)) (now (table .entry)) (now (table .exit)) r ⌝ }
 {
+    let used = RECORD_NUMBERS * room;
     let pass = forward::fill_forward(
-        table,
+        &mut table[0..used],
         room,
         shape,
         masks,

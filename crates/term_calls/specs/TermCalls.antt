@@ -5,7 +5,7 @@ use Prim.Native.Nat.{ℕ}
 use Rattle.profile.specs.Automata.{Profile}
 use Rattle.verdict.specs.declared.Judged.{Judged}
 use Rattle.termed.specs.Termed.{Promise}
-use Rattle.answers.specs.Answers.{judged-code, judged-told}
+use Rattle.verdict.specs.Verdict.{judged-code, judged-told}
 
 pub record TermJudging (p : Profile) (w days terms order order′ table table′ : List ℕ) (code : ℕ) (told : List ℕ) : Type 0 where
   pub answer : Judged

@@ -21,6 +21,7 @@ use Rattle.theory.proofs.Calls.{WitnessBy}
 use Rattle.terms.specs.Terms.{dated-refusal, dated-refusals, events, letter-of, may-in, term-refusals, with-terms}
 use Rattle.terms.proofs.Meanings.{days-good}
 use Rattle.terms.proofs.Logs.{dated-events, days-short, events-length}
+use Rattle.table.specs.Table.{Spared}
 use Rattle.verdict.specs.Verdict.{verdict-number}
 use Rattle.verdict.specs.declared.Judged.{Judged}
 use Rattle.verdict.specs.declared.Judged.the-variants.{Refused}
@@ -47,8 +48,8 @@ module _ (p : Profile) (w days terms order order′ table table′ : List ℕ) w
       → (j ≡ Refused r) ↔ (dated-refusal p w days terms (length order) (length table) ≡ some r)
   refused-exactly = refused-exactly-by (with-terms p terms) (events w days) order order′ table table′ (dated-refusal p w days terms (length order) (length table))
 
-  -- "A refused call changes nothing it was lent, save the work table at refusal 10"
-  pub refused-unchanged : (r : Refusal) → Promise p w days terms order order′ table table′ (Refused r) → (order′ ≡ order) × (r ≢ FullTable → table′ ≡ table)
+  -- "A refused call changes nothing it was lent, save the work table at refusal 10", and of that the usable numbers alone
+  pub refused-unchanged : (r : Refusal) → Promise p w days terms order order′ table table′ (Refused r) → (order′ ≡ order) × (r ≢ FullTable → table′ ≡ table) × Spared table table′
   refused-unchanged r h = h .told
 
 -- ---- demand 3: a log with terms is its events, each with its day, and these exchanges are inside a term

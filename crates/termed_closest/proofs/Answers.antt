@@ -26,7 +26,7 @@ module _ (p : Rules) (w : List ℕ) (B : ℕ) (order table table′ costs : List
   -- the records do not fit
   pub told-refused : (r : Refusal) → Fills p w table table′ (built.Refused r) → Answered p w B order order table table′ costs costs (Refused r)
   told-refused r h = filled.refused-before p w B order table costs tenth
-      (ap some (h .answer .0) ∙ sym (rw (lt-ltb (capacity layout (length table)) (prefixes-by p w) (h .answer .1), lowest))) table′ (h .table)
+      (ap some (h .answer .0) ∙ sym (rw (lt-ltb (capacity layout (length table)) (prefixes-by p w) (h .answer .1), lowest))) table′ (h .table .0) (h .table .1)
 
   -- the table is filled
   pub told-answer : (P n : ℕ) → Fills p w table table′ (built.Filled P n) → (order′ costs′ : List ℕ) (r : Closest)

@@ -22,6 +22,7 @@ use Rattle.verdict.specs.Verdict.{Counted}
 use Rattle.closestanswer.specs.Answers.{Close, short-costs, told}
 use Rattle.closestanswer.specs.declared.Closest.{Closest}
 use Rattle.closestanswer.specs.declared.Closest.the-variants.{NoOrder, Order, Refused}
+use Rattle.table.proofs.Filling.{spared-same}
 use Rattle.closestfilled.proofs.Answering.{refused-before}
 use Rattle.closestterms.specs.Dated.{Promise}
 use Rattle.closestterms.proofs.Relabelled.{closest-named, floor-named, swaps-named}
@@ -40,7 +41,7 @@ module _ (p : Profile) (w days terms : List ℕ) (B : ℕ) (order table costs : 
   pub told-early : (r : Refusal) → lowest (dated-admission p w days terms (length order)) ≡ some r
       → Promise p w days terms B order order table table costs costs (Refused r)
   told-early r e = refused-before (with-terms p terms) (events w days) B order table costs (dated-refusals p w days terms (length order) (length table))
-      (refused-early p w days terms (length order) (length table) e) table (λ ne. refl)
+      (refused-early p w days terms (length order) (length table) e) table (λ ne. refl) (spared-same table)
 
   module _ (e : lowest (dated-admission p w days terms (length order)) ≡ none) (order′ table′ costs′ : List ℕ) where
     abbrev few : term-count terms ≤ most-terms

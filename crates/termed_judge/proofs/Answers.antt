@@ -24,7 +24,7 @@ module _ (p : Rules) (w order table table′ : List ℕ) where
   pub told-refused : (r : Refusal) → Fills p w table table′ (built.Refused r) → Answered p w order order table table′ (Refused r)
   told-refused r h = record {
     refused = ap some (h .answer .0) ∙ sym (rw (lt-ltb (capacity layout (length table)) (prefixes-by p w) (h .answer .1), lowest));
-    told = (refl, h .table);
+    told = (refl, h .table .0, h .table .1);
   }
 
   -- the table is filled

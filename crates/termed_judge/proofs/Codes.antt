@@ -80,7 +80,7 @@ module _ (p : Profile) (w days terms : List ℕ) {n : ℕ} (a : DatedAdmitted p 
 module _ (p : Profile) (w days terms order table : List ℕ) where
   -- refused before the table
   pub told-early : (r : Refusal) → lowest (dated-admission p w days terms (length order)) ≡ some r → Promise p w days terms order order table table (Refused r)
-  told-early r e = record { refused = refused-early p w days terms (length order) (length table) e; told = (refl, λ ne. refl) }
+  told-early r e = record { refused = refused-early p w days terms (length order) (length table) e; told = (refl, λ ne. refl, record { long = refl; rest = refl }) }
 
   module _ (e : lowest (dated-admission p w days terms (length order)) ≡ none) (order′ table′ : List ℕ) where
     abbrev few : term-count terms ≤ most-terms

@@ -13,28 +13,11 @@ use Rattle.profile.specs.Prefixes.{IsPrefix, addable?, at, backward, count, for
 use Rattle.profile.specs.Traces.{Reachable, bit, letters-below, orders}
 use Rattle.profile.proofs.Lists.{below-of, filter-at, filter-of}
 use Rattle.theory.proofs.Prefixes.{addable-at, addable-of, all-of-pick, count-append, count-of-prefix, count-order, front-all, front-marked, front-none, more-of-pick, prefix-of-front, prefix-of-takes, removable-at, removable-of, removable?, takes-of-prefix}
+pub use Rattle.profile.proofs.Paths.{Lawful, run-at, run-of}
 use Rattle.profile.proofs.Sets.{meets-at, meets-of, sets-eq, union-at, union-of}
 use Rattle.profile.proofs.Traces.{Order, Pick, done, mem-of-order, next, order-of-mem, order-of-reach, reach-of-order, takes-last, takes-trans}
 
--- step and back are what the moves say
-pub record Lawful (M : Automaton) : Type 0 where
-  pub step-of : (S x q r : ℕ) → T (bit S q) → T (M .move q x r) → T (bit (M .step S x) r)
-  pub step-at : (S x r : ℕ) → T (bit (M .step S x) r) → (q : ℕ) × T (bit S q) × T (M .move q x r)
-  pub back-of : (R x q r : ℕ) → T (bit R r) → T (M .move q x r) → T (bit (M .back R x) q)
-  pub back-at : (R x q : ℕ) → T (bit (M .back R x) q) → (r : ℕ) × T (bit R r) × T (M .move q x r)
-
 module _ (M : Automaton) (L : Lawful M) (letter : ℕ → ℕ) where
-  pub run-of : (S : ℕ) {q r : ℕ} {u : List ℕ} → T (bit S q) → PathOf M letter q u r → T (bit (run M letter S u) r)
-  run-of S h stop = h
-  run-of S h (goes {q = q} {a = a} {r = r} m l) = run-of (M .step S (letter a)) (L .step-of S (letter a) q r h m) l
-
-  pub run-at : (S : ℕ) (u : List ℕ) (r : ℕ) → T (bit (run M letter S u) r) → (q : ℕ) × T (bit S q) × PathOf M letter q u r
-  run-at S [] r h = (r, h, stop)
-  run-at S (a ∷ u) r h =
-      let n = run-at (M .step S (letter a)) u r h in
-      let k = L .step-at S (letter a) (n .0) (n .1) in
-      (k .0, k .1, goes (k .2) (n .2))
-
   pub back-of-leads : (R : ℕ) {q r : ℕ} {u : List ℕ} → PathOf M letter q u r → T (bit R r) → T (bit (run-back M letter R u) q)
   back-of-leads R stop h = h
   back-of-leads R (goes {q = q} {a = a} {r = r} {u = u} m l) h = L .back-of (run-back M letter R u) (letter a) q r (back-of-leads R l h) m

@@ -12,6 +12,7 @@ use Rattle.profile.specs.Orders.{NoLater, agrees, earliest, ends, first-order, 
 use Rattle.profile.specs.Prefixes.{at}
 use Rattle.profile.specs.Traces.{Reachable, Symmetric, orders}
 use Rattle.profile.proofs.Lists.{either, filter-at, filter-none, filter-of, fst-of, is-false, is-true, lt-or-le, snd-of, test}
+pub use Rattle.profile.proofs.Orders.{no-later-of-test}
 use Rattle.theory.proofs.Prefixes.{pick-same}
 use Rattle.profile.proofs.Traces.{Order, Pick, Takes, done, mem-of-order, next, no-pick, order-of-mem, order-of-reach, order-trans, reach-of-order, reach-sym, reach-trans, takes-refl}
 
@@ -34,11 +35,6 @@ no-later-antisym (smaller h) (smaller k) = absurd (omega arith)
 no-later-antisym (smaller h) (agrees e k) = absurd (omega arith)
 no-later-antisym (agrees d h) (smaller k) = absurd (omega arith)
 no-later-antisym (agrees d h) (agrees e k) = ap₂ _∷_ d (no-later-antisym h k)
-
-pub no-later-of-test : (u v : List ℕ) → T (no-later? u v) → NoLater u v
-no-later-of-test [] v t = ends
-no-later-of-test (a ∷ u) (b ∷ v) t = ⊎-elim (λ h. smaller (ltb→lt a b h))
-    (λ h. agrees (eqb→eq a b (fst-of (eqb a b) (no-later? u v) h)) (no-later-of-test u v (snd-of (eqb a b) (no-later? u v) h))) (either (ltb a b) (eqb a b && no-later? u v) t)
 
 pub ge-of-test : (u v : List ℕ) → T (not (no-later? u v)) → NoLater v u
 ge-of-test [] v t = absurd t

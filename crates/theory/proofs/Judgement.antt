@@ -15,17 +15,9 @@ use Rattle.theory.proofs.Automata.{Lawful, back-at-leads, back-of-leads
 use Rattle.theory.proofs.Earliest.{Greedy, earliest-at, end, good, greedy-first, greedy-none, take}
 use Rattle.profile.proofs.Lists.{filter-at, filter-of, lt-or-le}
 use Rattle.theory.proofs.Prefixes.{addable-at, addable-of, all-of-pick, more-of-pick}
+pub use Rattle.profile.proofs.Paths.{accepted-at, accepted-of}
 use Rattle.profile.proofs.Sets.{meets-at, meets-of, union-at, union-of}
 use Rattle.profile.proofs.Traces.{Order, mem-of-order, order-of-mem, order-of-reach, reach-of-order}
-
-pub accepted-of : (M : Automaton) (L : Lawful M) (letter : ℕ → ℕ) {u : List ℕ} → Accepted M letter u → T (accepted? M letter u)
-accepted-of M L letter {u} a = meets-of (run M letter (M .start) u) (M .final) (a .to) (run-of M L letter (M .start) (a .starts) (a .leads)) (a .ends)
-
-pub accepted-at : (M : Automaton) (L : Lawful M) (letter : ℕ → ℕ) (u : List ℕ) → T (accepted? M letter u) → Accepted M letter u
-accepted-at M L letter u h =
-    let n = meets-at (run M letter (M .start) u) (M .final) h in
-    let k = run-at M L letter (M .start) u (n .0) (n .1) in
-    record { from = k .0; to = n .0; starts = k .1; leads = k .2; ends = n .2 }
 
 -- ---- what the answer says
 

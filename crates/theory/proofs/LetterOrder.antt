@@ -9,7 +9,8 @@ use lib.Dec.{T, T-not, not-T, eqb, ltb, eqb-refl, lt→ltb}
 use lib.ListN.{length}
 use Rattle.profile.specs.Orders.{Earlier, NoLater, agrees, ends, no-later?, smaller}
 use Rattle.theory.proofs.Earliest.{ge-of-test, no-later-antisym, no-later-of-test, no-later-refl, no-later-trans}
-use Rattle.profile.proofs.Lists.{both, or-left, or-right, test}
+use Rattle.profile.proofs.Lists.{test}
+pub use Rattle.profile.proofs.Orders.{no-later-test}
 
 -- ---- the first place where two orders differ
 
@@ -40,16 +41,6 @@ earlier-first-difference u v e = (
     no-later (c ∷ x) u v h = agrees refl (no-later x u v h)
 
 -- ---- a total order
-
--- no later, by its test
-pub no-later-test : (u v : List ℕ) → T (no-later? u v) ↔ NoLater u v
-no-later-test u v = (no-later-of-test u v, passes)
-  where
-    passes : {u v : List ℕ} → NoLater u v → T (no-later? u v)
-    passes ends = tt
-    passes (smaller {a = a} {b = b} {u = u} {v = v} h) = or-left (ltb a b) (eqb a b && no-later? u v) (lt→ltb a b h)
-    passes (agrees {a = a} {b = b} {u = u} {v = v} e h) =
-        or-right (ltb a b) (eqb a b && no-later? u v) (both (eqb a b) (no-later? u v) (subst (λ z. T (eqb a z)) e (eqb-refl a)) (passes h))
 
 pub no-later-total : (u v : List ℕ) → NoLater u v ⊎ NoLater v u
 no-later-total u v = ⊎-elim (λ t. inl (no-later-of-test u v t)) (λ t. inr (ge-of-test u v t)) (test (no-later? u v))

@@ -10,6 +10,8 @@ use lib.Dec.{T, T-not, not-T, eqb, eqb→eq, eqb-refl, ltb, ltb→lt, lt→ltb}
 use Rattle.profile.specs.Lists.{Mem, all}
 use Rattle.profile.specs.Prefixes.{IsPrefix, addable?, at, closed?, count, less, marked, more, one, unmarked}
 use Rattle.profile.proofs.Lists.{all-at, all-of, both, fst-of, is-true, snd-of, test}
+use Rattle.profile.proofs.Marks.{closed-suc, closed-zero, one-le, one-le-one, test-of-closed}
+pub use Rattle.profile.proofs.Marks.{marked-suc, marked-zero, one-cases, one-other, one-same, prefix-test}
 use Rattle.profile.proofs.Traces.{Order, Pick, Takes, done, first, later, next, order-trans, takes-last, takes-refl, takes-split, takes-trans}
 
 -- of a prefix c: is it one with one x less
@@ -88,44 +90,7 @@ module _ (may : ℕ → ℕ → Bool) where
 
 -- ---- counts
 
-pub one-same : (x : ℕ) → one x x ≡ 1
-one-same x = rw (is-true (eqb x x) (eqb-refl x))
-
-pub one-other : (x y : ℕ) → x ≢ y → one x y ≡ 0
-one-other x y h = go (eqb x y) refl
-  where
-    go : (b : Bool) → eqb x y ≡ b → one x y ≡ 0
-    go true e = absurd (h (eqb→eq x y (rw e tt)))
-    go false e = rw e
-
-pub one-cases : (x y : ℕ) → (x ≡ y) ⊎ (one x y ≡ 0)
-one-cases x y = go (eqb x y) refl
-  where
-    go : (b : Bool) → eqb x y ≡ b → (x ≡ y) ⊎ (one x y ≡ 0)
-    go true e = inl (eqb→eq x y (rw e tt))
-    go false e = inr (rw e)
-
-one-le-one : (x y : ℕ) → one x y ≤ 1
-one-le-one x y = go (eqb x y)
-  where
-    go : (b : Bool) → cond b 1 0 ≤ 1
-    go true = omega arith
-    go false = omega arith
-
-one-le : (c : ℕ → ℕ) (x y : ℕ) {n : ℕ} → c x ≡ suc n → one x y ≤ c y
-one-le c x y e = go (eqb x y) refl
-  where
-    go : (b : Bool) → eqb x y ≡ b → one x y ≤ c y
-    go true q = rw q (omega (arith, ap c (eqb→eq x y (rw q tt))))
-    go false q = rw q (omega arith)
-
 module _ (may : ℕ → ℕ → Bool) (letter : ℕ → ℕ) where
-  pub marked-zero : (a : ℕ) (w : List ℕ) (c : ℕ → ℕ) → c (letter a) ≡ 0 → marked letter (a ∷ w) c ≡ marked letter w c
-  marked-zero a w c e = rw (e, marked)
-
-  pub marked-suc : (a : ℕ) (w : List ℕ) (c : ℕ → ℕ) {n : ℕ} → c (letter a) ≡ suc n → marked letter (a ∷ w) c ≡ a ∷ marked letter w (less c (letter a))
-  marked-suc a w c e = rw (e, marked)
-
   pub unmarked-zero : (a : ℕ) (w : List ℕ) (c : ℕ → ℕ) → c (letter a) ≡ 0 → unmarked letter (a ∷ w) c ≡ a ∷ unmarked letter w c
   unmarked-zero a w c e = rw (e, unmarked)
 
@@ -164,8 +129,8 @@ module _ (may : ℕ → ℕ → Bool) (letter : ℕ → ℕ) where
     where
       go : (n : ℕ) → c (letter a) ≡ n → ((d : ℕ → ℕ) → ((y : ℕ) → d y ≤ count letter w y) → (y : ℕ) → count letter (marked letter w d) y ≡ d y)
           → count letter (marked letter (a ∷ w) c) x ≡ c x
-      go zero e ih = rw (marked-zero a w c e) (ih c (λ y. ⊎-elim (λ q. omega (arith, ap c q)) (λ z. omega (arith, h y)) (one-cases (letter a) y)) x)
-      go (suc n) e ih = rw (marked-suc a w c e) (omega (arith, ih (less c (letter a)) (λ y. omega (arith, h y)) x, one-le c (letter a) x e))
+      go zero e ih = rw (marked-zero may letter a w c e) (ih c (λ y. ⊎-elim (λ q. omega (arith, ap c q)) (λ z. omega (arith, h y)) (one-cases (letter a) y)) x)
+      go (suc n) e ih = rw (marked-suc may letter a w c e) (omega (arith, ih (less c (letter a)) (λ y. omega (arith, h y)) x, one-le c (letter a) x e))
 
   module _ (distinct : (a b : ℕ) → T (may a b) → letter a ≢ letter b) where
     count-passed : (a : ℕ) (m : List ℕ) → T (all (may a) m) → count letter m (letter a) ≡ 0
@@ -180,98 +145,15 @@ module _ (may : ℕ → ℕ → Bool) (letter : ℕ → ℕ) where
         let ih = front-marked f in
         let e : count letter (a ∷ m) (letter a) ≡ suc (count letter m (letter a)) = omega (arith, one-same (letter a)) in
         let d : less (count letter (a ∷ m)) (letter a) ≡ count letter m = fun-ext (λ y. omega arith) in (
-          marked-suc a w (count letter (a ∷ m)) e ∙ ap (λ c. a ∷ marked letter w c) d ∙ ap (_∷_ a) (ih .0),
+          marked-suc may letter a w (count letter (a ∷ m)) e ∙ ap (λ c. a ∷ marked letter w c) d ∙ ap (_∷_ a) (ih .0),
           unmarked-suc a w (count letter (a ∷ m)) e ∙ ap (λ c. unmarked letter w c) d ∙ ih .1,
         )
     front-marked (keep {a = a} {w = w} {m = m} h f) =
         let ih = front-marked f in
         let e = count-passed a m h in
-        (marked-zero a w (count letter m) e ∙ ih .0, unmarked-zero a w (count letter m) e ∙ ap (_∷_ a) (ih .1))
+        (marked-zero may letter a w (count letter m) e ∙ ih .0, unmarked-zero a w (count letter m) e ∙ ap (_∷_ a) (ih .1))
 
-  -- ---- the test, the marking rule and Front say the same
-
-  -- the marked events, by their places
-  mem-marked : (w : List ℕ) (c : ℕ → ℕ) {b : ℕ} → Mem b (marked letter w c) → (v x : List ℕ) × (w ≡ v ++ (b ∷ x)) × (count letter v (letter b) < c (letter b))
-  mem-marked (a ∷ w) c {b} m = go (c (letter a)) refl m (λ d m′. mem-marked w d m′)
-    where
-      go : (n : ℕ) → c (letter a) ≡ n → Mem b (marked letter (a ∷ w) c)
-          → ((d : ℕ → ℕ) → Mem b (marked letter w d) → (v x : List ℕ) × (w ≡ v ++ (b ∷ x)) × (count letter v (letter b) < d (letter b)))
-          → (v x : List ℕ) × (a ∷ w ≡ v ++ (b ∷ x)) × (count letter v (letter b) < c (letter b))
-      go zero e m ih =
-          let n = ih c (rw (marked-zero a w c e) at m) in
-          (a ∷ n .0, n .1, ap (_∷_ a) (n .2), ⊎-elim (λ q. omega (arith, n .3, ap c q)) (λ z. omega (arith, n .3)) (one-cases (letter a) (letter b)))
-      go (suc k) e m ih = ⊎-elim
-          (λ q. ([], w, ap (λ z. z ∷ w) (sym q), omega (arith, ap (λ z. c (letter z)) q)))
-          (λ m′. let n = ih (less c (letter a)) m′ in (a ∷ n .0, n .1, ap (_∷_ a) (n .2), omega (arith, n .3)))
-          (List·Memᴰ·cases-cons (rw (marked-suc a w c e) at m))
-
-  marked-mem : (v : List ℕ) (c : ℕ → ℕ) (b : ℕ) (x : List ℕ) → count letter v (letter b) < c (letter b) → Mem b (marked letter (v ++ (b ∷ x)) c)
-  marked-mem [] c b x h = go (c (letter b)) refl
-    where
-      go : (n : ℕ) → c (letter b) ≡ n → Mem b (marked letter (b ∷ x) c)
-      go zero e = absurd (omega arith)
-      go (suc n) e = rw (marked-suc b x c e) (List·Memᴰ·head refl)
-  marked-mem (a ∷ v) c b x h = go (c (letter a)) refl (λ d k. marked-mem v d b x k)
-    where
-      go : (n : ℕ) → c (letter a) ≡ n → ((d : ℕ → ℕ) → count letter v (letter b) < d (letter b) → Mem b (marked letter (v ++ (b ∷ x)) d))
-          → Mem b (marked letter (a ∷ (v ++ (b ∷ x))) c)
-      go zero e ih = rw (marked-zero a (v ++ (b ∷ x)) c e) (ih c (omega arith))
-      go (suc n) e ih = rw (marked-suc a (v ++ (b ∷ x)) c e) (List·Memᴰ·tail (ih (less c (letter a)) (omega arith)))
-
-  closed-zero : (a : ℕ) (w : List ℕ) (c : ℕ → ℕ) → c (letter a) ≡ 0 → closed? may letter (a ∷ w) c ≡ (all (may a) (marked letter w c) && closed? may letter w c)
-  closed-zero a w c e = rw (e, closed?)
-
-  closed-suc : (a : ℕ) (w : List ℕ) (c : ℕ → ℕ) {n : ℕ} → c (letter a) ≡ suc n → closed? may letter (a ∷ w) c ≡ closed? may letter w (less c (letter a))
-  closed-suc a w c e = rw (e, closed?)
-
-  -- the rule without its bound on the counts
-  abbrev Closed : List ℕ → (ℕ → ℕ) → Type 0
-  Closed w c = (u v x : List ℕ) (a b : ℕ) → w ≡ u ++ (a ∷ (v ++ (b ∷ x))) → count letter (u ++ (a ∷ v)) (letter b) < c (letter b)
-      → T (not (may a b)) → count letter u (letter a) < c (letter a)
-
-  test-of-closed : (w : List ℕ) (c : ℕ → ℕ) → Closed w c → T (closed? may letter w c)
-  test-of-closed [] c h = tt
-  test-of-closed (a ∷ w) c h = go (c (letter a)) refl (test-of-closed w)
-    where
-      go : (n : ℕ) → c (letter a) ≡ n → ((d : ℕ → ℕ) → Closed w d → T (closed? may letter w d)) → T (closed? may letter (a ∷ w) c)
-      go zero e ih = rw (closed-zero a w c e)
-          (both (all (may a) (marked letter w c)) (closed? may letter w c)
-          (all-of (may a) (marked letter w c) (λ b m. ⊎-elim (λ ok. ok)
-          (λ bad.
-          let n = mem-marked w c m in
-          let k : count letter (a ∷ n .0) (letter b) < c (letter b) =
-          ⊎-elim (λ q. omega (arith, n .3, ap c q)) (λ z. omega (arith, n .3)) (one-cases (letter a) (letter b)) in
-          let z = h [] (n .0) (n .1) a b (ap (_∷_ a) (n .2)) k bad in absurd (omega arith))
-          (test (may a b))))
-          (ih c (λ u v x a′ b q k bad.
-          let z : one (letter a) (letter b) ≡ 0 = ⊎-elim (λ q. absurd (omega (arith, ap c q))) (λ z. z) (one-cases (letter a) (letter b)) in
-          let k′ = h (a ∷ u) v x a′ b (ap (_∷_ a) q) (omega arith) bad in omega arith)))
-      go (suc n) e ih = rw (closed-suc a w c e)
-          (ih (less c (letter a)) (λ u v x a′ b q k bad. let k′ = h (a ∷ u) v x a′ b (ap (_∷_ a) q) (omega arith) bad in omega arith))
-
-  closed-of-test : (w : List ℕ) (c : ℕ → ℕ) → T (closed? may letter w c) → Closed w c
-  closed-of-test [] c h [] v x a b q k bad = absurd (nil≢cons q)
-  closed-of-test [] c h (e ∷ u) v x a b q k bad = absurd (nil≢cons q)
-  closed-of-test (a₀ ∷ w) c h [] v x a b q k bad = go (c (letter a₀)) refl
-    where
-      go : (n : ℕ) → c (letter a₀) ≡ n → 0 < c (letter a)
-      go zero e =
-          let t = fst-of (all (may a₀) (marked letter w c)) (closed? may letter w c) (rw (closed-zero a₀ w c e) at h) in
-          let m : Mem b (marked letter w c) = subst (λ l. Mem b (marked letter l c)) (sym (tail-eq-of-cons-eq q)) (marked-mem v c b x (omega arith)) in
-          absurd (T-not (may a b) bad (subst (λ z. T (may z b)) (head-eq-of-cons-eq q) (all-at (may a₀) t m)))
-      go (suc n) e = omega (arith, ap (λ z. c (letter z)) (head-eq-of-cons-eq q))
-  closed-of-test (a₀ ∷ w) c h (e₀ ∷ u) v x a b q k bad = go (c (letter a₀)) refl (λ d t k. closed-of-test w d t u v x a b (tail-eq-of-cons-eq q) k bad)
-    where
-      same : (y : ℕ) → one (letter e₀) y ≡ one (letter a₀) y
-      same y = ap (λ z. one (letter z) y) (sym (head-eq-of-cons-eq q))
-
-      go : (n : ℕ) → c (letter a₀) ≡ n
-          → ((d : ℕ → ℕ) → T (closed? may letter w d) → count letter (u ++ (a ∷ v)) (letter b) < d (letter b) → count letter u (letter a) < d (letter a))
-          → count letter (e₀ ∷ u) (letter a) < c (letter a)
-      go zero e ih =
-          let r = ih c (snd-of (all (may a₀) (marked letter w c)) (closed? may letter w c) (rw (closed-zero a₀ w c e) at h)) (omega arith) in
-          ⊎-elim (λ p. omega (arith, ap c p)) (λ p. omega (arith, same (letter a))) (one-cases (letter a₀) (letter a))
-      go (suc n) e ih = let r = ih (less c (letter a₀)) (rw (closed-suc a₀ w c e) at h) (omega (arith, same (letter b))) in omega (arith, same (letter a))
+  -- ---- the test and Front say the same
 
   pub front-of-test : (w : List ℕ) (c : ℕ → ℕ) → T (closed? may letter w c) → Front may w (marked letter w c) (unmarked letter w c)
   front-of-test [] c h = empty
@@ -280,16 +162,13 @@ module _ (may : ℕ → ℕ → Bool) (letter : ℕ → ℕ) where
       go : (n : ℕ) → c (letter a) ≡ n → ((d : ℕ → ℕ) → T (closed? may letter w d) → Front may w (marked letter w d) (unmarked letter w d))
           → Front may (a ∷ w) (marked letter (a ∷ w) c) (unmarked letter (a ∷ w) c)
       go zero e ih =
-          let t = rw (closed-zero a w c e) at h in
-          rw (marked-zero a w c e, unmarked-zero a w c e)
+          let t = rw (closed-zero may letter a w c e) at h in
+          rw (marked-zero may letter a w c e, unmarked-zero a w c e)
           (keep (fst-of (all (may a) (marked letter w c)) (closed? may letter w c) t) (ih c (snd-of (all (may a) (marked letter w c)) (closed? may letter w c) t)))
-      go (suc n) e ih = rw (marked-suc a w c e, unmarked-suc a w c e) (mark (ih (less c (letter a)) (rw (closed-suc a w c e) at h)))
-
-  pub prefix-test : (w : List ℕ) (c : ℕ → ℕ) → IsPrefix may letter w c ↔ (((x : ℕ) → c x ≤ count letter w x) × T (closed? may letter w c))
-  prefix-test w c = (λ p. (p .fits, test-of-closed w c (p .closed)), λ p. record { fits = p .0; closed = closed-of-test w c (p .1) })
+      go (suc n) e ih = rw (marked-suc may letter a w c e, unmarked-suc a w c e) (mark (ih (less c (letter a)) (rw (closed-suc may letter a w c e) at h)))
 
   pub front-of-prefix : {w : List ℕ} {c : ℕ → ℕ} → IsPrefix may letter w c → Front may w (marked letter w c) (unmarked letter w c)
-  front-of-prefix {w} {c} p = front-of-test w c (test-of-closed w c (p .closed))
+  front-of-prefix {w} {c} p = front-of-test w c (test-of-closed may letter w c (p .closed))
 
   pub count-of-prefix : {w : List ℕ} {c : ℕ → ℕ} → IsPrefix may letter w c → count letter (marked letter w c) ≡ c
   count-of-prefix {w} {c} p = fun-ext (count-marked w c (p .fits))
@@ -304,13 +183,13 @@ module _ (may : ℕ → ℕ → Bool) (letter : ℕ → ℕ) where
     test-of-front (mark {a = a} {w = w} {m = m} f) =
         let e : count letter (a ∷ m) (letter a) ≡ suc (count letter m (letter a)) = omega (arith, one-same (letter a)) in
         let d : less (count letter (a ∷ m)) (letter a) ≡ count letter m = fun-ext (λ y. omega arith) in
-        rw (closed-suc a w (count letter (a ∷ m)) e, d) (test-of-front f)
+        rw (closed-suc may letter a w (count letter (a ∷ m)) e, d) (test-of-front f)
     test-of-front (keep {a = a} {w = w} {m = m} h f) =
-        rw (closed-zero a w (count letter m) (count-passed distinct a m h))
+        rw (closed-zero may letter a w (count letter m) (count-passed distinct a m h))
         (both (all (may a) (marked letter w (count letter m))) (closed? may letter w (count letter m)) (rw (front-marked distinct f .0) h) (test-of-front f))
 
     pub prefix-of-front : {w m r : List ℕ} → Front may w m r → IsPrefix may letter w (count letter m)
-    prefix-of-front {w} {m} f = prefix-test w (count letter m) .1 ((λ x. omega (arith, count-front f x)), test-of-front f)
+    prefix-of-front {w} {m} f = prefix-test may letter w (count letter m) .1 ((λ x. omega (arith, count-front f x)), test-of-front f)
 
     -- what is taken is a prefix, by its counts; its marked events and what is left are determined by these
     pub prefix-of-takes : {w u r : List ℕ} → Takes may w u r
@@ -407,7 +286,7 @@ module _ (may : ℕ → ℕ → Bool) (letter : ℕ → ℕ) where
         → IsPrefix may letter w (more c x) × (a : ℕ) × (letter a ≡ x) × Pick may (unmarked letter w c) a (unmarked letter w (more c x))
     addable-at {w} {c} {x} p t =
         let lt = ltb→lt (c x) (count letter w x) (fst-of (ltb (c x) (count letter w x)) (closed? may letter w (more c x)) t) in
-        let q = prefix-test w (more c x) .1 (
+        let q = prefix-test may letter w (more c x) .1 (
           (λ y. ⊎-elim (λ e. omega (arith, ap c e, ap (count letter w) e, one-le-one x y)) (λ z. omega (arith, p .fits y)) (one-cases x y)),
           snd-of (ltb (c x) (count letter w x)) (closed? may letter w (more c x)) t,
         ) in
@@ -417,13 +296,13 @@ module _ (may : ℕ → ℕ → Bool) (letter : ℕ → ℕ) where
     pub addable-of : {w : List ℕ} (c : ℕ → ℕ) (x : ℕ) → IsPrefix may letter w (more c x) → T (addable? may letter w c x)
     addable-of {w} c x q =
         both (ltb (c x) (count letter w x)) (closed? may letter w (more c x))
-        (lt→ltb (c x) (count letter w x) (omega (arith, q .fits x, one-same x))) (prefix-test w (more c x) .0 q .1)
+        (lt→ltb (c x) (count letter w x) (omega (arith, q .fits x, one-same x))) (prefix-test may letter w (more c x) .0 q .1)
 
     pub removable-at : {w : List ℕ} {c : ℕ → ℕ} {x : ℕ} → IsPrefix may letter w c → T (removable? may letter w c x)
         → IsPrefix may letter w (less c x) × (a : ℕ) × (letter a ≡ x) × Pick may (unmarked letter w (less c x)) a (unmarked letter w c) × (more (less c x) x ≡ c)
     removable-at {w} {c} {x} p t =
         let e = more-less c x (fst-of (not (eqb (c x) 0)) (closed? may letter w (less c x)) t) in
-        let q = prefix-test w (less c x) .1 ((λ y. omega (arith, p .fits y)), snd-of (not (eqb (c x) 0)) (closed? may letter w (less c x)) t) in
+        let q = prefix-test may letter w (less c x) .1 ((λ y. omega (arith, p .fits y)), snd-of (not (eqb (c x) 0)) (closed? may letter w (less c x)) t) in
         let n = pick-of-more {w = w} {c = less c x} {x = x} q (subst (IsPrefix may letter w) (sym e) p) in
         (q, n .0, n .1, subst (λ d. Pick may (unmarked letter w (less c x)) (n .0) (unmarked letter w d)) e (n .2), e)
 
@@ -432,7 +311,7 @@ module _ (may : ℕ → ℕ → Bool) (letter : ℕ → ℕ) where
         let q = ap (λ g. less g x) e ∙ less-more d x in (
           both (not (eqb (c x) 0)) (closed? may letter w (less c x))
               (not-T (eqb (c x) 0) (λ z. omega (arith, eqb→eq (c x) 0 z, ap (λ g. g x) e, one-same x)))
-              (rw q (prefix-test w d .0 p .1)),
+              (rw q (prefix-test may letter w d .0 p .1)),
           q,
         )
 

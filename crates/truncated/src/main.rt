@@ -1,5 +1,4 @@
 // Prints what the program `judge` prints for document 01's file cut at every length, from none of its bytes to all of them.
-use libc::STDOUT_FILENO;
 use profile::limits::PROGRAM_NUMBERS;
 use profile::limits::PROGRAM_TEXT;
 
@@ -7,7 +6,7 @@ fn show(file: &[u8]) {
     let mut out = [0u8; PROGRAM_TEXT];
     let mut work = [0u32; PROGRAM_NUMBERS];
     let r = report::respond(file, &mut out, &mut work);
-    io::write_all(STDOUT_FILENO, &out[0..r]);
+    streams::print(&out[0..r], b"truncated: standard output");
 }
 
 fn main() {

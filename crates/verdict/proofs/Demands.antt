@@ -16,6 +16,7 @@ use Rattle.profile.specs.declared.Refusal.{Refusal}
 use Rattle.profile.specs.declared.Refusal.the-variants.{FullTable}
 use Rattle.theory.proofs.Demands.{Witness, admitted-events, prefixes-of}
 use Rattle.theory.proofs.Refusals.{GoodEvents}
+use Rattle.table.specs.Table.{Spared}
 use Rattle.verdict.specs.Verdict.{Promise, verdict-number}
 use Rattle.verdict.specs.declared.Judged.{Judged}
 use Rattle.verdict.specs.declared.Judged.the-variants.{Refused}
@@ -29,8 +30,8 @@ module _ (p : Profile) (w order order′ table table′ : List ℕ) where
   pub refused-exactly : (j : Judged) → Promise p w order order′ table table′ j → (r : Refusal) → (j ≡ Refused r) ↔ (judge-refusal p w (length order) (length table) ≡ some r)
   refused-exactly = refused-exactly-by (plain p) w order order′ table table′ (judge-refusal p w (length order) (length table))
 
-  -- "A refused call changes nothing it was lent, save the work table at refusal 10"
-  pub refused-unchanged : (r : Refusal) → Promise p w order order′ table table′ (Refused r) → (order′ ≡ order) × (r ≢ FullTable → table′ ≡ table)
+  -- "A refused call changes nothing it was lent, save the work table at refusal 10", and of that the usable numbers alone
+  pub refused-unchanged : (r : Refusal) → Promise p w order order′ table table′ (Refused r) → (order′ ≡ order) × (r ≢ FullTable → table′ ≡ table) × Spared table table′
   refused-unchanged r h = h .told
 
 -- ---- demand 3

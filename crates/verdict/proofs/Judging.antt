@@ -97,12 +97,12 @@ module _ (p : Profile) (w order table : List ℕ) where
   -- the order buffer is too short
   pub told-short : {r : Refusal} → length order < length w
       → some r ≡ lowest (profile-refusals p ++ (log-refusals (p .k) w ++ ((true, ShortBuffer) ∷ []))) → Promise p w order order table table (Refused r)
-  told-short h e = record { refused = order-short p w (length order) (length table) h e; told = (refl, λ ne. refl) }
+  told-short h e = record { refused = order-short p w (length order) (length table) h e; told = (refl, λ ne. refl, record { long = refl; rest = refl }) }
 
   module _ (fits : length w ≤ length order) (table′ : List ℕ) where
     -- building is refused
     pub told-refused : (r : Refusal) → Built.Promise p w table table′ (built.Refused r) → Promise p w order order table table′ (Refused r)
-    told-refused r h = record { refused = h .refused ∙ sym (order-fits p w (length order) (length table) fits); told = (refl, h .table) }
+    told-refused r h = record { refused = h .refused ∙ sym (order-fits p w (length order) (length table) fits); told = (refl, h .table .0, h .table .1) }
 
     module _ (P n : ℕ) (h : Built.Promise p w table table′ (built.Filled P n)) where
       unrefused : none ≡ judge-refusal p w (length order) (length table)

@@ -1,15 +1,16 @@
 -- Document 01, "The judge": its answer, and what is promised of the order buffer and the work table.
 use mathlib.Core.Path.{_≡_}
 use mathlib.Core.Logic.{_≢_}
-use mathlib.Core.List.{List, _++_}
+use mathlib.Core.List.{List, [], _∷_, _++_}
 use mathlib.Core.Option.{Option, none, some}
 use Prim.Native.Nat.{ℕ}
 use lib.ListN.{length, drop}
 use Rattle.profile.specs.Automata.{Profile}
 use Rattle.profile.specs.Rules.{Rules, looks-by, order-by, plain, prefixes-by, table-by}
-use Rattle.profile.specs.Refusals.{judge-refusal}
+use Rattle.profile.specs.Refusals.{judge-refusal, refusal-number, refusal-place}
 use Rattle.profile.specs.declared.Refusal.{Refusal}
 use Rattle.profile.specs.declared.Refusal.the-variants.{FullTable}
+use Rattle.table.specs.Table.{Spared}
 use Rattle.verdict.specs.declared.Judged.{Judged}
 use Rattle.verdict.specs.declared.Judged.the-variants.{NoOrder, Order, Refused}
 
@@ -25,6 +26,17 @@ verdict-number (Refused r) = none
 verdict-number (NoOrder P n) = some 0
 verdict-number (Order P n) = some 1
 
+-- the numbers of an answer: the refusal's number, or 0; place, verdict, P, looks
+abbrev pub judged-code : Judged → ℕ
+judged-code (Refused r) = refusal-number r
+judged-code (NoOrder P n) = 0
+judged-code (Order P n) = 0
+
+abbrev pub judged-told : Judged → List ℕ
+judged-told (Refused r) = refusal-place r ∷ 0 ∷ 0 ∷ 0 ∷ []
+judged-told (NoOrder P n) = 0 ∷ 0 ∷ P ∷ n ∷ []
+judged-told (Order P n) = 0 ∷ 1 ∷ P ∷ n ∷ []
+
 -- "P", "looks", and what is promised of the table, which was `before`
 pub record Counted (p : Rules) (w before after : List ℕ) (P n : ℕ) : Type 0 where
   pub prefixes : P ≡ prefixes-by p w
@@ -32,9 +44,9 @@ pub record Counted (p : Rules) (w before after : List ℕ) (P n : ℕ) : Type 0 
   pub table : after ≡ table-by p w before
 
 -- "Verdict 1 comes with the order in the first bytes of the order buffer …; its other bytes stay. Verdict 0 means 'no order' and leaves that buffer
--- unchanged." "Refusals leave every buffer unchanged; only after 10 is the work table's content free"
+-- unchanged." "Refusals leave every buffer unchanged; only after 10 is the work table's content free", that of its usable numbers
 abbrev pub judged : Rules → List ℕ → List ℕ → List ℕ → List ℕ → List ℕ → Judged → Type 0
-judged p w order order′ table table′ (Refused r) = (order′ ≡ order) × (r ≢ FullTable → table′ ≡ table)
+judged p w order order′ table table′ (Refused r) = (order′ ≡ order) × (r ≢ FullTable → table′ ≡ table) × Spared table table′
 judged p w order order′ table table′ (NoOrder P n) =
     (order-by p w ≡ none) × (order′ ≡ order) × Counted p w table table′ P n
 judged p w order order′ table table′ (Order P n) =

@@ -17,6 +17,7 @@ use Rattle.profile.specs.Refusals.{bit-from, full-table, judge-refusal, log-ref
 use Rattle.profile.specs.declared.Refusal.{Refusal}
 use Rattle.profile.specs.declared.Refusal.the-variants.{FullTable, ShortBuffer, ViewBit}
 use Rattle.theory.proofs.Refusals.{GoodProfile, log-at, lowest-first}
+use Rattle.table.specs.Table.{Spared}
 use Rattle.verdict.specs.Verdict.{Promise, verdict-number}
 use Rattle.verdict.specs.declared.Judged.{Judged}
 use Rattle.verdict.proofs.Promises.{told-prefixes}
@@ -26,6 +27,7 @@ use Rattle.views.proofs.Masks.{all-order, all-table, none-prefixes, none-verdic
 use Rattle.views.proofs.Refused.{view-buffers}
 use Rattle.views.proofs.Said.{view-earliest}
 use Rattle.cleared.specs.Cleared.{cleared, order-as, table-as, told-as}
+use Rattle.cleared.proofs.Cleared.{cleared-spared}
 use Rattle.view.specs.Viewing.{Viewed}
 use Rattle.seeing.proofs.Told.{prefixes-told}
 use Rattle.view.proofs.Viewed.{entry-not-ten}
@@ -80,12 +82,19 @@ module _ (p : Profile) (visible : ℕ) (whole : (x : ℕ) → x < p .k → T (bi
     all-refused : (r : Refusal) → view-refusal p visible w (length order) (length table) ≡ some r → Promise p w order order′ table table′ j
     all-refused r e = subst (Promise p w order order′ table table′) (sym (call .told ∙ ap (λ o. told-as o (view-order p visible w) (P (seen visible w)) (L (seen visible w))) e)) (record {
       refused = sym e ∙ all-refusal (length order) (length table);
-      told = (call .order-is ∙ ap (λ o. order-as o (view-order p visible w) order) e, λ ne. kept ne (eqb (refusal-number r) 10) refl);
+      told = (call .order-is ∙ ap (λ o. order-as o (view-order p visible w) order) e, λ ne. kept ne (eqb (refusal-number r) 10) refl, subst (Spared table) (sym left) (spared (eqb (refusal-number r) 10)));
     })
       where
+        left : table′ ≡ cond (eqb (refusal-number r) 10) (cleared table) table
+        left = call .table-is ∙ ap (λ o. table-as o (F (seen visible w)) table) e
+
+        spared : (b : Bool) → Spared table (cond b (cleared table) table)
+        spared true = cleared-spared table
+        spared false = record { long = refl; rest = refl }
+
         kept : r ≢ FullTable → (b : Bool) → eqb (refusal-number r) 10 ≡ b → table′ ≡ table
         kept ne true q = absurd (ne (ten-full p visible w (length order) (length table) e q))
-        kept ne false q = call .table-is ∙ ap (λ o. table-as o (F (seen visible w)) table) e ∙ ap (λ b. cond b (cleared table) table) q
+        kept ne false q = left ∙ ap (λ b. cond b (cleared table) table) q
 
     all-answered : view-refusal p visible w (length order) (length table) ≡ none → Promise p w order order′ table table′ j
     all-answered e = go (accepted-order may (λ a. a) (automaton p) w) refl

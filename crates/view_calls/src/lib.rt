@@ -2,7 +2,6 @@
 ghost use Rattle.profile.specs.Automata.{profile-of};
 ghost use Rattle.view_calls.specs.ViewCalls.{Viewing};
 use profile::Shape;
-use verdict::Judged;
 
 // The view: tells the refusal's number, or 0; place, verdict, P, looks.
 pub fn view(
@@ -18,18 +17,5 @@ pub fn view(
     ensures { λ r. ⌜ Viewing (profile-of shape (now (masks .entry)) (now (moves .entry))) visible (now (log .entry)) (now (order .entry)) (now (order .exit)) (now (work .entry)) (now (work .exit)) r (now (told .exit)) ⌝ }
 {
     let viewed = view::view(shape, visible, masks, moves, log, order, work);
-    match viewed {
-        Judged::Refused(r) => {
-            *told = [refusals::place(r) as u64, 0, 0, 0];
-            refusals::number(r)
-        }
-        Judged::NoOrder { prefixes, looks } => {
-            *told = [0, 0, prefixes as u64, looks];
-            0
-        }
-        Judged::Order { prefixes, looks } => {
-            *told = [0, 1, prefixes as u64, looks];
-            0
-        }
-    }
+    answers::tell_judged(viewed, told)
 }

@@ -2,7 +2,7 @@
 use borrow.Author.Needs.{needs}
 use mathlib.Core.Path.{sym, _∙_, ap}
 use mathlib.Core.List.{[], _∷_}
-use Rattle.answers.specs.Answers.{judged-code, judged-told}
+use Rattle.verdict.specs.Verdict.{judged-code, judged-told}
 use Rattle.answers.proofs.tell_judged.Statement.{statement}
 use Rattle.answers.proofs.tell_judged.Tie as tie
 

@@ -51,7 +51,7 @@ returns c =
     let f = c .before .before .before .before .before .build .ensures in
     let mv = take {A = ℕ} (a .k - 0) (replicate most-letters 0) in
     let most = relation-at (a .k) (a .masks .now) (S .pre .0) .most in
-    built-full (a .k) (a .masks .now) mv (a .log .now) (none-part most-letters (a .k - 0)) (part-long most-letters (a .k) most) (S .pre .0) (S .pre .1) (a .work .now) _ (a .work .now) (c .before .built .given .0 .0) (subst (Filling _ (a .log .now) (a .work .now) _) (c .before .built .given .1) f)
+    built-full (a .k) (a .masks .now) mv (a .log .now) (none-part most-letters (a .k - 0)) (part-long most-letters (a .k) most) (S .pre .0) (S .pre .1) (a .work .now) _ (c .before .built .given .0 .0) (subst (Filling _ (a .log .now) (a .work .now) _) (c .before .built .given .1) f)
 
 same-length-2 : tie.Need-same-length-2
 same-length-2 c = search needs

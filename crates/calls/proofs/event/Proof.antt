@@ -2,7 +2,7 @@
 use borrow.Author.Needs.{needs}
 use mathlib.Core.Path.{refl, sym, _∙_, ap}
 use mathlib.Core.List.{[], _∷_}
-use Rattle.calls.specs.Calls.{step-code, step-told}
+use Rattle.running.specs.Running.{step-code, step-told}
 use Rattle.calls.proofs.event.Statement.{statement}
 use Rattle.calls.proofs.event.Tie as tie
 

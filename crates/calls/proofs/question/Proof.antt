@@ -4,7 +4,7 @@ use mathlib.Core.Path.{_≡_, refl, sym, _∙_, ap}
 use mathlib.Core.Bool.{Bool, true, false, cond}
 use mir.Val.{boolByte}
 use mathlib.Core.List.{[], _∷_}
-use Rattle.calls.specs.Calls.{question-code, question-told}
+use Rattle.running.specs.Running.{question-code, question-told}
 use Rattle.calls.proofs.question.Statement.{statement}
 use Rattle.calls.proofs.question.Tie as tie
 

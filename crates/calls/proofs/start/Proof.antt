@@ -2,7 +2,8 @@
 use borrow.Author.Needs.{needs}
 use mathlib.Core.Path.{sym, _∙_, ap}
 use mathlib.Core.List.{[], _∷_}
-use Rattle.calls.specs.Calls.{started-code, started-held, started-told}
+use Rattle.running.specs.Running.{started-code, started-told}
+use Rattle.calls.specs.Calls.{started-held}
 use Rattle.calls.proofs.start.Statement.{statement}
 use Rattle.calls.proofs.start.Tie as tie
 

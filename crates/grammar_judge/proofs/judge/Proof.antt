@@ -94,7 +94,7 @@ returns-5 c =
     let long = c .before .before .before .before .before .before .before .before .if2 .left in
     let e = c .before .before .built2 .given in
     let u = subst (BuiltIs (a .k) (a .masks .now) (a .log .now) (a .work .now) _) (e .1) (c .before .before .before .before .before .before .build .ensures) in
-    let e₂ = u .0 .prefixes in answer-sets (a .k) (a .masks .now) (a .names) (a .rules .now) (a .log .now) (a .order .now) (a .work .now) (a .sets .now) good right log long (subst (λ n. n ≤ capacity layout (length (a .work .now))) e₂ (u .1)) _ (subst (λ n. length (a .sets .now) < n * n) e₂ (c .if3 .taken))
+    let e₂ = u .0 .prefixes in answer-sets (a .k) (a .masks .now) (a .names) (a .rules .now) (a .log .now) (a .order .now) (a .work .now) (a .sets .now) good right log long (subst (λ n. n ≤ capacity layout (length (a .work .now))) e₂ (u .1)) _ (u .0) (subst (λ n. length (a .sets .now) < n * n) e₂ (c .if3 .taken))
 
 put-verdict-requires : tie.Need-put-verdict-requires
 put-verdict-requires c κs =
@@ -119,7 +119,7 @@ returns-6 c =
     let long = c .before .before .before .before .before .before .before .if2 .left in
     let e = c .before .built .given in
     let u = subst (BuiltIs (a .k) (a .masks .now) (a .log .now) (a .work .now) _) (e .1) (c .before .before .before .before .before .build .ensures) in
-    subst (λ r. Promise (a .k) (a .masks .now) (a .names) (a .rules .now) (a .log .now) (a .order .now) (a .order .now) (a .work .now) (c .before .before .before .before .before .build .last .1 .1 .1 .0) (a .sets .now) (a .sets .now) (Refused r)) (sym (u .0)) (answer-full (a .k) (a .masks .now) (a .names) (a .rules .now) (a .log .now) (a .order .now) (a .work .now) (a .sets .now) good right log long (c .before .before .before .before .before .build .last .1 .1 .1 .0) (u .1))
+    subst (λ r. Promise (a .k) (a .masks .now) (a .names) (a .rules .now) (a .log .now) (a .order .now) (a .order .now) (a .work .now) (c .before .before .before .before .before .build .last .1 .1 .1 .0) (a .sets .now) (a .sets .now) (Refused r)) (sym (u .0)) (answer-full (a .k) (a .masks .now) (a .names) (a .rules .now) (a .log .now) (a .order .now) (a .work .now) (a .sets .now) good right log long (c .before .before .before .before .before .build .last .1 .1 .1 .0) (u .2) (u .1))
 
 same-length-3 : tie.Need-same-length-3
 same-length-3 c = search needs

@@ -1,18 +1,18 @@
 -- `report::put_file` meets its contract: what is judged is the file's profile and log.
 use borrow.Author.Needs.{needs}
-use mathlib.Core.Path.{_≡_, sym, _∙_, ap, ap₂}
+use mathlib.Core.Path.{_≡_, refl, sym, _∙_, ap, ap₂, subst, subst₂}
 use mathlib.Core.List.{List}
 use mathlib.Core.Option.{none}
 use Prim.Native.Nat.{ℕ, _-_, _*_, _≤_}
 use native.Mathlib.Omega.{arith}
-use lib.ListN.{take, drop, replicate}
+use lib.ListN.{length, take, drop, replicate}
 use Rattle.profile.specs.Limits.{letters-byte, masks-byte, most-letters, most-moves, moves-byte, states-byte}
 use Rattle.profile.specs.Automata.{profile-of}
 use Rattle.profile.specs.Refusals.{lowest}
 use Rattle.logfile.specs.Files.{field, file-log, file-masks, file-moves, file-profile, file-refusals, file-shape, filled, log-length, log-part-of, read-refusal, section}
 use Rattle.logfile.proofs.Bytes.{numbers-length}
 use Rattle.logfile.proofs.Sections.{first-part, open-file, shape-known}
-use Rattle.report.specs.Report.{file-text, judged-text, unless-refused}
+use Rattle.report.specs.Report.{judged-table, judged-text, read-table, unless-refused}
 use Rattle.report.proofs.Printing.{file-good, log-told, refusal-read, shape-read}
 use Rattle.report.proofs.Texts.{put-as}
 use Rattle.report.proofs.put_file.Statement.{statement}
@@ -38,7 +38,7 @@ known c = let f = entry c .args .file .now in shape-known f (told c .1) (open-fi
 
 -- what is judged is the file's profile and log
 profile-read : (c : tie.After-reading2) {w : List ℕ} → let f = entry c .args .file .now in let h = c .reading2 .given .0 .0 in let l = c .before .before .before .before .read-file .last in
-    w ≡ log-part-of f → judged-text (profile-of h (take (h .k - 0) (drop 0 (l .1 .0))) (take (h .s * h .k - 0) (drop 0 (l .1 .1 .0)))) w ≡ file-text f
+    w ≡ log-part-of f → (profile-of h (take (h .k - 0) (drop 0 (l .1 .0))) (take (h .s * h .k - 0) (drop 0 (l .1 .1 .0))) ≡ file-profile f) × (w ≡ file-log f)
 profile-read c {w} e =
     let f = entry c .args .file .now in
     let h = c .reading2 .given .0 .0 in
@@ -50,9 +50,7 @@ profile-read c {w} e =
     let masks = first-part (file-masks f) (replicate most-letters 0) l (r .ensures .1 ∙ ap (λ q. filled q (file-masks f) (replicate most-letters 0)) (t .0)) (numbers-length 2 f (section f masks-byte) (field f letters-byte) ∙ sym (n .0)) in
     let moves = first-part (file-moves f) (replicate most-moves 0) v (r .ensures .2 ∙ ap (λ q. filled q (file-moves f) (replicate most-moves 0)) (t .0))
     (numbers-length 4 f (section f moves-byte) (field f states-byte * field f letters-byte) ∙ sym (n .1)) in
-    ap (λ g. judged-text (profile-of g (take (h .k - 0) (drop 0 l)) (take (h .s * h .k - 0) (drop 0 v))) w) (t .1)
-    ∙ ap₂ (λ x y. judged-text (profile-of (file-shape f) x y) w) masks moves ∙ ap (judged-text (file-profile f)) (e ∙ log-told f (good c))
-    ∙ sym (ap (λ q. unless-refused q (judged-text (file-profile f) (file-log f))) (t .0))
+    (ap (λ g. profile-of g (take (h .k - 0) (drop 0 l)) (take (h .s * h .k - 0) (drop 0 v))) (t .1) ∙ ap₂ (profile-of (file-shape f)) masks moves, e ∙ log-told f (good c))
 
 slice-aggregate-read-file : tie.Need-slice-aggregate-read-file
 slice-aggregate-read-file c = search needs
@@ -107,7 +105,10 @@ returns c =
     let r = c .before .before .before .before .before .before .before .before .before .read-file in
     let f = c .before .before .before .before .before .before .before .before .before .before .before .before .before .before .before .args .file .now in
     let e = refusal-read (read-refusal f most-letters most-moves) (file-shape f) (log-length f) (sym (r .ensures .0) ∙ c .before .before .before .before .before .reading .given .1) in
-    put-as (sym (ap (λ q. unless-refused q (judged-text (file-profile f) (file-log f))) e)) (c .before .before .put-refused .ensures)
+    let b = c .before .before .before .before .before .before .before .before .before .before .before .before .before .before .before .args .work .now in (
+      put-as (sym (ap (λ q. unless-refused q (judged-text (file-profile f) (file-log f) (length b))) e)) (c .before .before .put-refused .ensures),
+      subst (λ q. read-table q f b b) (sym e) refl,
+    )
 
 same-length-2 : tie.Need-same-length-2
 same-length-2 c = search needs
@@ -117,7 +118,15 @@ same-length-3 c = search needs
 
 returns-2 : tie.Need-returns-2
 returns-2 c =
-    put-as (profile-read (c .before .before .before .before .before .before .before .before .before .before .before .before .before) (c .before .before .before .before .before .before .before .before .before .before .before .log-part .ensures)) (c .before .before .before .before .put-judged .ensures)
+    let d = c .before .before .before .before .before .before .before .before .before .before .before .before .before in
+    let f = entry d .args .file .now in
+    let b = entry d .args .work .now in
+    let r = c .before .before .before .before .put-judged in
+    let g = profile-read d (c .before .before .before .before .before .before .before .before .before .before .before .log-part .ensures) in
+    let t = told d .0 in (
+      put-as (ap₂ (λ p w. judged-text p w (length b)) (g .0) (g .1) ∙ sym (ap (λ q. unless-refused q (judged-text (file-profile f) (file-log f) (length b))) t)) (r .ensures .0),
+      subst (λ q. read-table q f b (r .last .1 .1 .1 .1 .1 .0)) (sym t) (subst₂ (λ p w. judged-table p w b (r .last .1 .1 .1 .1 .1 .0)) (g .0) (g .1) (r .ensures .1)),
+    )
 
 pub put-file-spec : {M : Type 1} → statement M
 put-file-spec =

@@ -8,7 +8,7 @@ use Rattle.profile.specs.Limits.{longest}
 use Rattle.profile.specs.Automata.{Profile, profile-of}
 use Rattle.verdict.specs.Verdict.{Promise}
 use Rattle.verdict.specs.declared.Judged.{Judged}
-use Rattle.report.proofs.Printing.{order-room, text-none, text-refused, text-some}
+use Rattle.report.proofs.Printing.{order-room, table-none, table-refused, table-some, text-none, text-refused, text-some}
 use Rattle.report.proofs.Texts.{put-as, put-kept, put-then}
 use Rattle.report.proofs.put_judged.Statement.{statement}
 use Rattle.report.proofs.put_judged.Tie as tie
@@ -29,7 +29,7 @@ room c =
     let b = c .before .before .before .before .before in
     let s = entry b in
     let g = c .judged3 .given in
-    order-room (called s) (s .args .log .now) (replicate longest 0) (b .judge .last .1 .1 .1 .1 .0) (s .args .work .now) (b .judge .last .1 .1 .1 .1 .1 .0) refl (s .pre .1) (g .0 .0) (g .0 .1 .0) (subst (promised b) (g .1) (b .judge .ensures))
+    order-room (called s) (s .args .log .now) (replicate longest 0) (b .judge .last .1 .1 .1 .1 .0) (s .args .work .now) (b .judge .last .1 .1 .1 .1 .1 .0) refl (g .0 .0) (g .0 .1 .0) (subst (promised b) (g .1) (b .judge .ensures))
 
 slice-aggregate-judge : tie.Need-slice-aggregate-judge
 slice-aggregate-judge c = search needs
@@ -68,7 +68,7 @@ put-order-requires : tie.Need-put-order-requires
 put-order-requires c κs =
     let v = c .before .before .before .before .before in
     let b = c .before .before .before .before .before .before .before .before .before .before .before .before .before in
-    omega (arith, room (c .before .before .before .before .before .before .before .before), length-take (length (entry b .args .log .now) - 0) (b .judge .last .1 .1 .1 .1 .0), v .put-verdict2 .ensures .1, put-kept (v .put-verdict2 .ensures .0), entry b .pre .0)
+    omega (arith, room (c .before .before .before .before .before .before .before .before), length-take (length (entry b .args .log .now) - 0) (b .judge .last .1 .1 .1 .1 .0), v .put-verdict2 .ensures .1, put-kept (v .put-verdict2 .ensures .0), entry b .pre)
 
 same-length : tie.Need-same-length
 same-length c = search needs
@@ -81,7 +81,10 @@ returns c =
     let b = c .before .before .before .before .before .before .before .before .before .before in
     let s = entry b in
     let g = c .before .before .before .before .before .judged .given in
-    put-as (sym (text-refused (called s) (s .args .log .now) (replicate longest 0) (b .judge .last .1 .1 .1 .1 .0) (s .args .work .now) (b .judge .last .1 .1 .1 .1 .1 .0) refl (s .pre .1) (g .0 .0) (subst (promised b) (g .1) (b .judge .ensures)))) (c .before .before .put-refused .ensures)
+    let h = subst (promised b) (g .1) (b .judge .ensures) in (
+      put-as (sym (text-refused (called s) (s .args .log .now) (replicate longest 0) (b .judge .last .1 .1 .1 .1 .0) (s .args .work .now) (b .judge .last .1 .1 .1 .1 .1 .0) refl (g .0 .0) h)) (c .before .before .put-refused .ensures),
+      table-refused (called s) (s .args .log .now) (replicate longest 0) (b .judge .last .1 .1 .1 .1 .0) (s .args .work .now) (b .judge .last .1 .1 .1 .1 .1 .0) refl (g .0 .0) h,
+    )
 
 same-length-3 : tie.Need-same-length-3
 same-length-3 c = search needs
@@ -94,7 +97,10 @@ returns-2 c =
     let b = c .before .before .before .before .before .before .before .before .before .before in
     let s = entry b in
     let g = c .before .before .before .before .before .judged2 .given in
-    put-as (sym (text-none (called s) (s .args .log .now) (replicate longest 0) (b .judge .last .1 .1 .1 .1 .0) (s .args .work .now) (b .judge .last .1 .1 .1 .1 .1 .0) refl (s .pre .1) (g .0 .0) (g .0 .1 .0) (subst (promised b) (g .1) (b .judge .ensures)))) (c .before .before .put-verdict .ensures .0)
+    let h = subst (promised b) (g .1) (b .judge .ensures) in (
+      put-as (sym (text-none (called s) (s .args .log .now) (replicate longest 0) (b .judge .last .1 .1 .1 .1 .0) (s .args .work .now) (b .judge .last .1 .1 .1 .1 .1 .0) refl (g .0 .0) (g .0 .1 .0) h)) (c .before .before .put-verdict .ensures .0),
+      table-none (called s) (s .args .log .now) (replicate longest 0) (b .judge .last .1 .1 .1 .1 .0) (s .args .work .now) (b .judge .last .1 .1 .1 .1 .1 .0) refl (g .0 .0) (g .0 .1 .0) h,
+    )
 
 same-length-5 : tie.Need-same-length-5
 same-length-5 c = search needs
@@ -107,8 +113,11 @@ returns-3 c =
     let b = c .before .before .before .before .before .before .before .before .before .before .before .before .before .before .before .before in
     let s = entry b in
     let g = c .before .before .before .before .before .before .before .before .before .before .before .judged3 .given in
-    put-as (sym (text-some (called s) (s .args .log .now) (replicate longest 0) (b .judge .last .1 .1 .1 .1 .0) (s .args .work .now) (b .judge .last .1 .1 .1 .1 .1 .0) refl (s .pre .1) (g .0 .0) (g .0 .1 .0) (subst (promised b) (g .1) (b .judge .ensures))))
-    (put-then (c .before .before .before .before .before .before .before .before .put-verdict2 .ensures .0) (c .before .before .put-order .ensures))
+    let h = subst (promised b) (g .1) (b .judge .ensures) in (
+      put-as (sym (text-some (called s) (s .args .log .now) (replicate longest 0) (b .judge .last .1 .1 .1 .1 .0) (s .args .work .now) (b .judge .last .1 .1 .1 .1 .1 .0) refl (g .0 .0) (g .0 .1 .0) h))
+          (put-then (c .before .before .before .before .before .before .before .before .put-verdict2 .ensures .0) (c .before .before .put-order .ensures)),
+      table-some (called s) (s .args .log .now) (replicate longest 0) (b .judge .last .1 .1 .1 .1 .0) (s .args .work .now) (b .judge .last .1 .1 .1 .1 .1 .0) refl (g .0 .0) (g .0 .1 .0) h,
+    )
 
 pub put-judged-spec : {M : Type 1} → statement M
 put-judged-spec =
