@@ -1,13 +1,18 @@
-//! Measures the judge against the same algorithm in Rust, a hash map and a listing; `bench/run` builds and runs it.
+//! Measures the judge against the same algorithm in Rust, the merge that it grew from, two hash maps, a dense array and a listing; `bench/run` builds and
+//! runs it.
 
 mod clock;
+mod dense;
 mod hashed;
+mod images;
 mod input;
 mod library;
 mod listing;
+mod marked;
 mod measure;
 mod merge;
 mod picture;
+mod ranked;
 mod report;
 mod rules;
 
@@ -21,8 +26,8 @@ const RECORDS: usize = 4_500_000;
 /// How often all inputs are gone through.
 const SWEEPS: usize = 3;
 
-/// Lines of k, letters, s, verdict, and the lengths of the logs: P grows along a line. A log in turns has every letter, since pairs with a letter
-/// that does not occur are cheaper. The second half has one-way relations.
+/// Lines of k, letters, s, verdict, and the lengths of the logs: P grows along a line. A log in turns has every letter, since a letter
+/// that does not occur costs less. The second half has one-way relations.
 const LINES: &[(usize, Letters, usize, bool, &[usize])] = &[
     (2, Independent, 2, true, &[62, 255]),
     (2, Independent, 8, true, &[12, 16, 20, 62, 128, 255, 1000, 4000]),
@@ -40,15 +45,16 @@ const LINES: &[(usize, Letters, usize, bool, &[usize])] = &[
     (8, Neighbours, 8, true, &[90, 255, 1000, 4000]),
     (8, Random, 8, true, &[60, 120]),
     (8, Random, 8, false, &[120]),
-    (8, Groups, 8, true, &[120, 255]),
+    (8, Groups, 8, true, &[120, 255, 1000, 2500]),
     (16, Independent, 8, true, &[16, 20]),
     (16, Neighbours, 8, true, &[40, 60]),
     (16, Groups, 8, true, &[48, 100]),
     (16, Random, 2, true, &[60]),
-    (16, Random, 32, true, &[60]),
+    (16, Random, 8, true, &[60, 255, 1000]),
+    (16, Random, 32, true, &[60, 255]),
     (16, Dependent, 32, true, &[4000]),
     (2, Rising, 32, true, &[255]),
-    (2, Rising, 8, true, &[20, 128, 255, 1000]),
+    (2, Rising, 8, true, &[20, 128, 255, 1000, 2500]),
     (2, Falling, 32, true, &[20, 128, 255, 1000]),
     (2, Falling, 8, false, &[255]),
     (3, Rising, 8, true, &[30, 141, 255]),
@@ -86,8 +92,10 @@ fn main() {
     let picture = std::env::args().nth(1).expect("the path of the picture");
     println!("machine: {}", machine());
     println!("contestants built with: {}", env!("BENCH_BUILD"));
-    println!("least time of rounds in turn, in {SWEEPS} sweeps over the inputs (from 5 ms on processor time); work tables touched before; the hash map's time has its allocation and release");
-    println!("a pair is a prefix and a letter; verdicts, P, looks, orders and the records of both tables are asserted to agree");
+    println!("least time of rounds in turn, in {SWEEPS} sweeps over the inputs (from 5 ms on processor time); work tables touched before");
+    println!("E is the number of additions, pairs of a prefix and a letter that can be added to it; verdicts, P, E, orders and tables are asserted to agree");
+    println!("Rust: the same algorithm in safe Rust; merge: without removable letters; hash: the standard hash map, with its allocation and release; ranks: a hash map");
+    println!("of counts as one number, its memory kept, its records in no order; dense: an array of all counts, its memory kept, where it has at most 2^24 cells");
     let mut tables = Tables::new(RECORDS);
     let mut all: Vec<_> = rows().map(Measured::new).collect();
     for _ in 0..SWEEPS {

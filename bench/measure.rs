@@ -3,7 +3,7 @@
 
 use crate::input::{make, Profile, Row};
 use crate::rules::{Answer, Refusal, COUNTS, RECORD};
-use crate::{clock, hashed, library, listing, merge};
+use crate::{clock, dense, hashed, library, listing, marked, merge, ranked};
 use std::time::{Duration, Instant};
 
 /// Reachable logs up to which the listing takes part.
@@ -17,24 +17,32 @@ const TIME: Duration = Duration::from_millis(400);
 /// interrupted in every round where the machine is shared; they are timed by processor time.
 const SHORT: f64 = 0.005;
 
-/// The work tables, allocated and touched before any time is taken.
+/// What the contestants work in, allocated and touched before any time is taken; the hash map of ranks and the array keep their memory from call to call.
 pub struct Tables {
     ours: Vec<u32>,
-    merge: Vec<u32>,
+    rust: Vec<u32>,
+    ranked: ranked::Ranked,
+    dense: dense::Cells,
 }
 
 impl Tables {
     pub fn new(records: usize) -> Tables {
         // Not zeros: memory of zeros is handed out untouched.
-        Tables { ours: vec![1; RECORD * records], merge: vec![1; RECORD * records] }
+        let table = || vec![1; RECORD * records];
+        Tables { ours: table(), rust: table(), ranked: Default::default(), dense: Default::default() }
     }
 }
 
 /// The least time of each contestant, in seconds.
 pub struct Times {
     pub ours: f64,
+    /// The library's algorithm in Rust, and the merge without removable letters.
+    pub marked: f64,
     pub merge: f64,
+    /// The standard hash map, and that of ranks.
     pub hashed: f64,
+    pub ranked: f64,
+    pub dense: Option<f64>,
     pub listing: Option<f64>,
 }
 
@@ -42,19 +50,21 @@ pub struct Measured {
     pub row: Row,
     pub verdict: bool,
     pub prefixes: usize,
+    pub looks: u64,
     pub logs: Option<u64>,
     pub times: Times,
 }
 
 impl Measured {
     pub fn new(row: Row) -> Measured {
-        let times = Times { ours: f64::MAX, merge: f64::MAX, hashed: f64::MAX, listing: Some(f64::MAX) };
-        Measured { row, verdict: false, prefixes: 0, logs: None, times }
+        let most = f64::MAX;
+        let times = Times { ours: most, marked: most, merge: most, hashed: most, ranked: most, dense: Some(most), listing: Some(most) };
+        Measured { row, verdict: false, prefixes: 0, looks: 0, logs: None, times }
     }
 
-    /// Nanoseconds for each pair of a prefix and a letter.
-    pub fn per_pair(&self) -> f64 {
-        self.times.ours * 1e9 / (self.prefixes * self.row.k) as f64
+    /// Nanoseconds for each addition: a pair of a prefix and a letter that can be added to it.
+    pub fn per_addition(&self) -> f64 {
+        self.times.ours * 1e9 / self.looks as f64
     }
 
     /// The rounds of one sweep. Asserts that all contestants answer the same, and in the first sweep that the tables are the same.
@@ -64,25 +74,42 @@ impl Measured {
         let mut round = 0;
         while round < ROUNDS || begun.elapsed() < TIME {
             let ours = self.round(&p, &log, tables);
-            if self.prefixes == 0 {
-                assert_same_tables(tables, ours.prefixes);
-            }
             self.verdict = ours.verdict;
             self.prefixes = ours.prefixes;
+            self.looks = ours.looks;
             round += 1;
         }
     }
 
     fn round(&mut self, p: &Profile, log: &[u8], tables: &mut Tables) -> Answer {
         let times = &mut self.times;
+        let first = self.prefixes == 0;
         let ours = answered(log, |order| timed(&mut times.ours, || library::judge(p, log, order, &mut tables.ours)));
-        let merged = answered(log, |order| timed(&mut times.merge, || merge::judge(p, log, order, &mut tables.merge)));
-        assert!(ours == merged, "the merge answers the same");
+        let marked = answered(log, |order| timed(&mut times.marked, || marked::judge(p, log, order, &mut tables.rust)));
+        assert!(ours == marked, "the same algorithm in Rust answers the same");
+        let used = RECORD * ours.0.prefixes;
+        assert!(!first || tables.ours[..used] == tables.rust[..used], "the tables are the same");
+        let merged = answered(log, |order| timed(&mut times.merge, || merge::judge(p, log, order, &mut tables.rust)));
+        assert!(ours == merged, "the plain merge answers the same");
+        assert!(!first || sorted(&tables.ours[..used]) == sorted(&tables.rust[..used]), "the tables have the same records");
         let hashed = answered(log, |order| timed(&mut times.hashed, || hashed::judge(p, log, order)));
         assert!(ours == hashed, "the hash map answers the same");
+        let ranked = answered(log, |order| timed(&mut times.ranked, || tables.ranked.judge(p, log, order)));
+        assert!(ours == ranked, "the hash map of ranks answers the same");
         let (answer, order) = ours;
+        self.fill(p, log, &answer, &order, tables);
         self.list(p, log, answer.verdict, &order);
         answer
+    }
+
+    /// The array's part of a round; none where it would be too large.
+    fn fill(&mut self, p: &Profile, log: &[u8], answer: &Answer, order: &[u8], tables: &mut Tables) {
+        let Some(best) = &mut self.times.dense else { return };
+        let mut filled_order = vec![0; log.len()];
+        match timed(best, || tables.dense.judge(p, log, &mut filled_order)) {
+            Some(filled) => assert!((answer, order) == (&filled.expect("the input is admitted"), &filled_order[..]), "the array answers the same"),
+            None => self.times.dense = None,
+        }
     }
 
     /// The listing's part of a round; none where there are too many logs.
@@ -111,7 +138,7 @@ fn timed<T>(best: &mut f64, run: impl FnOnce() -> T) -> T {
     result
 }
 
-/// The records sorted by total count and numbers: the Rust merge has another order within a total. Asserts that the totals rise.
+/// The records sorted by total count and numbers: the plain merge has another order within a total. Asserts that the totals rise.
 fn sorted(table: &[u32]) -> Vec<[u32; RECORD]> {
     let total = |r: &[u32; RECORD]| r[..COUNTS].iter().map(|w| (w & 0xffff) + (w >> 16)).sum::<u32>();
     let mut records = table.as_chunks::<RECORD>().0.to_vec();
@@ -120,11 +147,6 @@ fn sorted(table: &[u32]) -> Vec<[u32; RECORD]> {
         level.sort_unstable();
     }
     records
-}
-
-fn assert_same_tables(tables: &Tables, prefixes: usize) {
-    let used = RECORD * prefixes;
-    assert!(sorted(&tables.ours[..used]) == sorted(&tables.merge[..used]), "the tables have the same records");
 }
 
 /// The answer of a judge with its order: verdict, P and looks, all exact.

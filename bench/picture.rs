@@ -19,11 +19,14 @@ struct Series {
     time: fn(&Measured) -> Option<f64>,
 }
 
-/// Ours is the smallest mark and is drawn last, so that it shows inside the merge's ring where the two agree.
-const SERIES: [Series; 4] = [
+/// Ours is the smallest mark and is drawn last, so that it shows inside the ring of the same algorithm in Rust where the two agree.
+const SERIES: [Series; 7] = [
     Series { name: "listing of all logs", colour: "#7a5195", mark: cross, time: |m| m.times.listing },
     Series { name: "hash map", colour: "#c0392b", mark: square, time: |m| Some(m.times.hashed) },
-    Series { name: "merge in Rust", colour: "#e08a00", mark: ring, time: |m| Some(m.times.merge) },
+    Series { name: "hash map of ranks, memory kept", colour: "#e377c2", mark: square, time: |m| Some(m.times.ranked) },
+    Series { name: "dense array", colour: "#2e8b57", mark: cross, time: |m| m.times.dense },
+    Series { name: "merge without removable letters, in Rust", colour: "#8c8c8c", mark: ring, time: |m| Some(m.times.merge) },
+    Series { name: "the same algorithm in Rust", colour: "#e08a00", mark: ring, time: |m| Some(m.times.marked) },
     Series { name: "Fumarehi", colour: "#1f5fa8", mark: dot, time: |m| Some(m.times.ours) },
 ];
 

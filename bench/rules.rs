@@ -126,13 +126,17 @@ impl Steps {
 
 /// The places of each letter's events, for what can be added to a prefix without a scan of the log.
 pub struct Events {
-    k: usize,
-    end: u16,
+    pub k: usize,
+    pub end: u16,
     /// The places of the events by letter, the log's length behind each letter's.
     places: [u16; MOST + 16],
     starts: [usize; 16],
     /// The letters that each letter may not pass, itself aside.
-    dependent: [u16; 16],
+    pub dependent: [u16; 16],
+    /// The letters that each letter may pass; those that it may not pass and that may pass it; those that may not pass it, itself among them.
+    pub passed: [u32; 16],
+    pub one_way: [u32; 16],
+    pub held: [u32; 16],
 }
 
 impl Events {
@@ -149,12 +153,29 @@ impl Events {
             }
             at += 1;
         }
+        let all = (1u32 << p.k) - 1;
         let mut dependent = [0; 16];
+        let (mut passed, mut one_way, mut held) = ([0; 16], [0; 16], [0; 16]);
         for a in 0..p.k {
             let keeps = |b: &usize| *b != a && p.masks[*b] >> a & 1 == 0;
             dependent[a] = (0..p.k).filter(keeps).fold(0, |set, b| set | 1 << b);
+            passed[a] = all & !u32::from(dependent[a]) & !(1 << a);
+            one_way[a] = u32::from(dependent[a] & p.masks[a]);
+            held[a] = all & !u32::from(p.masks[a]);
         }
-        Events { k: p.k, end, places, starts, dependent }
+        Events { k: p.k, end, places, starts, dependent, passed, one_way, held }
+    }
+
+    /// The place of the event of letter a that has so many of them before it.
+    pub fn next(&self, a: usize, count: usize) -> u16 {
+        self.places[self.starts[a & 15] + count]
+    }
+
+    /// The letters of `tested` that can be added to a prefix.
+    pub fn addable_of(&self, counts: &[u16; 16], tested: u32) -> u32 {
+        let next = |a: usize| self.next(a, usize::from(counts[a & 15]));
+        let can = |a: &usize| next(*a) < self.end && letters(self.dependent[*a & 15].into()).all(|b| next(*a) < next(b));
+        letters(tested).filter(can).fold(0, |set, a| set | 1 << a)
     }
 
     /// The letters that can be added to a prefix: each has an event left, and those that it may not pass have theirs later.
@@ -167,7 +188,7 @@ impl Events {
         (0..self.k).filter(|&a| self.comes_next(&next, a)).fold(0, |set, a| set | 1 << a)
     }
 
-    fn comes_next(&self, next: &[u16; 16], a: usize) -> bool {
+    pub fn comes_next(&self, next: &[u16; 16], a: usize) -> bool {
         let own = next[a];
         own < self.end && letters(self.dependent[a].into()).all(|b| own < next[b])
     }

@@ -1,7 +1,7 @@
--- Laws about the way back through the totals; the functions' proofs cite them.
--- searches by record index, for loops
-pub mod Scans
--- a part of the table from one total on
-pub mod Parts
--- the table, from the last total down
-pub mod Totals
+-- Laws about the way back through the records; the functions' proofs cite them.
+-- which record has one letter more
+pub mod Sweep
+-- flags in the free bits of counts
+pub mod FlagBits
+-- the table on the way back
+pub mod Swept

@@ -1,52 +1,69 @@
 // The backward numbers of the table: document 01, "Prefixes and their table".
 ghost use mathlib.Core.Path.{_≡_};
 ghost use mathlib.Core.List.{_++_};
-ghost use Prim.Native.Nat.{ℕ, _*_, _≤_, _<_};
+ghost use Prim.Native.Nat.{ℕ, _+_, _*_, _≤_, _<_};
 ghost use lib.ListN.{length, getD, drop};
 ghost use Rattle.profile.specs.Limits.{most-letters, most-states};
 ghost use Rattle.profile.specs.Automata.{profile-of};
-ghost use Rattle.profile.specs.Lists.{below, equal?};
 ghost use Rattle.terms.specs.Coded.{rules-of};
 ghost use Rattle.profile.specs.Tables.{layout, record-length};
-ghost use Rattle.theory.proofs.Merge.{seek};
-ghost use Rattle.counts.specs.Counts.{words};
-ghost use Rattle.records.specs.Records.{counts-at, records-in};
+ghost use Rattle.profile.specs.Traces.{bit};
 ghost use Rattle.rows.specs.Rows.{by-letter};
-ghost use Rattle.backward.specs.Backward.{Drafted, FromTotal, Leads, back-from, filled-all, filled-total, moved, start-of};
-use counts::Counts;
-use counts::one_more;
-use counts::same_counts;
-use counts::total_of;
+ghost use Rattle.backward.specs.Backward.{Drafted, Inside, back-from, clear-at, cleared, done-at, filled-all, flag-before, flags as flags-in, moved, with-flags, without-flags};
 use profile::Shape;
 use profile::limits::MOST_LETTERS;
 use profile::limits::MOST_MOVES;
 use records::RECORD;
-use records::counts_at;
 use records::last_at;
-use records::put_last;
-use records::records_in;
 use rows::backward_by;
 use rows::by_letter;
 
-// The first record from record `from` on that has the counts c; where none has, the number of records, or `from` if that is more.
-fn find(part: &[u32], from: usize, c: Counts) -> usize
-    ensures { λ r. ⌜ r ≡ seek (λ j. equal? (counts-at (now (part .entry)) j) (words c)) (below (records-in (now (part .entry)))) from ⌝ }
+// What a count stays below: the bits from here on of a count are free.
+const FREE: u32 = 4096;
+
+// The same of the count in the upper half of a number.
+const FREE_ABOVE: u32 = 268435456;
+
+// A half of a number.
+const HALF: u32 = 65536;
+
+// The two numbers of a record that have flags.
+const FLAGS: usize = 6;
+
+const MORE_FLAGS: usize = 7;
+
+// The last number of a record.
+const LAST: usize = 9;
+
+// Bit j of n is set.
+fn has_bit(n: u32, j: usize) -> bool
+    requires { ⌜ j < 32 ⌝ }
+    ensures { λ r. ⌜ r ≡ bit n j ⌝ }
 {
-    let n = records_in(part);
-    let mut j = from;
-    while j < n {
-        if same_counts(counts_at(part, j), c) {
-            return j;
-        }
-        j += 1;
-    }
-    j
+    (n >> j) & 1 == 1
 }
 
-// The backward set of record j, from the records that have one more of a letter in its last number; the letter's cursor moves to that record; `rows` are the
+// The last record before record `from` that has the flag of letter x; 0 where none has.
+fn flagged_before(table: &[u32], from: usize, x: usize) -> usize
+    requires { ⌜ (record-length layout * from ≤ length (now table)) × (x < most-letters) ⌝ }
+    ensures { λ r. ⌜ r ≡ flag-before (now (table .entry)) x from ⌝ }
+{
+    let number = FLAGS + x / 8;
+    let flag = 12 + x % 4 + 16 * (x / 4 % 2);
+    let mut i = from;
+    while 0 < i {
+        i -= 1;
+        if has_bit(table[RECORD * i + number], flag) {
+            return i;
+        }
+    }
+    0
+}
+
+// The backward set of record j, from the records that have one more of a letter that can be added; the letter's cursor moves to that record; `rows` are the
 // moves by letter. Each turn takes the lowest letter out of those that are left.
 fn back_of(
-    part: &[u32],
+    table: &[u32],
     j: usize,
     k: usize,
     s: usize,
@@ -55,71 +72,87 @@ fn back_of(
     cursors: &mut [usize],
 ) -> u32
     requires { ⌜ (k ≤ most-letters) × (s ≤ most-states) × (k ≤ length (now cursors)) ⌝ }
-    requires { ⌜ Leads (now part) j k (λ x. getD (now cursors) x 0) ⌝ }
+    requires { ⌜ Inside (now table) j k (λ x. getD (now cursors) x 0) ⌝ }
     requires { ⌜ now rows ≡ by-letter k s (now moves) ⌝ }
-    ensures { λ r. ⌜ r ≡ back-from (now (part .entry)) j k k s (now (moves .entry)) (λ x. getD (now (cursors .entry)) x 0) ⌝ }
-    ensures { λ _. ⌜ ((x : ℕ) → x < k → getD (now (cursors .exit)) x 0 ≡ moved (now (part .entry)) j (λ x. getD (now (cursors .entry)) x 0) x) ⌝ }
+    ensures { λ r. ⌜ r ≡ back-from (now (table .entry)) j k s (now (moves .entry)) (λ x. getD (now (cursors .entry)) x 0) ⌝ }
+    ensures { λ _. ⌜ ((x : ℕ) → x < k → getD (now (cursors .exit)) x 0 ≡ moved (now (table .entry)) j (λ x. getD (now (cursors .entry)) x 0) x) ⌝ }
 {
-    let c = counts_at(part, j);
-    let letters = last_at(part, j);
+    let letters = last_at(table, j) % HALF;
     let mut out = 0u32;
     let mut rest = letters;
     while rest != 0 {
         let x = u32::trailing_zeros(rest) as usize;
         if x < k {
             let from = cursors[x];
-            let r = find(part, from, one_more(c, x));
+            let r = flagged_before(table, from, x);
             cursors[x] = r;
-            out = out | backward_by(rows, s, last_at(part, r), x);
+            out = out | backward_by(rows, s, last_at(table, r), x);
         }
         rest = rest & (rest - 1);
     }
     out
 }
 
-// Puts the backward numbers of total t, whose `len` records the part begins with; those of the next total stand behind them.
-fn fill_total(
-    part: &mut [u32],
-    len: usize,
-    t: usize,
-    shape: Shape,
-    masks: &[u16],
-    moves: &[u32],
-    rows: &[u32; MOST_MOVES],
-    log: &[u8],
-    termed: bool,
-)
-    requires { ⌜ FromTotal (rules-of (profile-of shape (now masks) (now moves)) termed) (now log) (now part) t len ⌝ }
-    requires { ⌜ now rows ≡ by-letter (shape .k) (shape .s) (now moves) ⌝ }
-    ensures { λ _. ⌜ now (part .exit)
-        ≡ filled-total (rules-of (profile-of shape (now (masks .entry)) (now (moves .entry))) termed) (now (log .entry)) t
-        ++ drop (record-length layout * len) (now (part .entry)) ⌝ }
+// The flags of the first eight letters of a set, as one number has them.
+fn flags(set: u32) -> u32
+    ensures { λ r. ⌜ r ≡ flags-in set ⌝ }
 {
-    let mut cursors = [len; MOST_LETTERS];
+    FREE * (set % 16) + FREE_ABOVE * (set / 16 % 16)
+}
+
+// A number of counts with the flags of the first eight letters of a set.
+fn flagged(n: u32, set: u32) -> u32
+    ensures { λ r. ⌜ r ≡ with-flags n set ⌝ }
+{
+    std::num::wrapping_add_u32(n, flags(set))
+}
+
+// A number of counts without its flags.
+fn unflagged(n: u32) -> u32
+    ensures { λ r. ⌜ r ≡ without-flags n ⌝ }
+{
+    n % FREE + HALF * (n / HALF % FREE)
+}
+
+// Record j done: its last number is the backward set; of the letters that can be taken away, which the upper half of that number was, it has the flags.
+fn put_done(table: &mut [u32], j: usize, back: u32)
+    requires { ⌜ record-length layout * j + record-length layout ≤ length (now table) ⌝ }
+    ensures { λ _. ⌜ now (table .exit) ≡ done-at (now (table .entry)) j back ⌝ }
+{
+    let at = RECORD * j;
+    let set = table[at + LAST] / HALF;
+    let low = flagged(table[at + FLAGS], set);
+    let high = flagged(table[at + MORE_FLAGS], set / 256);
+    table[at + FLAGS] = low;
+    table[at + MORE_FLAGS] = high;
+    table[at + LAST] = back;
+}
+
+// Clears the flags of record j.
+fn clear(table: &mut [u32], j: usize)
+    requires { ⌜ record-length layout * j + record-length layout ≤ length (now table) ⌝ }
+    ensures { λ _. ⌜ now (table .exit) ≡ clear-at (now (table .entry)) j ⌝ }
+{
+    let at = RECORD * j;
+    let low = unflagged(table[at + FLAGS]);
+    let high = unflagged(table[at + MORE_FLAGS]);
+    table[at + FLAGS] = low;
+    table[at + MORE_FLAGS] = high;
+}
+
+// Clears the flags of the first `records` records.
+fn clear_flags(table: &mut [u32], records: usize)
+    requires { ⌜ record-length layout * records ≤ length (now table) ⌝ }
+    ensures { λ _. ⌜ now (table .exit) ≡ cleared (now (table .entry)) records ⌝ }
+{
     let mut j = 0;
-    while j < len {
-        let back = back_of(part, j, shape.k, shape.s, moves, rows, &mut cursors);
-        put_last(part, j, back);
+    while j < records {
+        clear(table, j);
         j += 1;
     }
 }
 
-// The first of the records of total t that stand in a row before record `end`.
-fn total_start(table: &[u32], end: usize, t: usize) -> usize
-    requires { ⌜ record-length layout * end ≤ length (now table) ⌝ }
-    ensures { λ r. ⌜ r ≡ start-of (now (table .entry)) t end ⌝ }
-{
-    let mut i = end;
-    while 0 < i {
-        if total_of(counts_at(table, i - 1)) != t {
-            return i;
-        }
-        i -= 1;
-    }
-    i
-}
-
-// Puts the backward numbers of `records` records that hold the letters that can be added there.
+// Puts the backward numbers of `records` records that hold the letters that can be added and those that can be taken away, from the last to the first.
 pub fn fill_backward(
     table: &mut [u32],
     records: usize,
@@ -137,24 +170,13 @@ pub fn fill_backward(
     let finals = shape.finals;
     let mut rows = [0u32; MOST_MOVES];
     by_letter(moves, shape.k, shape.s, &mut rows);
-    let mut t = log.len();
-    let mut end = records - 1;
-    put_last(table, end, finals);
-    while 0 < t {
-        t -= 1;
-        let begin = total_start(table, end, t);
-        let first = RECORD * begin;
-        fill_total(
-            &mut table[first..],
-            end - begin,
-            t,
-            shape,
-            masks,
-            moves,
-            &rows,
-            log,
-            termed,
-        );
-        end = begin;
+    let mut cursors = [records; MOST_LETTERS];
+    let mut j = records - 1;
+    put_done(table, j, finals);
+    while 0 < j {
+        j -= 1;
+        let back = back_of(table, j, shape.k, shape.s, moves, &rows, &mut cursors);
+        put_done(table, j, back);
     }
+    clear_flags(table, records);
 }

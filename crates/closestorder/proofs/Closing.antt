@@ -3,32 +3,30 @@ use mathlib.Core.Path.{_≡_, refl, sym, _∙_, ap, subst}
 use mathlib.Core.Bool.{Bool, true, not, true≢false}
 use mathlib.Core.List.{List, [], _∷_, _++_, append-nil, map}
 use mathlib.Core.Option.{Option, none, some}
-use Prim.Native.Nat.{ℕ, suc, _+_, _*_, _-_, _^_, _≤_, _<_}
+use Prim.Native.Nat.{ℕ, suc, _+_, _*_, _-_, _≤_, _<_}
 use native.Mathlib.Nat.{suc-mul}
 use native.Mathlib.Omega.{arith}
-use lib.Dec.{T, leb→le, le→leb, lt→ltb, ltb, not-T}
+use lib.Dec.{T, leb→le, le→leb, ltb, not-T}
 use lib.ListN.{length, take, drop, length-map}
 use lib.Seq.{drop-nil, take-at}
 use Rattle.profile.specs.Automata.{Profile, automaton}
 use Rattle.profile.specs.Rules.{Rules, order-by}
-use Rattle.profile.specs.Lists.{Mem}
-use Rattle.profile.specs.Prefixes.{IsPrefix, at, by-total, count}
+use Rattle.profile.specs.Prefixes.{by-total, count}
 use Rattle.profile.specs.Tables.{layout, record-length}
 use Rattle.profile.specs.Traces.{bit, letters-below}
-use Rattle.profile.proofs.Lists.{all-of, both, fst-of, mem-place, snd-of}
+use Rattle.profile.proofs.Lists.{both, fst-of, snd-of}
 use Rattle.profile.proofs.Sets.{bit-below}
 use Rattle.profile.proofs.Traces.{order-of-reach, takes-length}
 use Rattle.theory.proofs.Calls.{order-by-earliest, order-by-length}
 use Rattle.theory.proofs.Levels.{by-total-length}
-use Rattle.theory.proofs.Counting.{prefixes-at}
-use Rattle.theory.proofs.Prefixes.{count-le, count-order}
+use Rattle.theory.proofs.Prefixes.{count-order}
 use Rattle.theory.proofs.Profiles.{lawful}
 use Rattle.records.specs.Drafts.{backward-set, filled, forward-set, in-order}
 use Rattle.records.specs.Records.{counts-at, records-in}
 use Rattle.records.proofs.Drafts.{drafts-length}
-use Rattle.search.specs.Search.{Ordered}
-use Rattle.search.proofs.Prefixes.{counts-are, records-many, records-ordered, whole-inside, whole-sorted}
+use Rattle.search.proofs.Prefixes.{records-many, whole-inside, whole-sorted}
 use Rattle.earliest.specs.Earliest.{Table, found?, record-count, with-order}
+use Rattle.earliest.proofs.Records.{listed}
 use Rattle.swaps.specs.Closest.{after as after-th, covers, fewest-swaps, order-with, pair-swaps, pairs, smaller, sorted}
 use Rattle.swaps.specs.Swaps.{swaps}
 use Rattle.swaps.proofs.Bounds.{fewest-small}
@@ -82,23 +80,8 @@ module _ {p : Rules} {w log t : List ℕ} (h : Held p w log t) where
   pub count-records : records-in t ≡ record-count p w
   count-records = all-listed ∙ as-many
 
-  prefix-at : (c : List ℕ) → Mem c (in-order p w) → (length c ≡ p .profile .k) × IsPrefix (p .may) (p .letter) w (at c)
-  prefix-at c m = prefixes-at (p .may) (p .letter) (p .profile .k) w c (h .events .letters) (whole-inside p w (h .events) c m)
-
-  listed-records : Lists t (p .profile .k) (by-total (p .may) (p .letter) (p .profile .k) w)
-  listed-records = record {
-    letters = h .profile .relation .most;
-    many = all-listed;
-    counts = λ j l. ap (λ z. counts-at z j) (h .exact) ∙ counts-are p w (h .profile) (h .events) (in-order p w) (whole-sorted p w (h .events)) (whole-inside p w (h .events)) j l;
-    long = λ c m. prefix-at c m .0;
-    small = λ c m. all-of (λ n. ltb n (2 ^ layout .width)) c (λ n i.
-        let q = mem-place 0 i in
-        lt→ltb n (2 ^ layout .width) (omega (arith, q .2, prefix-at c m .1 .fits (q .0), count-le (p .may) (p .letter) w (q .0), h .events .short)));
-    ordered = subst Ordered (sym (h .exact)) (records-ordered p w (h .profile) (h .events) (in-order p w) (whole-sorted p w (h .events)) (whole-inside p w (h .events)));
-  }
-
   pub lent : {starts places : List ℕ} → Placed (p .profile .k) log starts places → Lent (p .profile) (p .may) (p .letter) w t log starts places
-  lent placed = record { profile = h .profile; apart = h .events .apart; letters = h .letters; placed = placed; records = listed-records }
+  lent placed = record { profile = h .profile; apart = h .events .apart; letters = h .letters; placed = placed; records = subst (λ l. Lists l (p .profile .k) (in-order p w)) (sym (h .exact)) (listed p w (h .profile) (h .events)) }
 
   pub fewest-below : {starts places : List ℕ} {n : ℕ} → Placed (p .profile .k) log starts places → fewest-swaps (p .may) (p .letter) (automaton (p .profile)) w ≡ some n → n ≤ 16000000
   fewest-below placed e = fewest-small (p .may) (p .letter) (automaton (p .profile)) (lawful (p .profile)) w (h .events .apart) (few-events (lent placed)) e

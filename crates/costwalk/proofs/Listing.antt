@@ -26,7 +26,8 @@ use Rattle.costcells.specs.Cells.{cell, cost-in, none-cost, pair-costs}
 use Rattle.costcells.proofs.Cells.{inside}
 use Rattle.costtable.specs.Costs.{Lent}
 use Rattle.costwalk.specs.Walk.{RowsThere}
-use Rattle.costwalk.proofs.Rows.{few-events, prefix-of}
+use Rattle.successors.proofs.More.{prefix-of}
+use Rattle.costwalk.proofs.Rows.{few-events, recorded}
 
 -- ---- rows of s cells, one behind the other
 
@@ -93,7 +94,7 @@ module _ {p : Profile} {may : ℕ → ℕ → Bool} {letter : ℕ → ℕ} {w t 
       ∙ filter-flat (λ n. ltb n none-cost) (λ c. map (λ q. cell (o c q)) (below (p .s)))
       (λ c. flat-map (λ q. listed (o c q)) (filter (bit (forward may letter M w (at c))) (below (p .s)))) l
       (λ c m. row-pairs (o c) (bit (forward may letter M w (at c))) (λ q n e.
-      let i = prefix-of g c m .1 in
+      let i = prefix-of (recorded g) c m .1 in
       let u = pair-at may letter M (lawful p) w (g .apart) q i e in (
         omega (arith, pair-small may letter M (lawful p) w (g .apart) (few-events g) (at c) q n i e),
         union-of (run M letter (M .start)) q (mem-of-order may (marked letter w (at c)) (u .1)) (u .2),

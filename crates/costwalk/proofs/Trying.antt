@@ -34,7 +34,8 @@ use Rattle.costwalk.specs.Walk.{Chooses, Ends, Standing, Tested, Tries}
 use Rattle.costwalk.specs.declared.Choice.{Choice}
 use Rattle.costwalk.specs.declared.Next.the-variants.{Costs as Cost, Not}
 use Rattle.swaps.proofs.Letters.{step-letters}
-use Rattle.costwalk.proofs.Rows.{fields, more-at, more-none, prefix-of, whole-counts}
+use Rattle.successors.proofs.More.{more-at, more-none, prefix-of}
+use Rattle.costwalk.proofs.Rows.{fields, recorded, whole-counts}
 
 -- ---- moves stay below s
 
@@ -66,7 +67,7 @@ module _ {p : Profile} {may : ℕ → ℕ → Bool} {letter : ℕ → ℕ} {w t 
 
     module _ (r : ℕ) (found : found-in t (add-count layout n x) ≡ At r) where
       there : T (addable? may letter w (at (z .counts)) x) × (r < length (by-total may letter (p .k) w)) × (getD (by-total may letter (p .k) w) r [] ≡ bump (z .counts) x)
-      there = more-at (z .lent) (z .counts) (z .prefix) x h r (ap (found-in t) (sym looked) ∙ found)
+      there = more-at (recorded (z .lent)) (z .counts) (z .prefix) x h r (ap (found-in t) (sym looked) ∙ found)
 
       pub addable : T (addable? may letter w (count-field layout n) x)
       addable = subst (λ f. T (addable? may letter w f x)) (sym counted) (there .0)
@@ -84,7 +85,7 @@ module _ {p : Profile} {may : ℕ → ℕ → Bool} {letter : ℕ → ℕ} {w t 
           log-count x,
         ));
         fits = λ y l. subst (λ i. count-field layout i y ≤ count (λ a. a) log y) (sym e)
-            (subst (λ f. f y ≤ count (λ a. a) log y) (sym counted) (omega (arith, prefix-of (z .lent) (z .counts) (z .prefix) .1 .fits y, log-count y)));
+            (subst (λ f. f y ≤ count (λ a. a) log y) (sym counted) (omega (arith, prefix-of (recorded (z .lent)) (z .counts) (z .prefix) .1 .fits y, log-count y)));
         all = λ y l. ap (λ i. count-field layout i y) q ∙ whole-counts (z .lent) y ∙ sym (log-count y);
       }
         where
@@ -99,7 +100,7 @@ module _ {p : Profile} {may : ℕ → ℕ → Bool} {letter : ℕ → ℕ} {w t 
       -- what stands in the row
       row-cells : (S q : ℕ) → T (bit (automaton p .step S x) q) → cost-in costs (r * p .s + q) ≡ cell (rest-swaps may letter (automaton p) w (more (count-field layout n) x) q)
       row-cells S q b =
-          let l = prefix-of (z .lent) (z .counts) (z .prefix) .0 in
+          let l = prefix-of (recorded (z .lent)) (z .counts) (z .prefix) .0 in
           z .right .cells r q (there .1) (bit-below (p .s) (automaton p .step S x) q (step-inside p (z .lent .profile) S x) b)
           ∙ ap (λ f. cell (rest-swaps may letter (automaton p) w f q)) (ap at (there .2) ∙ at-bump (z .counts) x (omega (arith, h, l)) ∙ ap (λ f. more f x) (sym counted))
 
@@ -117,7 +118,7 @@ module _ {p : Profile} {may : ℕ → ℕ → Bool} {letter : ℕ → ℕ} {w t 
 
     pub absent-ends : (i S : ℕ) → found-in t (add-count layout n x) ≡ Absent i → Ends p may letter w (count-field layout n) S left x → ⊥
     absent-ends i S found e =
-        more-none (z .lent) (z .counts) (z .prefix) x h i (ap (found-in t) (sym looked) ∙ found)
+        more-none (recorded (z .lent)) (z .counts) (z .prefix) x h i (ap (found-in t) (sym looked) ∙ found)
         (subst (λ f. T (addable? may letter w f x)) counted (e .0))
 
 -- ---- the letters tried so far

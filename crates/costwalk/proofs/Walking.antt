@@ -34,7 +34,8 @@ use Rattle.earliest.specs.Earliest.{with-order}
 use Rattle.costtable.specs.Costs.{Lent}
 use Rattle.costwalk.specs.Walk.{Chooses, Chosen, Ends, Known, Leads, Puts, RowsOut, Some, Standing}
 use Rattle.costwalk.specs.declared.Choice.{Choice}
-use Rattle.costwalk.proofs.Rows.{as-many, below-k, few-events, fields, more-in-order, more-numbers, of-prefix, prefix-of}
+use Rattle.successors.proofs.More.{more-in-order, more-packed, of-prefix, prefix-of}
+use Rattle.costwalk.proofs.Rows.{as-many, below-k, few-events, fields, recorded}
 
 module _ {p : Profile} {may : ℕ → ℕ → Bool} {letter : ℕ → ℕ} {w t log starts places costs : List ℕ} {n : ℕ} (g : Lent p may letter w t log starts places)
     (right : RowsOut p may letter w costs) (few : fewest-swaps may letter (automaton p) w ≡ some n) where
@@ -89,7 +90,7 @@ module _ {p : Profile} {may : ℕ → ℕ → Bool} {letter : ℕ → ℕ} {w t 
         events = [];
         counts = z;
         spent = 0;
-        prefix = of-prefix g z (length-range (λ x. 0) (p .k) 0) (subst (IsPrefix may letter w) (sym no-counts) (prefix-none may letter (automaton p) (lawful p) w (g .apart)));
+        prefix = of-prefix (recorded g) z (length-range (λ x. 0) (p .k) 0) (subst (IsPrefix may letter w) (sym no-counts) (prefix-none may letter (automaton p) (lawful p) w (g .apart)));
         numbers = e ∙ sym (packed-zero layout (p .k));
         walk = subst (λ f. Walked [] (f, 0, automaton p .start) (unmarked letter w f)) (sym no-counts)
             (subst (Walked [] begun) (sym all) end);
@@ -127,7 +128,7 @@ module _ {p : Profile} {may : ℕ → ℕ → Bool} {letter : ℕ → ℕ} {w t 
 
     pub taken-some : i < length w → Some p may letter w (count-field layout c) S left
     taken-some h =
-        let s = walk-some may letter (automaton p) (lawful p) w (g .apart) n few (p .k) (below-k g) (at (r .counts), r .spent, S) (prefix-of g (r .counts) (r .prefix) .1)
+        let s = walk-some may letter (automaton p) (lawful p) w (g .apart) n few (p .k) (below-k g) (at (r .counts), r .spent, S) (prefix-of (recorded g) (r .counts) (r .prefix) .1)
         (λ e. omega (arith, h, left-over, ap length e)) (r .goes) in
         subst (λ f. Some p may letter w f S left) (sym counted) (s .0, s .1, end-of-fits (s .0) (s .2) (s .3))
 
@@ -139,8 +140,8 @@ module _ {p : Profile} {may : ℕ → ℕ → Bool} {letter : ℕ → ℕ} {w t 
         events = r .events ++ (a ∷ []);
         counts = bump v x;
         spent = r .spent + step-cost letter w (at v) x;
-        prefix = more-in-order g v (r .prefix) x (chosen .below) (ends .0);
-        numbers = ap (λ m. add-count layout m x) (r .numbers) ∙ more-numbers g v x (chosen .below) (r .prefix);
+        prefix = more-in-order (recorded g) v (r .prefix) x (chosen .below) (ends .0);
+        numbers = ap (λ m. add-count layout m x) (r .numbers) ∙ more-packed (recorded g) v x (chosen .below) (r .prefix);
         walk = subst (λ f. Walked (r .events ++ (a ∷ [])) (f, r .spent + step-cost letter w (at v) x, automaton p .step S x) (unmarked letter w f)) (sym more-is)
             (greedy-append may letter (read-on may letter (automaton p) (lawful p) w (g .apart) n) (read-all may letter (automaton p) (lawful p) w (g .apart) n) (goes-on may letter (automaton p) (lawful p) w (g .apart) n) (r .walk) (step .2));
         by = subst (λ f. ReadTo (r .events ++ (a ∷ [])) (f, r .spent + step-cost letter w (at v) x, automaton p .step S x)) (sym more-is) (step .3);
@@ -165,11 +166,11 @@ module _ {p : Profile} {may : ℕ → ℕ → Bool} {letter : ℕ → ℕ} {w t 
         own-cost = chosen .cost ∙ ap (λ f. step-cost letter w f x) counted
 
         more-is : at (bump v x) ≡ more (at v) x
-        more-is = at-bump v x (omega (arith, chosen .below, prefix-of g v (r .prefix) .0))
+        more-is = at-bump v x (omega (arith, chosen .below, prefix-of (recorded g) v (r .prefix) .0))
 
         step : (a : ℕ) × (letter a ≡ x) × Walk may letter (automaton p) (lawful p) w (g .apart) n (at v, r .spent, S) (unmarked letter w (at v)) (a ∷ []) (read-on may letter (automaton p) (lawful p) w (g .apart) n (at v, r .spent, S) x) (unmarked letter w (more (at v) x))
             × ReadTo (r .events ++ (a ∷ [])) (read-on may letter (automaton p) (lawful p) w (g .apart) n (at v, r .spent, S) x) × IsPrefix may letter w (more (at v) x)
-        step = walk-step may letter (automaton p) (lawful p) w (g .apart) n few (at v, r .spent, S) x (prefix-of g v (r .prefix) .1) (r .by) (ends .0) (fits-at-end x ends)
+        step = walk-step may letter (automaton p) (lawful p) w (g .apart) n few (at v, r .spent, S) x (prefix-of (recorded g) v (r .prefix) .1) (r .by) (ends .0) (fits-at-end x ends)
             (λ y lt s f. chosen .first y lt (subst (λ c. Ends p may letter w c S left y) (sym counted) (end-of-fits y s f)))
 
         a : ℕ

@@ -1,5 +1,5 @@
--- The cursors of a total: t is the part of the table with the records of one total, the last number of each the set of letters that can be added; cs has a
--- cursor for each letter, the index of a record of t.
+-- The cursors of a total: t is the part of the table with the records of one total, the last number of each with the letters that can be added in its lower
+-- half; cs has a cursor for each letter, the index of a record of t.
 use mathlib.Core.Bool.{cond}
 use mathlib.Core.List.{List, _++_, map}
 use Prim.Native.Nat.{ℕ, suc, _+_, _-_, _<_}

@@ -1,210 +1,186 @@
--- One letter of the order: the smallest letter with which the counts become those of a record of the next total, and lead into its backward set.
-use mathlib.Core.Path.{_≡_, refl, sym, _∙_, ap, subst}
-use mathlib.Core.Bool.{Bool, true, false, cond}
-use mathlib.Core.Logic.{⊎-elim}
+-- One letter of the order: the smallest that leads from the states into the backward set of the record with one more of it.
+use mathlib.Core.Path.{_≡_, sym, _∙_, ap, subst, subst₂}
+use mathlib.Core.Bool.{Bool, _&&_, cond}
+use mathlib.Core.Logic.{⊎-elim, _≢_}
 use mathlib.Core.List.{List, [], _∷_}
-use Prim.Native.Nat.{ℕ, zero, suc, _+_, _-_, _*_, _≤_, _<_, min}
+use Prim.Native.Nat.{ℕ, suc, _+_, _≤_, _<_}
 use native.Mathlib.Omega.{arith}
-use lib.Dec.{T}
-use lib.ListN.{length, length-set}
+use lib.Dec.{T, T-not, not-T, ltb, ltb→lt, lt→ltb}
+use lib.ListN.{length}
 use Rattle.profile.specs.Rules.{Rules}
 use Rattle.profile.specs.Lists.{Mem}
 use Rattle.profile.specs.Automata.{automaton, meets}
-use Rattle.profile.specs.Prefixes.{IsPrefix, addable?, at, more, one, total}
+use Rattle.profile.specs.Prefixes.{addable?, at, more, ranked}
 use Rattle.profile.specs.Tables.{layout, packed}
-use Rattle.profile.proofs.Lists.{equal-test, is-true, lt-or-le}
-use Rattle.theory.proofs.Packing.{packed-inj}
-use Rattle.theory.proofs.Prefixes.{addable-of, one-cases, one-same}
-use Rattle.theory.proofs.Levels.{at-bump, bump, level-next}
-use Rattle.theory.proofs.Merge.{level-unmarked}
+use Rattle.profile.specs.Traces.{bit}
+use Rattle.profile.proofs.Lists.{both, equal-test, fst-of, is-false, is-true, lt-or-le, mem-getD, snd-of, test}
+use Rattle.profile.proofs.Sets.{bit-none, meets-at}
+use Rattle.theory.proofs.LetterOrder.{earlier-irrefl, earlier-test}
+use Rattle.theory.proofs.Levels.{at-bump, bump}
 use Rattle.theory.proofs.Judgement.{choice, some-choice}
 use Rattle.theory.proofs.Profiles.{lawful}
-use Rattle.counts.specs.Counts.{add-count}
-use Rattle.counts.proofs.Packed.{Small, add-packed}
-use Rattle.records.specs.Records.{counts-at, last-at}
-use Rattle.earliest.specs.Earliest.{Table, added-letter, added?, record-count, smallest, taken-letter}
-use Rattle.earliest.proofs.Records.{ChosenFrom, at-total, backward-of, different, find-record, left-of, of-total-at, of-total-small, prefix-at, record-backward, record-counts, record-of-total, small-of}
-use Rattle.earliest.proofs.First.{first-le, first-passes}
-use Rattle.earliest.proofs.Totals.{Begins, between-at, between-of}
-use Rattle.records.specs.Drafts.{of-total}
+use Rattle.counts.specs.Counts.{add-count, counts-in}
+use Rattle.records.specs.Drafts.{in-order}
+use Rattle.records.specs.Records.{counts-at, last-at, records-in}
+use Rattle.search.specs.Search.{Ordered, found-in, has?, records-before, stands-before?}
+use Rattle.search.proofs.Halves.{Between, before-record, between-end, found-record}
+use Rattle.successors.specs.Successors.{Stands}
+use Rattle.successors.proofs.Bounds.{behind, bound-later, later-before}
+use Rattle.successors.proofs.More.{find-more, more-at, more-packed, prefix-of}
+use Rattle.earliest.specs.Earliest.{Enclosed, Smallest, Some, Table, Takes, led}
+use Rattle.earliest.proofs.Records.{ChosenFrom, backward-of, different, left-of, prefix-at, recorded, used, used-backward}
 
--- ---- the smallest of some numbers
+-- ---- the only record that can have the counts
 
-module _ (f : ℕ → ℕ) (k a : ℕ) where
-  pub smallest-most : (n : ℕ) → smallest f k a n ≤ k
-  smallest-most zero = omega arith
-  smallest-most (suc n) = omega (arith, smallest-most n)
+module _ (t c : List ℕ) (o : Ordered t) where
+  -- a record that has them does not stand before them
+  not-before : (i : ℕ) → T (has? t c i) → T (stands-before? (counts-at t i) c) → ⊥
+  not-before i h y =
+      let d = ranked (counts-in layout c) in
+      earlier-irrefl d (earlier-test d d .0 (subst (λ v. T (stands-before? v c)) (equal-test (counts-at t i) c .0 h) y))
 
-  pub smallest-next : (j : ℕ) → a ≤ j → smallest f k a (j + 1 - a) ≡ min (smallest f k a (j - a)) (f j)
-  smallest-next j h =
-      let e : j + 1 - a ≡ suc (j - a) = omega arith in
-      let i : a + (j - a) ≡ j = omega arith in
-      ap (smallest f k a) e ∙ ap (λ m. min (smallest f k a (j - a)) (f m)) i
+  -- where one record stands between two bounds, it is that one
+  pub only-between : (j e : ℕ) → Enclosed t c j e → e ≡ j + 2 → (i : ℕ) → i < records-in t → T (has? t c i) → i ≡ j + 1
+  only-between j e s q i l h = ⊎-elim (λ lt. absurd (not-before i h (s .between .0 i lt)))
+      (λ le. ⊎-elim (λ lt. omega arith) (λ ge. absurd (T-not (has? t c i) (s .barred i ge l) h)) (lt-or-le i e)) (lt-or-le i (suc j))
 
-  pub smallest-none : smallest f k a (a - a) ≡ k
-  smallest-none = let e : a - a ≡ 0 = omega arith in ap (smallest f k a) e
+  -- where the counts belong before record a, it is record a
+  pub only-place : (a : ℕ) → a ≤ records-in t → Between t c a a → (i : ℕ) → i < records-in t → T (has? t c i) → i ≡ a
+  only-place a inside b i l h = sym (before-record t o i l) ∙ ap (records-before t) (equal-test (counts-at t i) c .0 h) ∙ sym (between-end t c a inside b)
 
-  smallest-le : (n j : ℕ) → a ≤ j → j < a + n → smallest f k a n ≤ f j
-  smallest-le zero j l h = absurd (omega arith)
-  smallest-le (suc n) j l h = ⊎-elim
-      (λ lt. omega (arith, smallest-le n j l lt)) (λ le. let e : j ≡ a + n = omega arith in omega (arith, ap f e)) (lt-or-le j (a + n))
+-- ---- the states led to
 
-  -- where it is below k, it is the number of some place
-  smallest-at : (n : ℕ) → smallest f k a n < k → (j : ℕ) × (a ≤ j) × (j < a + n) × (f j ≡ smallest f k a n)
-  smallest-at zero l = absurd (omega arith)
-  smallest-at (suc n) l = ⊎-elim
-      (λ lt. let q = smallest-at n (omega arith) in (q .0, q .1, omega (arith, q .2), omega (arith, q .3)))
-      (λ le. (a + n, omega arith, omega arith, omega arith))
-      (lt-or-le (smallest f k a n) (f (a + n)))
+module _ (t c : List ℕ) (R a : ℕ) where
+  led-at : led t c R a ≢ 0 → (a < records-in t) × T (has? t c a) × T (meets R (last-at t a)) × (led t c R a ≡ R)
+  led-at n = ⊎-elim
+      (λ y.
+      let q = fst-of (ltb a (records-in t) && has? t c a) (meets R (last-at t a)) y in (
+        ltb→lt a (records-in t) (fst-of (ltb a (records-in t)) (has? t c a) q),
+        snd-of (ltb a (records-in t)) (has? t c a) q,
+        snd-of (ltb a (records-in t) && has? t c a) (meets R (last-at t a)) y,
+        ap (λ b. cond b R 0) (is-true ((ltb a (records-in t) && has? t c a) && meets R (last-at t a)) y),
+      ))
+      (λ y. absurd (n (ap (λ b. cond b R 0) (is-false ((ltb a (records-in t) && has? t c a) && meets R (last-at t a)) y))))
+      (test ((ltb a (records-in t) && has? t c a) && meets R (last-at t a)))
 
--- ---- the letter added
+  led-some : a < records-in t → T (has? t c a) → T (meets R (last-at t a)) → led t c R a ≢ 0
+  led-some l h m z =
+      let y = both (ltb a (records-in t) && has? t c a) (meets R (last-at t a)) (both (ltb a (records-in t)) (has? t c a) (lt→ltb a (records-in t) l) h) m in
+      let e : R ≡ 0 = sym (ap (λ b. cond b R 0) (is-true ((ltb a (records-in t) && has? t c a) && meets R (last-at t a)) y)) ∙ z in
+      let q = meets-at R (last-at t a) m in
+      subst T (ap (λ n. bit n (q .0)) e ∙ bit-none (q .0)) (q .1)
 
--- counts with one more of one letter are not those with one more of another
-bump-inj : (v : List ℕ) (x y : ℕ) → x < length v → y < length v → bump v x ≡ bump v y → x ≡ y
-bump-inj v x y h k e = ⊎-elim (λ i. i) (λ z. absurd (omega (
-  arith,
-  z,
-  one-same y,
-  ap (λ g. g y) (at-bump v x h),
-  ap (λ g. g y) (at-bump v y k),
-  ap (λ u. at u y) e,
-))) (one-cases x y)
+-- ---- the letters tried so far, behind record j
 
--- letter x leads from states of S into the backward set of v with one x more
-abbrev pub leads-on : Rules → List ℕ → List ℕ → ℕ → ℕ → Bool
-leads-on p w v S x = meets (automaton (p .profile) .step S x) (backward-of p w (at (bump v x)))
+module _ (step : ℕ → ℕ → ℕ) (t : List ℕ) (j S k : ℕ) where
+  -- the records of the letters from x on stand behind record j and before record e; no letter below x can be taken
+  abbrev pub Bounded : ℕ → ℕ → Type 0
+  Bounded x e = (y : ℕ) → x ≤ y → y < k → Enclosed t (add-count layout (counts-at t j) y) j e
 
--- prefixes v of total n, below the log's length
-module _ {p : Rules} {w t : List ℕ} (tab : Table p w t) {n : ℕ} (left : n < length w) (v : List ℕ) (here : Mem v (of-total p w n)) where
-  bump-small : (x : ℕ) → x < length v → Small layout (bump v x)
-  bump-small x h =
-      let l = of-total-at tab n v here in
-      small-of (bump v x) (λ y. ⊎-elim
-      (λ e. omega (arith, ap (one x) e, one-same x, ap (λ g. g y) (at-bump v x h), at-total v y, l .2, tab .log .short))
-      (λ z. omega (arith, z, ap (λ g. g y) (at-bump v x h), at-total v y, l .2, tab .log .short))
-      (one-cases x y))
+  abbrev pub Passed : ℕ → Type 0
+  Passed x = (y r : ℕ) → y < x → Takes step t j S y r → ⊥
 
-  -- one x more in the numbers of counts is one x more in the counts
-  pub add-letter : (x : ℕ) → x < p .profile .k → add-count layout (packed layout v) x ≡ packed layout (bump v x)
-  add-letter x h =
-      let l = of-total-at tab n v here in
-      let lt : x < length v = omega (arith, l .0) in
-      add-packed layout v x refl lt (omega (arith, l .0, tab .profile .relation .most)) (bump-small x lt)
+  module _ (s : Stands t k j) where
+    pub bounded-first : (n : ℕ) → n ≡ records-in t → Bounded 0 n
+    bounded-first n e y l h = record {
+      behind = omega (arith, e, s .inside);
+      inside = omega (arith, e);
+      between = subst (Between t (add-count layout (counts-at t j) y) (suc j)) (sym e) (behind s y h);
+      barred = λ i g m. absurd (omega (arith, e));
+    }
 
-  module _ (d : List ℕ) (next : Mem d (of-total p w (suc n))) where
-    -- where letter x is added, the counts are v with one x more, and the other way round
-    added-test : (x : ℕ) → x < p .profile .k → T (added? (packed layout v) (packed layout d) x) → d ≡ bump v x
-    added-test x h s =
-        let l = of-total-at tab n v here in
-        let m = of-total-at tab (suc n) d next in
-        let len = length-set v x (suc (at v x)) in
-        sym (packed-inj layout (bump v x) d (len ∙ l .0 ∙ sym (m .0)) (omega (arith, len, l .0, tab .profile .relation .most))
-        (bump-small x (omega (arith, l .0))) (of-total-small tab (suc n) d next)
-        (sym (add-letter x h) ∙ equal-test (add-count layout (packed layout v) x) (packed layout d) .0 s))
+    -- the counts c are those with one x more; record r is the only one that can have them, and none from e on stands before them; R are the states led to
+    module _ (x R r e : ℕ) (c : List ℕ) (h : x < k) (own : c ≡ add-count layout (counts-at t j) x) (after : j < e) (inside : e ≤ records-in t) (bound : Between t c (suc j) e)
+        (only : (i : ℕ) → i < records-in t → T (has? t c i) → i ≡ r) (told : R ≡ led t c (step S x) r) where
+      pub bounded-next : Bounded (x + 1) e
+      bounded-next y l g =
+          let z = add-count layout (counts-at t j) x in
+          let d = add-count layout (counts-at t j) y in
+          let b = subst (λ v. Between t v (suc j) e) own bound in record {
+            behind = after;
+            inside = inside;
+            between = bound-later s x y (suc j) (suc j) e (omega arith) g b (behind s y g);
+            barred = λ i m n. not-T (has? t d i) (λ q.
+                T-not (stands-before? (counts-at t i) z) (b .1 i m n)
+                (subst (λ v. T (stands-before? v z)) (sym (equal-test (counts-at t i) d .0 q)) (later-before s x y (omega arith) g)));
+          }
 
-    added-at : (x : ℕ) → x < p .profile .k → added-letter (packed layout v) (packed layout d) ≡ x → d ≡ bump v x
-    added-at x h e =
-        added-test x h (subst (λ y. T (added? (packed layout v) (packed layout d) y)) e (first-passes (added? (packed layout v) (packed layout d)) (layout .per * layout .numbers) (omega (arith, e, tab .profile .relation .most))))
+      pub passed-next : Passed x → R ≡ 0 → Passed (x + 1)
+      passed-next before n y i lt k = ⊎-elim (λ l. before y i l k)
+          (λ l.
+          let q : y ≡ x = omega arith in
+          let now = subst (λ z. Takes step t j S z i) q k in
+          let has : T (has? t c i) = subst (λ v. T (has? t v i)) (sym own) (now .has) in
+          let same : i ≡ r = only i (now .inside) has in
+          led-some t c (step S x) r (subst (λ m. m < records-in t) same (now .inside)) (subst (λ m. T (has? t c m)) same has)
+          (subst (λ m. T (meets (step S x) (last-at t m))) same (now .leads)) (sym told ∙ n)) (lt-or-le y x)
 
-    added-of : (x : ℕ) → x < p .profile .k → d ≡ bump v x → added-letter (packed layout v) (packed layout d) ≡ x
-    added-of x h e =
-        let l = of-total-at tab n v here in
-        let s : T (added? (packed layout v) (packed layout d) x) = equal-test (add-count layout (packed layout v) x) (packed layout d) .1 (add-letter x h ∙ ap (packed layout) (sym e)) in
-        let y = added-letter (packed layout v) (packed layout d) in
-        let le : y ≤ x = first-le (added? (packed layout v) (packed layout d)) (layout .per * layout .numbers) x (omega (arith, tab .profile .relation .most)) s in
-        bump-inj v y x (omega (arith, l .0)) (omega (arith, l .0)) (sym (added-at y (omega arith) refl) ∙ e)
+      pub taken-here : R ≢ 0 → Takes step t j S x r × (R ≡ step S x)
+      taken-here n =
+          let q = led-at t c (step S x) r (λ z. n (told ∙ z)) in
+          (record { inside = q .0; has = subst (λ v. T (has? t v r)) own (q .1); leads = q .2 }, told ∙ q .3)
 
-  -- ---- the letter taken
+-- ---- the letter chosen, in the table of a log
 
-  module _ (S : ℕ) where
-    module _ (j : ℕ) (h : j < record-count p w) (same : total (prefix-at tab j) ≡ suc n) where
-      next-prefix : Mem (prefix-at tab j) (of-total p w (suc n))
-      next-prefix = subst (λ i. Mem (prefix-at tab j) (of-total p w i)) same (record-of-total tab j h)
+module _ {p : Rules} {w t : List ℕ} (tab : Table p w t) (j : ℕ) (h : j < length (in-order p w)) (S : ℕ) where
+  here : Mem (prefix-at tab j) (in-order p w)
+  here = mem-getD (in-order p w) j [] h
 
-      letter-there : added-letter (packed layout v) (counts-at t j) ≡ added-letter (packed layout v) (packed layout (prefix-at tab j))
-      letter-there = ap (added-letter (packed layout v)) (record-counts tab j h)
+  -- letter x leads from states of S into the backward set of the prefix with one x more
+  abbrev leads-on : ℕ → Bool
+  leads-on x = meets (automaton (p .profile) .step S x) (backward-of p w (more (at (prefix-at tab j)) x))
 
-      -- what the record of v with one x more says of x
-      test-there : (x : ℕ) → prefix-at tab j ≡ bump v x → meets (automaton (p .profile) .step S x) (last-at t j) ≡ leads-on p w v S x
-      test-there x e = ap (meets (automaton (p .profile) .step S x))
-          (record-backward tab j h ∙ ap (λ c. backward-of p w (at c)) e)
+  numbers : (x : ℕ) → add-count layout (counts-at (used tab) j) x ≡ add-count layout (packed layout (prefix-at tab j)) x
+  numbers x = ap (λ c. add-count layout c x) (recorded tab .records .counts j h)
 
-      taken-of : (x : ℕ) → x < p .profile .k → prefix-at tab j ≡ bump v x → T (leads-on p w v S x) → taken-letter (automaton (p .profile) .step) t (packed layout v) S j ≡ x
-      taken-of x l e s =
-          let i : added-letter (packed layout v) (counts-at t j) ≡ x = letter-there ∙ added-of (prefix-at tab j) next-prefix x l e in
-          ap (λ y. cond (meets (automaton (p .profile) .step S y) (last-at t j)) y (layout .per * layout .numbers)) i
-          ∙ ap (λ b. cond b x (layout .per * layout .numbers)) (test-there x e ∙ is-true (leads-on p w v S x) s)
+  -- the backward set of the record with one x more
+  backward-more : (x r : ℕ) → x < p .profile .k → r < length (in-order p w) → prefix-at tab r ≡ bump (prefix-at tab j) x
+      → last-at (used tab) r ≡ backward-of p w (more (at (prefix-at tab j)) x)
+  backward-more x r l i e = used-backward tab r i ∙ ap (backward-of p w) (ap at e ∙ at-bump (prefix-at tab j) x (omega (arith, l, prefix-of (recorded tab) (prefix-at tab j) here .0)))
 
-      taken-at : (x : ℕ) → x < p .profile .k → taken-letter (automaton (p .profile) .step) t (packed layout v) S j ≡ x → (prefix-at tab j ≡ bump v x) × T (leads-on p w v S x)
-      taken-at x l e = go (meets (automaton (p .profile) .step S y) (last-at t j)) refl
-        where
-          y : ℕ
-          y = added-letter (packed layout v) (counts-at t j)
+  takes-at : (x r : ℕ) → x < p .profile .k → Takes (automaton (p .profile) .step) (used tab) j S x r
+      → T (addable? (p .may) (p .letter) w (at (prefix-at tab j)) x) × (r < length (in-order p w)) × (prefix-at tab r ≡ bump (prefix-at tab j) x) × T (leads-on x)
+  takes-at x r l k =
+      let same = equal-test (counts-at (used tab) r) (add-count layout (counts-at (used tab) j) x) .0 (k .has) in
+      let q = more-at (recorded tab) (prefix-at tab j) here x l r
+      (ap (found-in (used tab)) (sym (numbers x) ∙ sym same) ∙ found-record (used tab) (recorded tab .records .ordered) r (k .inside)) in
+      (q .0, q .1, q .2, subst (λ b. T (meets (automaton (p .profile) .step S x) b)) (backward-more x r l (q .1) (q .2)) (k .leads))
 
-          go : (b : Bool) → meets (automaton (p .profile) .step S y) (last-at t j) ≡ b → (prefix-at tab j ≡ bump v x) × T (leads-on p w v S x)
-          go true q =
-              let i : y ≡ x = ap (λ b. cond b y (layout .per * layout .numbers)) (sym q) ∙ e in
-              let d = added-at (prefix-at tab j) next-prefix x l (sym letter-there ∙ i) in
-              (d, subst T (sym q ∙ ap (λ z. meets (automaton (p .profile) .step S z) (last-at t j)) i ∙ test-there x d) tt)
-          go false q =
-              let i : layout .per * layout .numbers ≡ x = ap (λ b. cond b y (layout .per * layout .numbers)) (sym q) ∙ e in
-              absurd (omega (arith, i, tab .profile .relation .most))
+  takes-of : (x : ℕ) → x < p .profile .k → T (addable? (p .may) (p .letter) w (at (prefix-at tab j)) x) → T (leads-on x)
+      → (r : ℕ) × Takes (automaton (p .profile) .step) (used tab) j S x r
+  takes-of x l a y =
+      let q = find-more (recorded tab) (prefix-at tab j) here x l a in (
+        q .0,
+        record {
+          inside = subst (λ n. q .0 < n) (sym (recorded tab .records .many)) (q .1);
+          has = equal-test (counts-at (used tab) (q .0)) (add-count layout (counts-at (used tab) j) x) .1
+              (recorded tab .records .counts (q .0) (q .1) ∙ ap (packed layout) (q .2) ∙ sym (more-packed (recorded tab) (prefix-at tab j) x l here) ∙ sym (numbers x));
+          leads = subst (λ b. T (meets (automaton (p .profile) .step S x) b)) (sym (backward-more x (q .0) l (q .1) (q .2))) y;
+        },
+      )
 
-    -- ---- the choice
+  -- where S meets the backward set of the prefix, and an event is left, some letter can be taken
+  pub some-taken : T (meets S (backward-of p w (at (prefix-at tab j)))) → (left-of p w (at (prefix-at tab j)) ≡ [] → ⊥) → Some (automaton (p .profile) .step) (used tab) j S (p .profile .k)
+  some-taken live left =
+      let c = some-choice (p .may) (p .letter) (automaton (p .profile)) (lawful (p .profile)) (different tab) w (p .profile .k) (tab .log .letters) S
+      (prefix-of (recorded tab) (prefix-at tab j) here .1) left live in
+      let k = takes-of (c .0) (c .1) (c .2) (c .3) in
+      (c .0, k .0, c .1, k .1)
 
-    -- where S meets the backward set of v, and the records of the next total are those from a to e
-    module _ (live : T (meets S (backward-of p w (at v)))) {a e : ℕ} (b : Begins tab (suc n) a) (b′ : Begins tab (suc (suc n)) e) where
-      -- the smallest letter that is taken there
-      abbrev pub next-letter : ℕ
-      next-letter = smallest (taken-letter (automaton (p .profile) .step) t (packed layout v) S) (p .profile .k) a (e - a)
-
-      prefix : IsPrefix (p .may) (p .letter) w (at v)
-      prefix = of-total-at tab n v here .1
-
-      -- the test of `leads-on`, with the counts as a function
-      leads-more : (x : ℕ) → x < p .profile .k → leads-on p w v S x ≡ meets (automaton (p .profile) .step S x) (backward-of p w (more (at v) x))
-      leads-more x h = ap (λ c. meets (automaton (p .profile) .step S x) (backward-of p w c))
-          (at-bump v x (omega (arith, of-total-at tab n v here .0)))
-
-      -- no letter that may come next and leads on is smaller
-      next-least : (y : ℕ) → y < p .profile .k → T (addable? (p .may) (p .letter) w (at v) y) → T (leads-on p w v S y) → next-letter ≤ y
-      next-least y h s q =
-          let m = level-next (p .may) (p .letter) (different tab) (p .profile .k) w (tab .log .letters) n y v here h s in
-          let r = find-record tab (suc n) (bump v y) m in
-          let same : total (prefix-at tab (r .0)) ≡ suc n = ap total (r .2) ∙ of-total-at tab (suc n) (bump v y) m .2 in
-          let within = between-of tab b b′ (r .0) (r .1) same in
-          omega (
-            arith,
-            smallest-le (taken-letter (automaton (p .profile) .step) t (packed layout v) S) (p .profile .k) a (e - a) (r .0) (within .0) (omega (arith, within .1)),
-            taken-of (r .0) (r .1) same y h (r .2) q,
-          )
-
-      next-below : next-letter < p .profile .k
-      next-below =
-          let c = some-choice (p .may) (p .letter) (automaton (p .profile)) (lawful (p .profile)) (different tab) w (p .profile .k) (tab .log .letters) S prefix
-          (level-unmarked (p .may) (p .letter) (p .profile .k) w n v (tab .log .letters) here left) live in
-          omega (arith, next-least (c .0) (c .1) (c .2) (subst T (sym (leads-more (c .0) (c .1))) (c .3)), c .1)
-
-      -- the letter is below k, v with one more of it is a prefix of the next total, it leads on, and an event of it is the choice
-      pub next-chosen : (next-letter < p .profile .k) × Mem (bump v next-letter) (of-total p w (suc n)) × T (leads-on p w v S next-letter)
-          × ((a : ℕ) × (p .letter a ≡ next-letter)
-          × ChosenFrom p S (left-of p w (at v)) (a ∷ []) (automaton (p .profile) .step S next-letter) (left-of p w (at (bump v next-letter))))
-      next-chosen =
-          let x = next-letter in
-          let q = smallest-at (taken-letter (automaton (p .profile) .step) t (packed layout v) S) (p .profile .k) a (e - a) next-below in
-          let j = q .0 in
-          let within = between-at tab b b′ j (q .1) (omega (arith, q .2, b′ .inside)) in
-          let found = taken-at j (within .0) (within .1) x next-below (q .3) in
-          let there = subst (λ c. Mem c (of-total p w (suc n))) (found .0) (next-prefix j (within .0) (within .1)) in
-          (next-below, there, found .1, chosen x next-below there (found .1) (λ y lt s l. omega (arith, next-least y (omega (arith, next-below)) s l)))
-        where
-          chosen : (x : ℕ) → x < p .profile .k → Mem (bump v x) (of-total p w (suc n)) → T (leads-on p w v S x)
-              → ((y : ℕ) → y < x → T (addable? (p .may) (p .letter) w (at v) y) → T (leads-on p w v S y) → ⊥)
-              → (a : ℕ) × (p .letter a ≡ x) × ChosenFrom p S (left-of p w (at v)) (a ∷ []) (automaton (p .profile) .step S x) (left-of p w (at (bump v x)))
-          chosen x h m l least =
-              let same = at-bump v x (omega (arith, of-total-at tab n v here .0)) in
-              let c = choice (p .may) (p .letter) (automaton (p .profile)) (lawful (p .profile)) (different tab) w S x prefix
-              (addable-of (p .may) (p .letter) (different tab) (at v) x (subst (IsPrefix (p .may) (p .letter) w) same (of-total-at tab (suc n) (bump v x) m .1)))
-              (subst T (leads-more x h) l)
-              (λ y lt s r. least y lt s (subst T (sym (leads-more y (omega arith))) r)) in
-              (c .0, c .1, subst (λ f. ChosenFrom p S (left-of p w (at v)) (c .0 ∷ []) (automaton (p .profile) .step S x) (left-of p w f)) (sym same) (c .2))
+  -- the smallest is that of the choice, and leads on
+  pub smallest-chosen : {x r R : ℕ} → Smallest (automaton (p .profile) .step) (used tab) j S (p .profile .k) x r R
+      → T (addable? (p .may) (p .letter) w (at (prefix-at tab j)) x) × (r < length (in-order p w)) × (prefix-at tab r ≡ bump (prefix-at tab j) x)
+      × T (meets R (backward-of p w (at (prefix-at tab r))))
+      × ((a : ℕ) × (p .letter a ≡ x) × ChosenFrom p S (left-of p w (at (prefix-at tab j))) (a ∷ []) R (left-of p w (at (prefix-at tab r))))
+  smallest-chosen {x} {r} {R} s =
+      let k = takes-at x r (s .below) (s .takes) in
+      let same : at (prefix-at tab r) ≡ more (at (prefix-at tab j)) x =
+      ap at (k .2) ∙ at-bump (prefix-at tab j) x (omega (arith, s .below, prefix-of (recorded tab) (prefix-at tab j) here .0)) in
+      let c = choice (p .may) (p .letter) (automaton (p .profile)) (lawful (p .profile)) (different tab) w S x (prefix-of (recorded tab) (prefix-at tab j) here .1) (k .0) (k .3)
+      (λ y lt a l. let q = takes-of y (omega (arith, lt, s .below)) a l in s .first y (q .0) lt (q .1)) in (
+        k .0,
+        k .1,
+        k .2,
+        subst₂ (λ n f. T (meets n (backward-of p w f))) (sym (s .states)) (sym same) (k .3),
+        (c .0, c .1, subst₂ (λ n f. ChosenFrom p S (left-of p w (at (prefix-at tab j))) (c .0 ∷ []) n (left-of p w f)) (sym (s .states)) (sym same) (c .2)),
+      )

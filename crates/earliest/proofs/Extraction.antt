@@ -4,7 +4,7 @@ use mathlib.Core.Bool.{true}
 use mathlib.Core.Logic.{⊎-elim}
 use mathlib.Core.List.{List, [], _∷_, _++_, map, append-assoc, map-append}
 use mathlib.Core.Option.{Option, none, some}
-use Prim.Native.Nat.{ℕ, suc, _+_, _-_, _*_, _%_, _^_, _≤_, _<_}
+use Prim.Native.Nat.{ℕ, suc, _*_, _%_, _^_, _≤_, _<_}
 use native.Mathlib.Omega.{arith}
 use native.Mathlib.Nat.{one-mul}
 use lib.Dec.{T, T-not}
@@ -14,24 +14,20 @@ use lib.Seq.{drop-cons, set-at}
 use Rattle.profile.specs.Rules.{Rules, order-by}
 use Rattle.profile.specs.Lists.{Mem, below}
 use Rattle.profile.specs.Automata.{Automaton, automaton, meets}
-use Rattle.profile.specs.Prefixes.{at}
-use Rattle.profile.specs.Tables.{layout, packed}
+use Rattle.profile.specs.Prefixes.{addable?, at}
 use Rattle.theory.proofs.Automata.{prefix-none, unmarked-none, verdict-at}
 use Rattle.theory.proofs.Earliest.{end, greedy-append}
 use Rattle.theory.proofs.Judgement.{accepted-order-none, accepted-order-not, accepted-order-some, live, live-start}
-use Rattle.theory.proofs.Levels.{bump}
+use Rattle.theory.proofs.Levels.{bump, level-next}
 use Rattle.profile.proofs.Lists.{test}
-use Rattle.theory.proofs.Merge.{at-prefix, level-left}
-use Rattle.theory.proofs.Packing.{packed-zero}
+use Rattle.theory.proofs.Merge.{at-prefix, level-left, level-unmarked}
 use Rattle.theory.proofs.Profiles.{lawful}
 use Rattle.profile.proofs.Sets.{T-eq}
-use Rattle.counts.specs.Counts.{add-count}
+use Rattle.records.specs.Drafts.{in-order, of-total}
 use Rattle.records.specs.Records.{last-at}
-use Rattle.earliest.specs.Earliest.{Table, found?, record-count, smallest, taken-letter, total-end, with-order}
-use Rattle.earliest.proofs.Records.{ChosenFrom, backward-of, different, first-record, left-of, only-empty, record-backward}
-use Rattle.earliest.proofs.Totals.{Begins, begins-first, begins-next}
-use Rattle.earliest.proofs.Choices.{add-letter, leads-on, next-chosen}
-use Rattle.records.specs.Drafts.{of-total}
+use Rattle.earliest.specs.Earliest.{Smallest, Some, Table, found?, with-order}
+use Rattle.earliest.proofs.Records.{ChosenFrom, as-many, backward-of, different, first-record, left-of, only-empty, prefix-at, record-backward, used}
+use Rattle.earliest.proofs.Choices.{smallest-chosen, some-taken}
 
 module _ {p : Rules} {w t : List ℕ} (tab : Table p w t) where
   -- ---- the verdict
@@ -74,92 +70,80 @@ module _ {p : Rules} {w t : List ℕ} (tab : Table p w t) where
 
   -- ---- the order
 
-  -- the letters of n events are written to the front of the buffer `before`, which is `now`: the events are chosen from w, S is the set of states they lead to, c the numbers
-  -- of their counts, S meets the backward set of these, and the records of the next total begin at record a
-  pub record Written (before : List ℕ) (n : ℕ) (now : List ℕ) (S : ℕ) (c : List ℕ) (a : ℕ) : Type 0 where
+  -- the letters of n events are written to the front of the buffer `before`, which is `now`: the events are chosen from w, S is the set of states they lead to, record j that of
+  -- their counts, and S meets its backward set
+  pub record Written (before : List ℕ) (n : ℕ) (now : List ℕ) (S j : ℕ) : Type 0 where
     pub events : List ℕ
-    pub counts : List ℕ
-    pub of-n : Mem counts (of-total p w n)
-    pub numbers : c ≡ packed layout counts
-    pub chosen : ChosenFrom p (automaton (p .profile) .start) w events S (left-of p w (at counts))
-    pub leads : T (meets S (backward-of p w (at counts)))
-    pub begins : Begins tab (suc n) a
+    pub inside : j < length (in-order p w)
+    pub of-n : Mem (prefix-at tab j) (of-total p w n)
+    pub chosen : ChosenFrom p (automaton (p .profile) .start) w events S (left-of p w (at (prefix-at tab j)))
+    pub leads : T (meets S (backward-of p w (at (prefix-at tab j))))
     pub long : length events ≡ n
     pub there : now ≡ map (p .letter) events ++ drop n before
 
-  pub written-none : (before c : List ℕ) → found? (order-by p w) ≡ true → c ≡ packed layout [] → Written before 0 before (automaton (p .profile) .start) c 1
-  written-none before c f e =
-      let f₀ = first-record tab in
-      let zeros : List ℕ = map (λ x. 0) (below (p .profile .k)) in
-      let M = automaton (p .profile) in record {
+  pub written-none : (before : List ℕ) → found? (order-by p w) ≡ true → Written before 0 before (automaton (p .profile) .start) 0
+  written-none before f =
+      let z = first-record tab in
+      let M = automaton (p .profile) in
+      let none : at (prefix-at tab 0) ≡ (λ x. 0) = ap at (only-empty tab (prefix-at tab 0) (z .1)) ∙ no-counts in record {
         events = [];
-        counts = zeros;
-        of-n = subst (λ v. Mem v (of-total p w 0)) (only-empty tab _ (f₀ .1)) (f₀ .1);
-        numbers = e ∙ sym (packed-zero layout (p .profile .k));
+        inside = omega (arith, z .0, as-many tab);
+        of-n = z .1;
         chosen = subst (ChosenFrom p (M .start) w [] (M .start))
-            (sym (ap (left-of p w) no-counts ∙ unmarked-none (p .may) (p .letter) M (lawful (p .profile)) w (different tab))) end;
-        leads = subst (λ g. T (meets (M .start) (backward-of p w g))) (sym no-counts) (found-live (subst T (sym f) tt));
-        begins = begins-first tab;
+            (sym (ap (left-of p w) none ∙ unmarked-none (p .may) (p .letter) M (lawful (p .profile)) w (different tab))) end;
+        leads = subst (λ g. T (meets (M .start) (backward-of p w g))) (sym none) (found-live (subst T (sym f) tt));
         long = refl;
         there = refl;
       }
 
-  -- the buffer keeps its length
-  pub written-length : {before now c : List ℕ} {n S a : ℕ} → Written before n now S c a → n ≤ length before → length now ≡ length before
-  written-length {before} {n = n} r h = ap length (r .there) ∙ omega (arith, length-append (map (p .letter) (r .events)) (drop n before), length-map (r .events) (p .letter), length-drop n before, r .long)
+  module _ {before now : List ℕ} {n S j : ℕ} (r : Written before n now S j) where
+    -- the buffer keeps its length
+    pub written-length : n ≤ length before → length now ≡ length before
+    written-length h = ap length (r .there) ∙ omega (arith, length-append (map (p .letter) (r .events)) (drop n before), length-map (r .events) (p .letter), length-drop n before, r .long)
 
-  -- one letter more
-  pub written-next : {before now c : List ℕ} {n S a : ℕ} → Written before n now S c a → n < length w → length w ≤ length before
-      → (x e : ℕ) → x ≡ smallest (taken-letter (automaton (p .profile) .step) t c S) (p .profile .k) a (e - a) → e ≡ total-end t (record-count p w) (suc n) a
-      → (x < p .profile .k) × Written before (suc n) (set now n x) (automaton (p .profile) .step S x) (add-count layout c x) e
-  written-next {before} {now} {c} {n} {S} {a} r h room x e ex ee =
-      let q = next-chosen tab h (r .counts) (r .of-n) S (r .leads) (r .begins) b in
-      subst (λ y. (y < p .profile .k) × Written before (suc n) (set now n y) (automaton (p .profile) .step S y) (add-count layout c y) e) (sym first) (go _ (q .0) (q .1) (q .2) (q .3))
-    where
-      M : Automaton
-      M = automaton (p .profile)
+    -- what the next letter asks for
+    pub written-some : n < length w → Some (automaton (p .profile) .step) (used tab) j S (p .profile .k)
+    written-some h = some-taken tab j (r .inside) S (r .leads) (level-unmarked (p .may) (p .letter) (p .profile .k) w n (prefix-at tab j) (tab .log .letters) (r .of-n) h)
 
-      b : Begins tab (suc (suc n)) e
-      b = subst (Begins tab (suc (suc n))) (sym ee) (begins-next tab (r .begins))
-
-      first : x ≡ smallest (taken-letter (M .step) t (packed layout (r .counts)) S) (p .profile .k) a (e - a)
-      first = ex ∙ ap (λ d. smallest (taken-letter (M .step) t d S) (p .profile .k) a (e - a)) (r .numbers)
-
-      letters : List ℕ
-      letters = map (p .letter) (r .events)
-
-      put : (x a : ℕ) → p .letter a ≡ x → set now n x ≡ map (p .letter) (r .events ++ (a ∷ [])) ++ drop (suc n) before
-      put x a i =
+    -- one letter more
+    pub written-next : n < length w → length w ≤ length before → {x i R : ℕ} → Smallest (automaton (p .profile) .step) (used tab) j S (p .profile .k) x i R
+        → Written before (suc n) (set now n x) R i
+    written-next h room {x} {i} {R} s = record {
+      events = r .events ++ (a ∷ []);
+      inside = q .1;
+      of-n = subst (λ c. Mem c (of-total p w (suc n))) (sym (q .2))
+          (level-next (p .may) (p .letter) (different tab) (p .profile .k) w (tab .log .letters) n x (prefix-at tab j) (r .of-n) (s .below) (q .0));
+      chosen = greedy-append (p .may) (p .letter) (M .step) (λ S. meets S (M .final)) (live (p .may) (p .letter) M (lawful (p .profile))) (r .chosen) (q .4 .2);
+      leads = q .3;
+      long = omega (arith, length-append (r .events) (a ∷ []), r .long);
+      there =
           ap (λ l. set l n x) (r .there ∙ ap (_++_ letters) (drop-cons before n 0 (omega arith)))
           ∙ set-at letters (getD before n 0) (drop (suc n) before) x n (length-map (r .events) (p .letter) ∙ r .long) ∙ sym (append-assoc letters (x ∷ []) (drop (suc n) before))
-          ∙ ap (λ l. l ++ drop (suc n) before) (ap (λ y. letters ++ (y ∷ [])) (sym i) ∙ sym (map-append (p .letter) (r .events) (a ∷ [])))
+          ∙ ap (λ l. l ++ drop (suc n) before) (ap (λ y. letters ++ (y ∷ [])) (sym (q .4 .1)) ∙ sym (map-append (p .letter) (r .events) (a ∷ [])));
+    }
+      where
+        M : Automaton
+        M = automaton (p .profile)
 
-      go : (x : ℕ) → x < p .profile .k → Mem (bump (r .counts) x) (of-total p w (suc n)) → T (leads-on p w (r .counts) S x)
-          → (a : ℕ) × (p .letter a ≡ x) × ChosenFrom p S (left-of p w (at (r .counts))) (a ∷ []) (M .step S x) (left-of p w (at (bump (r .counts) x)))
-          → (x < p .profile .k) × Written before (suc n) (set now n x) (M .step S x) (add-count layout c x) e
-      go x lt m l g = (
-        lt,
-        record {
-          events = r .events ++ (g .0 ∷ []);
-          counts = bump (r .counts) x;
-          of-n = m;
-          numbers = ap (λ d. add-count layout d x) (r .numbers) ∙ add-letter tab h (r .counts) (r .of-n) x lt;
-          chosen = greedy-append (p .may) (p .letter) (M .step) (λ S. meets S (M .final)) (live (p .may) (p .letter) M (lawful (p .profile))) (r .chosen) (g .2);
-          leads = l;
-          begins = b;
-          long = omega (arith, length-append (r .events) (g .0 ∷ []), r .long);
-          there = put x (g .0) (g .1);
-        },
-      )
+        q : T (addable? (p .may) (p .letter) w (at (prefix-at tab j)) x) × (i < length (in-order p w)) × (prefix-at tab i ≡ bump (prefix-at tab j) x)
+            × T (meets R (backward-of p w (at (prefix-at tab i))))
+            × ((a : ℕ) × (p .letter a ≡ x) × ChosenFrom p S (left-of p w (at (prefix-at tab j))) (a ∷ []) R (left-of p w (at (prefix-at tab i))))
+        q = smallest-chosen tab j (r .inside) S s
+
+        a : ℕ
+        a = q .4 .0
+
+        letters : List ℕ
+        letters = map (p .letter) (r .events)
 
   -- all of it
-  pub written-all : {before now c : List ℕ} {S a : ℕ} → found? (order-by p w) ≡ true → Written before (length w) now S c a → now ≡ with-order (order-by p w) before
-  written-all {before} {now} {c} {S} {a} f r =
+  pub written-all : {before now : List ℕ} {S j : ℕ} → found? (order-by p w) ≡ true → Written before (length w) now S j → now ≡ with-order (order-by p w) before
+  written-all {before} {now} {S} {j} f r =
       let M = automaton (p .profile) in
       let may = p .may in
       let start = subst T (sym (live-start may (p .letter) M (lawful (p .profile)) (different tab) w)) (found-live (subst T (sym f) tt)) in
-      let rest = left-of p w (at (r .counts)) in
-      let whole : rest ≡ [] = drop-of-length-le rest {i = 0} (omega (arith, level-left may (p .letter) (p .profile .k) w (length w) (r .counts) (tab .log .letters) (r .of-n))) in
+      let rest = left-of p w (at (prefix-at tab j)) in
+      let whole : rest ≡ [] = drop-of-length-le rest {i = 0} (omega (arith, level-left may (p .letter) (p .profile .k) w (length w) (prefix-at tab j) (tab .log .letters) (r .of-n))) in
       let all = accepted-order-some may (p .letter) M (lawful (p .profile)) (different tab) start (subst (ChosenFrom p (M .start) w (r .events) S) whole (r .chosen)) in
       let letters = map (p .letter) (r .events) in
       let long : length w ≡ length letters = sym (length-map (r .events) (p .letter) ∙ r .long) in

@@ -1,26 +1,32 @@
 -- The records of a table that holds the prefixes of a log: the prefix of each, and its numbers.
-use mathlib.Core.Path.{_≡_, refl, sym, _∙_, ap, ap₂, subst}
-use mathlib.Core.List.{List, [], _∷_, map, List·Memᴰ·head, List·Memᴰ·cases-cons, List·Memᴰ·not-nil}
+use mathlib.Core.Path.{_≡_, refl, sym, _∙_, ap, subst}
+use mathlib.Core.List.{List, [], map, append-nil, List·Memᴰ·head, List·Memᴰ·cases-cons, List·Memᴰ·not-nil}
 use mathlib.Core.Logic.{⊎-elim, _≢_}
-use Prim.Native.Nat.{ℕ, zero, suc, _+_, _*_, _^_, _≤_, _<_}
+use Prim.Native.Nat.{ℕ, _*_, _^_, _≤_, _<_}
 use native.Mathlib.Omega.{arith}
 use lib.Dec.{T, eqb, eqb-refl, lt→ltb, ltb}
-use lib.ListN.{length, getD}
+use lib.ListN.{length, getD, take}
 use Rattle.profile.specs.Rules.{Rules}
 use Rattle.profile.specs.Lists.{Mem, below}
 use Rattle.profile.specs.Automata.{automaton}
 use Rattle.profile.specs.Prefixes.{IsPrefix, at, backward, prefixes, total, unmarked}
-use Rattle.profile.specs.Tables.{layout, packed, record-length}
+use Rattle.profile.specs.Tables.{layout, record-length}
 use Rattle.profile.proofs.Lists.{all-of, filter-at, filter-of, mem-place}
+use Rattle.theory.proofs.Counting.{prefixes-at}
+use Rattle.theory.proofs.Levels.{by-total-length}
 use Rattle.theory.proofs.Merge.{level-at, level-first, level-left}
+use Rattle.theory.proofs.Prefixes.{count-le}
 use Rattle.theory.proofs.Profiles.{lawful}
+use Rattle.theory.proofs.Refusals.{GoodEvents, GoodProfile}
 use Rattle.theory.proofs.Judgement.{Chosen}
-use Rattle.theory.proofs.Tables.{Holds, holds-backward, holds-counts, holds-find, holds-prefix, holds-rises}
-use Rattle.counts.specs.Counts.{counts-in}
-use Rattle.counts.proofs.Packed.{Small, total-packed}
-use Rattle.records.specs.Records.{counts-at, last-at}
-use Rattle.earliest.specs.Earliest.{Table, record-count, total-at}
-use Rattle.records.specs.Drafts.{in-order, of-total}
+use Rattle.theory.proofs.Tables.{Holds, holds-backward, holds-find, holds-prefix, holds-rises}
+use Rattle.records.specs.Drafts.{backward-set, filled, forward-set, in-order, of-total}
+use Rattle.records.specs.Records.{last-at}
+use Rattle.records.proofs.Drafts.{last-of-draft}
+use Rattle.search.proofs.Prefixes.{counts-are, records-many, records-ordered, whole-inside, whole-part, whole-sorted}
+use Rattle.costcursors.specs.Cursors.{Lists}
+use Rattle.successors.specs.Successors.{Recorded}
+use Rattle.earliest.specs.Earliest.{Table, record-count}
 
 -- ---- of a profile and a log
 
@@ -43,15 +49,25 @@ different tab = tab .log .apart
 pub held : {p : Rules} {w t : List ℕ} (tab : Table p w t) → Holds layout (p .may) (p .letter) (automaton (p .profile)) (p .profile .k) w (tab .before) t
 held tab = record { letters = tab .log .letters; written = tab .holds }
 
--- ---- small counts
+-- ---- all records
 
-pub at-total : (v : List ℕ) (x : ℕ) → at v x ≤ total v
-at-total [] x = omega arith
-at-total (n ∷ v) zero = omega arith
-at-total (n ∷ v) (suc x) = omega (arith, at-total v x)
-
-pub small-of : (v : List ℕ) → ((x : ℕ) → at v x < 2 ^ layout .width) → Small layout v
-small-of v h = all-of (λ n. ltb n (2 ^ layout .width)) v (λ n m. let q = mem-place 0 m in lt→ltb n (2 ^ layout .width) (omega (arith, h (q .0), q .2)))
+-- the records of all prefixes, as the laws of their search ask
+pub listed : (p : Rules) (w : List ℕ) → GoodProfile (p .profile) → GoodEvents p w → Lists (filled p w (in-order p w)) (p .profile .k) (in-order p w)
+listed p w good log =
+    let sorted = whole-sorted p w log in
+    let inside = whole-inside p w log in
+    let prefix : (c : List ℕ) → Mem c (in-order p w) → (length c ≡ p .profile .k) × IsPrefix (p .may) (p .letter) w (at c) =
+    λ c m. prefixes-at (p .may) (p .letter) (p .profile .k) w c (log .letters) (inside c m) in
+    record {
+      letters = good .relation .most;
+      many = records-many p w good log (in-order p w) sorted inside;
+      counts = counts-are p w good log (in-order p w) sorted inside;
+      long = λ c m. prefix c m .0;
+      small = λ c m. all-of (λ n. ltb n (2 ^ layout .width)) c (λ n i.
+          let q = mem-place 0 i in
+          lt→ltb n (2 ^ layout .width) (omega (arith, q .2, prefix c m .1 .fits (q .0), count-le (p .may) (p .letter) w (q .0), log .short)));
+      ordered = records-ordered p w good log (in-order p w) sorted inside;
+    }
 
 -- ---- the prefixes of one total
 
@@ -63,9 +79,6 @@ module _ {p : Rules} {w t : List ℕ} (tab : Table p w t) where
       let may = p .may in
       let l = level-at may (p .letter) (p .profile .k) w n v (tab .log .letters) m in
       (l .0, l .1, l .2, omega (arith, level-left may (p .letter) (p .profile .k) w n v (tab .log .letters) m))
-
-  pub of-total-small : (n : ℕ) (v : List ℕ) → Mem v (of-total p w n) → Small layout v
-  of-total-small n v m = small-of v (λ x. let l = of-total-at n v m in omega (arith, at-total v x, l .2, l .3, tab .log .short))
 
   -- ---- the records
 
@@ -79,24 +92,32 @@ module _ {p : Rules} {w t : List ℕ} (tab : Table p w t) where
   pub find-record : (n : ℕ) (v : List ℕ) → Mem v (of-total p w n) → (j : ℕ) × (j < record-count p w) × (prefix-at j ≡ v)
   find-record n v m = holds-find (held tab) v (filter-at (λ c. eqb (total c) n) (prefixes (p .may) (p .letter) (p .profile .k) w) m .0)
 
-  module _ (j : ℕ) (h : j < record-count p w) where
-    pub record-counts : counts-at t j ≡ packed layout (prefix-at j)
-    record-counts =
-        ap₂ _∷_ (number 0 (omega arith)) (ap₂ _∷_ (number 1 (omega arith)) (ap₂ _∷_ (number 2 (omega arith)) (ap₂ _∷_ (number 3 (omega arith)) (ap₂ _∷_ (number 4 (omega arith)) (ap₂ _∷_ (number 5 (omega arith)) (ap₂ _∷_ (number 6 (omega arith)) (ap (λ n. n ∷ []) (number 7 (omega arith)))))))))
-      where
-        number : (i : ℕ) → i < layout .numbers → getD t (record-length layout * j + i) 0 ≡ getD (packed layout (prefix-at j)) i 0
-        number i l = holds-counts (held tab) j i h l
+  -- ---- the part of the table that has the records
 
-    pub record-backward : last-at t j ≡ backward-of p w (at (prefix-at j))
-    record-backward = holds-backward (held tab) j h
+  abbrev pub used : List ℕ
+  used = take (record-length layout * record-count p w) t
 
-    pub record-total : total-at t j ≡ total (prefix-at j)
-    record-total =
-        let m = record-of-total j h in
-        ap (λ c. total (counts-in layout c)) record-counts
-        ∙ total-packed layout (prefix-at j) (omega (arith, of-total-at (total (prefix-at j)) (prefix-at j) m .0, tab .profile .relation .most)) (of-total-small (total (prefix-at j)) (prefix-at j) m)
+  used-is : used ≡ filled p w (in-order p w)
+  used-is = ap (take (record-length layout * record-count p w)) (tab .holds) ∙ whole-part p w (tab .log) (tab .before)
+
+  pub as-many : length (in-order p w) ≡ record-count p w
+  as-many = by-total-length (p .may) (p .letter) (p .profile .k) w (tab .log .letters)
+
+  pub used-backward : (j : ℕ) → j < length (in-order p w) → last-at used j ≡ backward-of p w (at (prefix-at j))
+  used-backward j h = ap (λ l. last-at l j) used-is ∙ last-of-draft (forward-set p w) (backward-set p w) (in-order p w) (filled p w (in-order p w)) [] (sym (append-nil (filled p w (in-order p w)))) j h
+
+  pub recorded : Recorded (p .may) (p .letter) (p .profile .k) w used
+  recorded = record {
+    below-k = tab .log .letters;
+    short = tab .log .short;
+    apart = tab .log .apart;
+    records = subst (λ l. Lists l (p .profile .k) (in-order p w)) (sym used-is) (listed p w (tab .profile) (tab .log));
+  }
 
   -- ---- the first record
+
+  pub record-backward : (j : ℕ) → j < record-count p w → last-at t j ≡ backward-of p w (at (prefix-at j))
+  record-backward j h = holds-backward (held tab) j h
 
   -- the empty prefix is the only one of total 0
   pub only-empty : (v : List ℕ) → Mem v (of-total p w 0) → v ≡ map (λ x. 0) (below (p .profile .k))

@@ -1,19 +1,19 @@
 -- Document 01, "The judge": the verdict and the order, as they are read from a table that holds the prefixes of the log.
 use mathlib.Core.Path.{_≡_}
-use mathlib.Core.Bool.{Bool, true, false, _&&_, cond}
+use mathlib.Core.Bool.{Bool, true, false, not, _&&_, cond}
 use mathlib.Core.List.{List, _++_}
 use mathlib.Core.Option.{Option, none, some}
-use Prim.Native.Nat.{ℕ, zero, suc, _+_, _*_, _-_, _%_, _^_, _≤_, min}
-use lib.Dec.{eqb, ltb}
+use Prim.Native.Nat.{ℕ, suc, _*_, _≤_, _<_}
+use lib.Dec.{T, ltb}
 use lib.ListN.{length, drop}
 use Rattle.profile.specs.Rules.{Rules, prefixes-by, table-by}
-use Rattle.profile.specs.Lists.{below, equal?, first-place}
 use Rattle.profile.specs.Automata.{meets}
-use Rattle.profile.specs.Prefixes.{total}
 use Rattle.profile.specs.Tables.{layout, record-length}
 use Rattle.theory.proofs.Refusals.{GoodEvents, GoodProfile}
-use Rattle.counts.specs.Counts.{add-count, counts-in}
-use Rattle.records.specs.Records.{counts-at, last-at}
+use Rattle.counts.specs.Counts.{add-count}
+use Rattle.records.specs.Records.{counts-at, last-at, records-in}
+use Rattle.search.specs.Search.{has?}
+use Rattle.search.proofs.Halves.{Between}
 
 -- the number of prefixes of the log w
 abbrev pub record-count : Rules → List ℕ → ℕ
@@ -37,45 +37,34 @@ abbrev pub with-order : Option (List ℕ) → List ℕ → List ℕ
 with-order none b = b
 with-order (some v) b = v ++ drop (length v) b
 
--- ---- one letter of the order
+-- ---- one letter of the order, behind record j of the table t; S are the states that the letters so far lead to
 
--- the number of counts v with one more at place x is w; the place whose count is one more in w than in v, and 2 where there is none
-abbrev pub grows? : ℕ → ℕ → ℕ → Bool
-grows? v w x = eqb ((v + 2 ^ (layout .width * x)) % 2 ^ 32) w
+module _ (step : ℕ → ℕ → ℕ) (t : List ℕ) (j S : ℕ) where
+  -- record r has the counts with one x more, and x leads from states of S into its backward set
+  pub record Takes (x r : ℕ) : Type 0 where
+    pub inside : r < records-in t
+    pub has : T (has? t (add-count layout (counts-at t j) x) r)
+    pub leads : T (meets (step S x) (last-at t r))
 
-abbrev pub grown-place : ℕ → ℕ → ℕ
-grown-place v w = first-place (grows? v w) (below (layout .per))
+  -- some letter below k is such
+  abbrev pub Some : ℕ → Type 0
+  Some k = (x r : ℕ) × (x < k) × Takes x r
 
--- the letter at that place of number i, where there is one and the other numbers are the same; else 16
-abbrev pub letter-in : ℕ → ℕ → ℕ → Bool → ℕ
-letter-in i v w same = cond (same && ltb (grown-place v w) (layout .per)) (layout .per * i + grown-place v w) (layout .per * layout .numbers)
+  -- x is the smallest such letter, with the states R that it leads to
+  pub record Smallest (k x r R : ℕ) : Type 0 where
+    pub below : x < k
+    pub takes : Takes x r
+    pub behind : j < r
+    pub states : R ≡ step S x
+    pub first : (y i : ℕ) → y < x → Takes y i → ⊥
 
--- the counts c with one more of letter x are e; the letter with which c becomes e, and 16 where there is none
-abbrev pub added? : List ℕ → List ℕ → ℕ → Bool
-added? c e x = equal? (add-count layout c x) e
+-- the states R where record r has the counts c and R meets its backward set; else none
+abbrev pub led : List ℕ → List ℕ → ℕ → ℕ → ℕ
+led t c R r = cond ((ltb r (records-in t) && has? t c r) && meets R (last-at t r)) R 0
 
-abbrev pub added-letter : List ℕ → List ℕ → ℕ
-added-letter c e = first-place (added? c e) (below (layout .per * layout .numbers))
-
--- the letter with which c becomes the counts of record j, if it leads from states of S into the record's backward set; else 16
-abbrev pub taken-letter : (ℕ → ℕ → ℕ) → List ℕ → List ℕ → ℕ → ℕ → ℕ
-taken-letter step t c S j =
-    cond (meets (step S (added-letter c (counts-at t j))) (last-at t j)) (added-letter c (counts-at t j)) (layout .per * layout .numbers)
-
--- the smallest of k and the numbers f j, for the n places j from a on
-abbrev pub smallest : (ℕ → ℕ) → ℕ → ℕ → ℕ → ℕ
-smallest f k a zero = k
-smallest f k a (suc n) = min (smallest f k a n) (f (a + n))
-
--- the total count of record j
-abbrev pub total-at : List ℕ → ℕ → ℕ
-total-at t j = total (counts-in layout (counts-at t j))
-
--- the first of the m places from a on that does not pass the test; the place behind them where all pass
-abbrev pub end-of : (ℕ → Bool) → ℕ → ℕ → ℕ
-end-of f a zero = a
-end-of f a (suc m) = elim (f a) [ true ↦ end-of f (suc a) m | false ↦ a ]
-
--- where the records of total n end that begin at record a; the table has P records
-abbrev pub total-end : List ℕ → ℕ → ℕ → ℕ → ℕ
-total-end t P n a = end-of (λ j. eqb (total-at t j) n) a (P - a)
+-- the counts c belong behind record j and before record e: no record from e on has them
+pub record Enclosed (t c : List ℕ) (j e : ℕ) : Type 0 where
+  pub behind : j < e
+  pub inside : e ≤ records-in t
+  pub between : Between t c (suc j) e
+  pub barred : (i : ℕ) → e ≤ i → i < records-in t → T (not (has? t c i))

@@ -5,6 +5,8 @@ pub mod Drafts
 pub mod Totals
 -- the step from one total to the next
 pub mod Steps
+-- the letters that can be added to what it gives
+pub mod Handed
 -- that step in the table
 pub mod Puts
 -- one total, and all of them

@@ -4,14 +4,14 @@ use mathlib.Core.Bool.{Bool}
 use mathlib.Core.Logic.{⊎-elim}
 use mathlib.Core.List.{List, [], _∷_, Memᴰ·append-right}
 use mathlib.Core.Option.{none, some, Option·none-ne-some, Option·some-injective}
-use Prim.Native.Nat.{ℕ, suc, _≤_, _<_}
+use Prim.Native.Nat.{ℕ, suc, _^_, _≤_, _<_}
 use native.Mathlib.Omega.{arith}
 use lib.ListN.{length, getD, take, drop, drop-of-length-le, take-append-drop}
 use lib.Seq.{drop-cons, split-at}
 use Rattle.profile.specs.Rules.{Rules}
-use Rattle.profile.specs.Automata.{automaton}
-use Rattle.profile.specs.Lists.{Mem}
-use Rattle.profile.specs.Prefixes.{addable?, at}
+use Rattle.profile.specs.Automata.{automaton, union}
+use Rattle.profile.specs.Lists.{Mem, below, filter}
+use Rattle.profile.specs.Prefixes.{at}
 use Rattle.profile.specs.Tables.{layout, packed}
 use Rattle.profile.specs.Traces.{bit}
 use Rattle.theory.proofs.Levels.{bump}
@@ -27,6 +27,7 @@ use Rattle.merge.proofs.Levels.{level-least, level-least-none, level-letters, l
 use Rattle.forward.specs.Forward.{Ready}
 use Rattle.forward.specs.Merging.{Placed}
 use Rattle.forward.proofs.Totals.{apart, counted}
+use Rattle.records.proofs.Halves.{bit-lower}
 use Rattle.records.specs.Drafts.{drafted, forward-set, letters-set, of-total}
 
 module _ {p : Rules} {w : List ℕ} {m room : ℕ} {starts places turns : List ℕ} {termed : Bool} (r : Ready p w m room starts places turns termed) (n : ℕ) (t : List ℕ)
@@ -45,7 +46,7 @@ module _ {p : Rules} {w : List ℕ} {m room : ℕ} {starts places turns : List �
 
   -- the last number of a record says which letters can be added
   bits : (c : List ℕ) (x : ℕ) → Mem c C → x < p .profile .k → bit (letters-set p w c) x ≡ add x c
-  bits c x i lt = passing-bit (addable? (p .may) (p .letter) w (at c)) (p .profile .k) x lt
+  bits c x i lt = bit-lower p w c (r .profile .relation .most) x lt
 
   sizes : (c : List ℕ) → Mem c C → length c ≡ p .profile .k
   sizes c i = counted r n c i .0
@@ -69,7 +70,7 @@ module _ {p : Rules} {w : List ℕ} {m room : ℕ} {starts places turns : List �
       in-next : Mem e E
       in-next = mem-getD E j [] lt
 
-      cursor-at : (x : ℕ) → x < p .profile .k → Cursor C add x (e ∷ drop (suc j) E) (at cursors x)
+      pub cursor-at : (x : ℕ) → x < p .profile .k → Cursor C add x (e ∷ drop (suc j) E) (at cursors x)
       cursor-at x h = subst (λ R. Cursor C add x R (at cursors x)) (drop-cons E j [] lt) (placed x h)
 
       -- the least counts that the cursors give
@@ -81,13 +82,15 @@ module _ {p : Rules} {w : List ℕ} {m room : ℕ} {starts places turns : List �
           (λ x h. least-of-all grown (take j E) e (drop (suc j) E) (split-at E j [] lt) x (at cursors x) (cursor-at x h)) (hit .0) (hit .1) (hit .2)
 
       -- the letters whose cursors give them
-      next-letters : (x : ℕ) → x < p .profile .k → bit (givers t (p .profile .k) cursors) x ≡ hits C x e (at cursors x)
-      next-letters x h =
+      pub next-givers : givers t (p .profile .k) cursors ≡ union (λ x. 2 ^ x) (filter (λ x. hits C x e (at cursors x)) (below (p .profile .k)))
+      next-givers =
           let hit = some-hits grown (take j E) e (drop (suc j) E) (split-at E j [] lt) (at cursors) cursor-at in
-          ap (λ S. bit S x) (level-letters (forward-set p w) (letters-set p w) C t written (p .profile .k) (r .profile .relation .most) sizes cursors stands e
+          level-letters (forward-set p w) (letters-set p w) C t written (p .profile .k) (r .profile .relation .most) sizes cursors stands e
           (counted r (suc n) e in-next .0) (counted r (suc n) e in-next .1)
-          (λ x h. least-of-all grown (take j E) e (drop (suc j) E) (split-at E j [] lt) x (at cursors x) (cursor-at x h)) (hit .0) (hit .1) (hit .2))
-          ∙ passing-bit (λ y. hits C y e (at cursors y)) (p .profile .k) x h
+          (λ x h. least-of-all grown (take j E) e (drop (suc j) E) (split-at E j [] lt) x (at cursors x) (cursor-at x h)) (hit .0) (hit .1) (hit .2)
+
+      pub next-letters : (x : ℕ) → x < p .profile .k → bit (givers t (p .profile .k) cursors) x ≡ hits C x e (at cursors x)
+      next-letters x h = ap (λ S. bit S x) next-givers ∙ passing-bit (λ y. hits C y e (at cursors y)) (p .profile .k) x h
 
       -- their forward set
       pub next-forward : united (p .profile .k) (p .profile .s) (p .profile .moves) t cursors (givers t (p .profile .k) cursors) ≡ forward-set p w e

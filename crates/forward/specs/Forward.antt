@@ -1,5 +1,5 @@
 -- Document 01, "Prefixes and their table": the forward pass, which puts the record of each prefix, one total after the other. While the table is built the
--- last number of a record is the set of the letters that can be added.
+-- last number of a record has the letters that can be added, and those of which one can be taken away.
 use mathlib.Core.Path.{_≡_}
 use mathlib.Core.Bool.{Bool}
 use mathlib.Core.List.{List, _++_}

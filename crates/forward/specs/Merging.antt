@@ -16,7 +16,7 @@ use Rattle.theory.proofs.Merge.{Cursor, extends?}
 use Rattle.counts.specs.Counts.{words}
 use Rattle.events.specs.Events.{all-keepers}
 use Rattle.cursors.specs.Cursors.{advanced}
-use Rattle.merge.specs.Merge.{givers, least-of, united}
+use Rattle.merge.specs.Merge.{givers, inherited, least-of, passing, united}
 use Rattle.rows.specs.Rows.{by-letter}
 use Rattle.forward.specs.declared.Merged.{Merged}
 use Rattle.forward.specs.declared.Merged.the-variants as merged
@@ -101,8 +101,13 @@ Steps p w room t first j before after cursors (merged.Put n) =
     × (after ≡ begun p w (totals p w (suc t) ++ take (suc j) (of-total p w (suc t))) before)
     × Placed p w t (suc j) cursors
 
--- the counts that come next by the cursors, and their forward set; their cursors move on
-abbrev pub Comes : ℕ → ℕ → List ℕ → List ℕ → List ℕ → List ℕ → Next → Type 0
-Comes k s moves t before after next.Nothing = least-of t k before ≡ none
-Comes k s moves t before after (next.At c S) =
-    (least-of t k before ≡ some (words c)) × (S ≡ united k s moves t before (givers t k before)) × (after ≡ advanced k t before (givers t k before))
+-- the counts that come next by the cursors, the letters of these, and what the records there hand on; the cursors move on
+abbrev pub Comes : ℕ → ℕ → List ℕ → List ℕ → List ℕ → List ℕ → List ℕ → Next → Type 0
+Comes k s masks moves t before after next.Nothing = least-of t k before ≡ none
+Comes k s masks moves t before after (next.At c G h) =
+    (least-of t k before ≡ some (words c))
+    × (h .forward ≡ united k s moves t before (givers t k before))
+    × (h .letters ≡ inherited k t before (givers t k before))
+    × (h .passed ≡ passing k masks (givers t k before))
+    × (after ≡ advanced k t before (givers t k before))
+    × (G ≡ givers t k before)

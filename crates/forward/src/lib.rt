@@ -17,12 +17,16 @@ ghost use Rattle.rows.specs.Rows.{by-letter};
 ghost use Rattle.forward.specs.Forward.{Forward, Ready};
 ghost use Rattle.forward.specs.Merging.{Comes, Grows, Halfway, Prepared, Standing, Steps, begun, pairs, part-behind, records-between, totals};
 use counts::Counts;
+use merge::Handed;
 use merge::Least;
 use profile::Shape;
 use profile::limits::MOST_LETTERS;
 use profile::limits::MOST_MOVES;
 use profile::limits::Place;
 use records::RECORD;
+
+// The bits of the half of a record's last number that has the letters that can be added; above it are those that lead to the record.
+const HALF: u32 = 16;
 
 // The records of all prefixes are put, with the looks; or they do not fit.
 pub enum Filled {
@@ -53,10 +57,10 @@ enum Merged {
     Put(u32),
 }
 
-// The next counts of a total and their forward set; or there are none.
+// The next counts of a total, the letters that lead to them, and what the records from which these lead hand on; or there are none.
 enum Next {
     Nothing,
-    At(Counts, u32),
+    At(Counts, u32, Handed),
 }
 
 // Puts the record of the empty prefix; the number of letters that can be added to it.
@@ -94,21 +98,22 @@ fn next_counts(
     level: &[u32],
     k: usize,
     s: usize,
+    masks: &[u16],
     moves: &[u32],
     rows: &[u32; MOST_MOVES],
     cursors: &mut [usize],
 ) -> Next
-    requires { ⌜ (k ≤ most-letters) × (s ≤ most-states) × (most-letters ≤ length (now cursors)) ⌝ }
+    requires { ⌜ (k ≤ most-letters) × (s ≤ most-states) × (most-letters ≤ length (now cursors)) × (k ≤ length (now masks)) ⌝ }
     requires { ⌜ now rows ≡ by-letter k s (now moves) ⌝ }
-    ensures { λ r. ⌜ Comes k s (now (moves .entry)) (now (level .entry)) (now (cursors .entry)) (now (cursors .exit)) r ⌝ }
+    ensures { λ r. ⌜ Comes k s (now (masks .entry)) (now (moves .entry)) (now (level .entry)) (now (cursors .entry)) (now (cursors .exit)) r ⌝ }
 {
     let least = merge::least_counts(level, k, cursors);
     match least {
         Least::Nothing => Next::Nothing,
         Least::At(c, set) => {
-            let forward = merge::unite(level, moves, rows, k, s, cursors, set);
+            let handed = merge::unite(level, moves, rows, masks, k, s, cursors, set);
             cursors::advance(level, k, cursors, set);
-            Next::At(c, forward)
+            Next::At(c, set, handed)
         }
     }
 }
@@ -148,14 +153,14 @@ fn merge_next(
     let first = part.first;
     let start = RECORD * part.from;
     let end = RECORD * first;
-    let next = next_counts(&table[start..end], k, s, moves, rows, cursors);
+    let next = next_counts(&table[start..end], k, s, masks, moves, rows, cursors);
     match next {
         Next::Nothing => Merged::Nothing,
-        Next::At(c, forward) => {
+        Next::At(c, from, handed) => {
             if first + j < room {
-                // Chosen here and in `put_first`, not in a function of its own: the compiler then puts `addable` into the loop.
-                let letters = if termed {
-                    term_letters::addable_in_terms(
+                // Chosen here and in `put_first`, not in a function of its own: the compiler then puts the tests into the loop.
+                let set = if termed {
+                    let found = term_letters::addable_in_terms(
                         c,
                         k,
                         masks,
@@ -164,12 +169,16 @@ fn merge_next(
                         starts,
                         places,
                         turns,
-                    )
+                    );
+                    found.set
                 } else {
-                    letters::addable(c, k, masks, keepers, log.len(), starts, places)
+                    // What is handed on can be added. What may pass one of the letters that lead here, and is not handed on, cannot. The others are tested.
+                    let open = letters::in_neither(k, handed.letters, handed.passed);
+                    handed.letters
+                        | letters::tested(c, k, masks, keepers, log.len(), starts, places, open)
                 };
-                put_in(table, first, j, c, forward, letters.set);
-                Merged::Put(letters.number)
+                put_in(table, first, j, c, handed.forward, set | (from << HALF));
+                Merged::Put(u32::count_ones(set))
             } else {
                 Merged::Full
             }

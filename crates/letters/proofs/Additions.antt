@@ -27,7 +27,7 @@ use Rattle.places.proofs.NextPlaces.{at-next}
 use Rattle.places.proofs.Places.{place-found}
 use Rattle.events.specs.Events.{comes-next?, lets-by?}
 use Rattle.events.proofs.Adding.{comes-next-addable}
-use Rattle.letters.specs.Letters.{letters-by, next-by}
+use Rattle.letters.specs.Letters.{letters-by, next-by, place-by}
 
 -- ---- for loops in code
 
@@ -59,6 +59,10 @@ pub letters-first : (may : ℕ → ℕ → Bool) (k n : ℕ) (starts places t r 
 letters-first may k n starts places t r =
     let l = next-by k starts places t in
     filter-agree (comes-next? may k n (l ++ r)) (comes-next? may k n l) (below k) (λ x m. comes-next-first may k n x (below-at k x m) l r (length-range _ k 0))
+
+-- the places that the test looks at
+pub at-next-by : (k : ℕ) (starts places t : List ℕ) (x : ℕ) → x < k → at (next-by k starts places t) x ≡ place-by starts places t x
+at-next-by k starts places t x lt = at-map (place-by starts places t) k 0 x lt ∙ ap (place-by starts places t) (zero-add x)
 
 -- ---- the letters of a prefix
 

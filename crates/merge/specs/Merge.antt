@@ -3,16 +3,17 @@
 use mathlib.Core.Bool.{cond}
 use mathlib.Core.List.{List}
 use mathlib.Core.Option.{Option, none, some}
-use Prim.Native.Nat.{ℕ, zero, suc, _^_}
-use lib.Bits.{bitOr}
+use Prim.Native.Nat.{ℕ, zero, suc, _-_, _^_}
+use lib.Bits.{bitAnd, bitOr}
 use lib.Dec.{ltb}
+use lib.ListN.{getD}
 use Rattle.profile.specs.Lists.{below, equal?, filter}
 use Rattle.profile.specs.Traces.{bit}
 use Rattle.profile.specs.Automata.{forward-step, union}
 use Rattle.profile.specs.Prefixes.{at}
 use Rattle.profile.specs.Tables.{layout}
 use Rattle.counts.specs.Counts.{add-count, before?, words}
-use Rattle.records.specs.Records.{counts-at, forward-at, records-in}
+use Rattle.records.specs.Records.{counts-at, forward-at, last-at, records-in}
 use Rattle.merge.specs.declared.Least.{Least}
 use Rattle.merge.specs.declared.Least.the-variants.{Nothing, At}
 
@@ -57,3 +58,14 @@ least-letters (At c S) = S
 -- the union, over the letters of G, of the states to which the letter leads from the forward set of the record at its cursor
 abbrev pub united : ℕ → ℕ → List ℕ → List ℕ → List ℕ → ℕ → ℕ
 united k s moves t cs G = union (λ x. forward-step k s moves (forward-at t (at cs x)) x) (filter (bit G) (below k))
+
+-- the letters that can be added to record j, as the lower half of its last number has them, x aside
+abbrev pub other-letters : List ℕ → ℕ → ℕ → ℕ
+other-letters t j x = bitAnd (bitAnd (last-at t j) 65535) (2 ^ 32 - 1 - 2 ^ x)
+
+-- the unions, over the letters of G, of the letters that can be added to the record at the letter's cursor, that letter aside; and of their masks
+abbrev pub inherited : ℕ → List ℕ → List ℕ → ℕ → ℕ
+inherited k t cs G = union (λ x. other-letters t (at cs x) x) (filter (bit G) (below k))
+
+abbrev pub passing : ℕ → List ℕ → ℕ → ℕ
+passing k masks G = union (λ x. getD masks x 0) (filter (bit G) (below k))

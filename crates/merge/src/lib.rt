@@ -1,15 +1,21 @@
-// From one total to the next: the least counts that the cursors of a total give, with the letters that give them, and the states that these lead to.
+// From one total to the next: the least counts that the cursors of a total give, with the letters that give them, and what the records at their cursors
+// hand on.
 ghost use mathlib.Core.Path.{_≡_};
 ghost use mathlib.Core.Option.{some};
 ghost use Prim.Native.Nat.{_≤_, _<_};
-ghost use lib.ListN.{length};
+ghost use lib.Bits.{bitOr};
+ghost use lib.ListN.{length, getD};
 ghost use Rattle.profile.specs.Limits.{most-letters, most-states};
 ghost use Rattle.counts.specs.Counts.{words};
-ghost use Rattle.rows.specs.Rows.{by-letter};
+ghost use Rattle.rows.specs.Rows.{by-letter, forward-by};
+ghost use Rattle.records.specs.Records.{forward-at, records-in};
 ghost use Rattle.cursors.specs.Cursors.{Given};
-ghost use Rattle.merge.specs.Merge.{better, candidate, givers, joined, least-letters, least-of, least-words, united};
+ghost use Rattle.merge.specs.Merge.{better, candidate, givers, inherited, joined, least-letters, least-of, least-words, other-letters, passing, united};
 use counts::Counts;
 use profile::limits::MOST_MOVES;
+
+// The half of a record's last number that has the letters that can be added.
+const LETTERS: u32 = 65535;
 
 // The least counts that a cursor gives, and the letters whose cursors give them; none where every cursor is at the end.
 pub enum Least {
@@ -65,30 +71,69 @@ pub fn least_counts(level: &[u32], k: usize, cursors: &[usize]) -> Least
     best
 }
 
-// The states to which the letters of a set lead from the forward sets of the records at their cursors; `rows` are the moves by letter. Each turn takes
-// the lowest letter out of those that are left.
+// What the records from which a new one comes hand on to it, each with a letter that leads to the new one: the states that the letter leads to, the
+// letters that can be added to the record, its own letter aside, and the letters that may pass its own.
+pub struct Handed {
+    pub forward: u32,
+    pub letters: u32,
+    pub passed: u32,
+}
+
+// What is handed on, with record j and letter x beside the records before.
+fn with_parent(
+    level: &[u32],
+    rows: &[u32; MOST_MOVES],
+    masks: &[u16],
+    s: usize,
+    j: usize,
+    x: usize,
+    out: Handed,
+) -> Handed
+    requires { ⌜ (s ≤ most-states) × (x < most-letters) × (x < length (now masks)) × (j < records-in (now level)) ⌝ }
+    ensures { λ r. ⌜ (r .forward ≡ bitOr (out .forward) (forward-by s (now (rows .entry)) (forward-at (now (level .entry)) j) x))
+        × (r .letters ≡ bitOr (out .letters) (other-letters (now (level .entry)) j x))
+        × (r .passed ≡ bitOr (out .passed) (getD (now (masks .entry)) x 0)) ⌝ }
+{
+    let forward = out.forward | rows::forward_by(rows, s, records::forward_at(level, j), x);
+    let letters = out.letters | (records::last_at(level, j) & LETTERS & !(1u32 << x));
+    let passed = out.passed | (masks[x] as u32);
+    Handed {
+        forward: forward,
+        letters: letters,
+        passed: passed,
+    }
+}
+
+// What the records at the cursors of a set of letters hand on; `rows` are the moves by letter. Each turn takes the lowest letter out of those that are
+// left.
 pub fn unite(
     level: &[u32],
     moves: &[u32],
     rows: &[u32; MOST_MOVES],
+    masks: &[u16],
     k: usize,
     s: usize,
     cursors: &[usize],
     set: u32,
-) -> u32
+) -> Handed
     requires { ⌜ (k ≤ most-letters) × (s ≤ most-states) ⌝ }
-    requires { ⌜ k ≤ length (now cursors) ⌝ }
+    requires { ⌜ (k ≤ length (now cursors)) × (k ≤ length (now masks)) ⌝ }
     requires { ⌜ now rows ≡ by-letter k s (now moves) ⌝ }
     requires { ⌜ Given k (now level) (now cursors) set ⌝ }
-    ensures { λ r. ⌜ r ≡ united k s (now (moves .entry)) (now (level .entry)) (now (cursors .entry)) set ⌝ }
+    ensures { λ r. ⌜ (r .forward ≡ united k s (now (moves .entry)) (now (level .entry)) (now (cursors .entry)) set)
+        × (r .letters ≡ inherited k (now (level .entry)) (now (cursors .entry)) set)
+        × (r .passed ≡ passing k (now (masks .entry)) set) ⌝ }
 {
-    let mut out = 0u32;
+    let mut out = Handed {
+        forward: 0,
+        letters: 0,
+        passed: 0,
+    };
     let mut rest = set;
     while rest != 0 {
         let x = u32::trailing_zeros(rest) as usize;
         if x < k {
-            let j = cursors[x];
-            out = out | rows::forward_by(rows, s, records::forward_at(level, j), x);
+            out = with_parent(level, rows, masks, s, cursors[x], x, out);
         }
         rest = rest & (rest - 1);
     }

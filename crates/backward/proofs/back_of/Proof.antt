@@ -1,7 +1,7 @@
 -- `backward::back_of` meets its contract. The loop's invariant: `out`, united with the set from the letters that are left, is the whole set;
 -- their cursors have not moved, and those of the others have. The measure is the number of the letters that are left.
-use Prim.Native.Nat.{ℕ, _-_, _^_, _≤_, _<_}
-use mathlib.Core.Path.{_≡_, refl, sym, _∙_, ap, ap₂, subst}
+use Prim.Native.Nat.{ℕ, _-_, _%_, _^_, _≤_, _<_}
+use mathlib.Core.Path.{_≡_, refl, sym, _∙_, ap, subst}
 use mathlib.Core.Bool.{not, cond}
 use mathlib.Core.Logic.{⊎-elim}
 use mathlib.Core.List.{List}
@@ -13,27 +13,19 @@ use lib.ListN.{length, getD, length-set, set}
 use lib.Seq.{getD-set-other, getD-set-same}
 use borrow.Author.Needs.{needs}
 use Rattle.profile.specs.Automata.{backward-step, union}
-use Rattle.profile.specs.Lists.{below, equal?, filter}
-use Rattle.profile.specs.Tables.{layout}
+use Rattle.profile.specs.Lists.{below, filter}
 use Rattle.profile.specs.Traces.{bit}
 use Rattle.profile.proofs.Lists.{is-false, is-true, test}
-use Rattle.theory.proofs.Merge.{seek}
 use Rattle.theory.proofs.SetLoops.{lowest, rest-first, rest-in, rest-other, rest-without}
 use Rattle.profile.proofs.Sets.{not-in-none, or-assoc}
-use Rattle.counts.specs.Counts.{add-count, words}
-use Rattle.counts.specs.declared.Counts.{Counts}
-use Rattle.records.specs.Records.{counts-at, last-at, records-in}
+use Rattle.records.specs.Records.{last-at, records-in}
 use Rattle.rows.specs.Rows.{backward-by}
 use Rattle.rows.proofs.Rows.{backward-same}
 use Rattle.theory.proofs.Unions.{union-in, union-none, union-out}
-use Rattle.backward.specs.Backward.{back-from, moved, next-at}
+use Rattle.backward.specs.Backward.{back-from, flag-before, flag?, letters-at, moved}
+use Rattle.backward.proofs.Sweep.{last-inside}
 use Rattle.backward.proofs.back_of.Statement.{statement}
 use Rattle.backward.proofs.back_of.Tie as tie
-
--- the record found for the counts u, one x more than those of record j
-found : (t : List ℕ) (j x i i₀ r : ℕ) (v u : Counts) → words v ≡ counts-at t j → words u ≡ add-count layout (words v) x → i ≡ i₀
-    → r ≡ seek (λ a. equal? (counts-at t a) (words u)) (below (records-in t)) i → r ≡ next-at t j x i₀
-found t j x i i₀ r v u e f g h = h ∙ ap₂ (λ n m. seek (λ a. equal? (counts-at t a) n) (below (records-in t)) m) (f ∙ ap (λ n. add-count layout n x) e) g
 
 -- ---- the cursors: those of the letters that are left stand where they stood, those of the others have moved
 
@@ -73,35 +65,32 @@ module _ (t : List ℕ) (j k : ℕ) (cursors₀ : List ℕ) (n : ℕ) (p : 0 < n
   )
 
 abbrev Inv-loop : tie.InvT-loop
-Inv-loop part j k s moves rows cursors₀ c letters out₀ rest₀ cursors out rest =
-    (rest < 2 ^ 32) × (length cursors ≡ length cursors₀) × ((y : ℕ) → T (bit rest y) → T (bit (last-at part j) y))
-    × (bitOr out (union (λ x. backward-step k s moves (last-at part (next-at part j x (getD cursors₀ x 0))) x) (filter (bit rest) (below k)))
-    ≡ back-from part j k k s moves (λ y. getD cursors₀ y 0))
-    × Moved part j k cursors₀ rest cursors
+Inv-loop table j k s moves rows cursors₀ letters out₀ rest₀ cursors out rest =
+    (rest < 2 ^ 32) × (length cursors ≡ length cursors₀) × ((y : ℕ) → T (bit rest y) → T (bit (letters-at table j) y))
+    × (bitOr out (union (λ x. backward-step k s moves (last-at table (flag-before table x (getD cursors₀ x 0))) x) (filter (bit rest) (below k)))
+    ≡ back-from table j k s moves (λ y. getD cursors₀ y 0))
+    × Moved table j k cursors₀ rest cursors
 
 abbrev μ-loop : tie.MeasureT-loop
-μ-loop part j k s moves rows cursors₀ c letters out₀ rest₀ cursors out rest = rest
-
-counts-at-requires : tie.Need-counts-at-requires Inv-loop μ-loop
-counts-at-requires c κs = search needs
+μ-loop table j k s moves rows cursors₀ letters out₀ rest₀ cursors out rest = rest
 
 last-at-requires : tie.Need-last-at-requires Inv-loop μ-loop
 last-at-requires c κs = search needs
 
 loop-holds : tie.Need-loop-holds Inv-loop μ-loop
 loop-holds c =
-    let a = c .before .before .before .before .before .args in
-    let t = a .part .now in
+    let a = c .before .before .before .before .args in
+    let t = a .table .now in
     let from : ℕ → ℕ = λ y. getD (a .cursors .now) y 0 in
-    let f : ℕ → ℕ = λ y. backward-step (a .k) (a .s) (a .moves .now) (last-at t (next-at t (a .j) y (from y))) y in
-    let e = c .last-at .ensures in (
+    let f : ℕ → ℕ = λ y. backward-step (a .k) (a .s) (a .moves .now) (last-at t (flag-before t y (from y))) y in
+    let e = ap (λ n. n % 65536) (c .last-at .ensures) in (
       search needs,
       refl,
       λ y m. subst (λ S. T (bit S y)) e m,
       ap (λ S. union f (filter (bit S) (below (a .k)))) e,
       (
         (λ y m. refl),
-        λ y h m. sym (ap (λ b. cond b (next-at t (a .j) y (from y)) (from y)) (is-false (bit (last-at t (a .j)) y) (subst (λ S. T (not (bit S y))) e m))),
+        λ y h m. sym (ap (λ b. cond b (flag-before t y (from y)) (from y)) (is-false (bit (letters-at t (a .j)) y) (subst (λ S. T (not (bit S y))) e m))),
       ),
     )
 
@@ -114,11 +103,13 @@ mul-from c = search needs
 slice-read-from : tie.Need-slice-read-from Inv-loop μ-loop
 slice-read-from c = search needs
 
-one-more-requires : tie.Need-one-more-requires Inv-loop μ-loop
-one-more-requires c κs = search needs
-
-find-requires : tie.Need-find-requires Inv-loop μ-loop
-find-requires c κs = search needs
+flagged-before-requires : tie.Need-flagged-before-requires Inv-loop μ-loop
+flagged-before-requires c κs =
+    let s = c .before .before .before .before .before .before .before .before in
+    let l = c .before .before .before .loop in
+    let x = trailingZeros 32 (l .rest) in
+    let h : x < s .args .k = c .before .if1 .taken in
+    (omega (arith, l .inv .4 .0 x (rest-first (l .rest) (omega arith) (omega arith)), s .pre .1 .0 .cursors-in x h), omega arith)
 
 mul-cursors : tie.Need-mul-cursors Inv-loop μ-loop
 mul-cursors c = search needs
@@ -128,16 +119,15 @@ slice-write-cursors c = search needs
 
 last-at-requires-2 : tie.Need-last-at-requires-2 Inv-loop μ-loop
 last-at-requires-2 c κs =
-    let s = c .before .before .before .before .before .before .before .before .before .before .before in
+    let s = c .before .before .before .before .before .before .before .before .before in
     let a = s .args in
-    let l = c .before .before .before .before .before .loop in
+    let l = c .before .before .before .before .loop in
     let x = trailingZeros 32 (l .rest) in
-    let first = rest-first (l .rest) (omega arith) (omega arith) in
-    let e = found (a .part .now) (a .j) x _ (getD (a .cursors .now) x 0) (c .find .result) _ _ (c .before .before .before .before .before .before .before .counts-at .ensures)
-    (c .before .one-more .ensures) (l .inv .4 .0 x first) (c .find .ensures) in
-    let h : x < a .k = c .before .before .before .if1 .taken in
-    let g : next-at (a .part .now) (a .j) x (getD (a .cursors .now) x 0) < records-in (a .part .now) = s .pre .1 .0 .finds x h (l .inv .2 x first) in
-    omega (arith, e, g)
+    let h : x < a .k = c .before .before .if1 .taken in
+    let e = l .inv .4 .0 x (rest-first (l .rest) (omega arith) (omega arith)) in
+    let g : flag-before (a .table .now) x (getD (l .cursors) x 0) < records-in (a .table .now) =
+    last-inside (flag? (a .table .now) x) (getD (l .cursors) x 0) (records-in (a .table .now)) (omega (arith, e, s .pre .1 .0 .cursors-in x h)) (omega (arith, s .pre .1 .0 .record-in)) in
+    omega (arith, c .flagged-before .ensures, g)
 
 backward-by-requires : tie.Need-backward-by-requires Inv-loop μ-loop
 backward-by-requires c κs = search needs
@@ -150,15 +140,15 @@ loop-less c = let n = c .before .before .loop .rest in omega (arith, and-le-r n 
 
 loop-again : tie.Need-loop-again Inv-loop μ-loop
 loop-again c =
-    let a = c .before .before .before .before .before .before .before .before .args in
-    let t = a .part .now in
+    let a = c .before .before .before .before .before .before .before .args in
+    let t = a .table .now in
     let l = c .before .before .loop in
     let i = l .inv in
     let n = l .rest in
     let x = trailingZeros 32 n in
     let r = bitAnd n (n - 1) in
     let from : ℕ → ℕ = λ y. getD (a .cursors .now) y 0 in
-    let f : ℕ → ℕ = λ y. backward-step (a .k) (a .s) (a .moves .now) (last-at t (next-at t (a .j) y (from y))) y in
+    let f : ℕ → ℕ = λ y. backward-step (a .k) (a .s) (a .moves .now) (last-at t (flag-before t y (from y))) y in
     let back : ℕ → ℕ = λ S. union f (filter (bit S) (below (a .k))) in
     let some : 0 < n = omega arith in
     let few : n < 2 ^ 32 = i .0 in
@@ -166,18 +156,18 @@ loop-again c =
     let whole = ap back (lowest 32 n some few) in
     let less : r < 2 ^ 32 = omega (arith, and-le-r n (n - 1)) in ⊎-elim
     (λ w.
-    let q = found t (a .j) x _ (from x) (w .3 .result) _ _ (c .before .before .before .before .counts-at .ensures) (w .2 .ensures) (i .4 .0 x first) (w .3 .ensures) in
-    let e = is-true (bit (last-at t (a .j)) x) (i .2 x first) in
-    let same = backward-same (a .k) (a .s) (a .moves .now) (a .rows .now) (c .before .before .before .before .before .before .before .before .pre .1 .1) (omega arith) (omega arith) x (w .0 .taken) in
-    let to = w .5 .ensures ∙ ap (λ S. backward-by (a .s) (a .rows .now) S x) (w .4 .ensures ∙ ap (last-at t) q) ∙ same (last-at t (next-at t (a .j) x (from x))) in (
+    let q = w .2 .ensures ∙ ap (flag-before t x) (i .4 .0 x first) in
+    let e = is-true (bit (letters-at t (a .j)) x) (i .2 x first) in
+    let same = backward-same (a .k) (a .s) (a .moves .now) (a .rows .now) (c .before .before .before .before .before .before .before .pre .1 .1) (omega arith) (omega arith) x (w .0 .taken) in
+    let to = w .4 .ensures ∙ ap (λ S. backward-by (a .s) (a .rows .now) S x) (w .3 .ensures ∙ ap (last-at t) q) ∙ same (last-at t (flag-before t x (from x))) in (
       less,
-      ap length (w .6) ∙ simp length-set (i .1),
+      ap length (w .5) ∙ simp length-set (i .1),
       λ y m. i .2 y (rest-in n some few y m),
-      ap (λ o. bitOr o (back r)) (w .7 ∙ ap (bitOr (l .out)) to) ∙ or-assoc (l .out) (f x) (back r)
+      ap (λ o. bitOr o (back r)) (w .6 ∙ ap (bitOr (l .out)) to) ∙ or-assoc (l .out) (f x) (back r)
           ∙ ap (bitOr (l .out)) (sym (union-in f x r (a .k) (w .0 .taken)) ∙ whole) ∙ i .3,
-      subst (Moved t (a .j) (a .k) (a .cursors .now) r) (sym (w .6))
-          (move-yes t (a .j) (a .k) (a .cursors .now) n some few (l .cursors) (i .4) (w .3 .result) (omega arith)
-          (q ∙ sym (ap (λ b. cond b (next-at t (a .j) x (from x)) (from x)) e))),
+      subst (Moved t (a .j) (a .k) (a .cursors .now) r) (sym (w .5))
+          (move-yes t (a .j) (a .k) (a .cursors .now) n some few (l .cursors) (i .4) (w .2 .result) (omega arith)
+          (q ∙ sym (ap (λ b. cond b (flag-before t x (from x)) (from x)) e))),
     ))
     (λ w. (
       less,
@@ -193,11 +183,11 @@ same-length c = search needs
 
 returns : tie.Need-returns Inv-loop μ-loop
 returns c =
-    let a = c .before .before .before .before .before .before .before .args in
-    let t = a .part .now in
+    let a = c .before .before .before .before .before .before .args in
+    let t = a .table .now in
     let l = c .before .loop in
     let from : ℕ → ℕ = λ y. getD (a .cursors .now) y 0 in
-    let f : ℕ → ℕ = λ y. backward-step (a .k) (a .s) (a .moves .now) (last-at t (next-at t (a .j) y (from y))) y in
+    let f : ℕ → ℕ = λ y. backward-step (a .k) (a .s) (a .moves .now) (last-at t (flag-before t y (from y))) y in
     let e : l .rest ≡ 0 = omega arith in
     let none : union f (filter (bit (l .rest)) (below (a .k))) ≡ 0 = ap (λ S. union f (filter (bit S) (below (a .k)))) e ∙ union-none f (bit 0) (below (a .k)) not-in-none in (
       sym (ap (bitOr (l .out)) none ∙ or-zero-r (l .out)) ∙ l .inv .3,
@@ -210,14 +200,12 @@ back-of-spec =
     (tie.spec
     Inv-loop
     μ-loop
-    counts-at-requires
     last-at-requires
     loop-holds
     cast-x
     mul-from
     slice-read-from
-    one-more-requires
-    find-requires
+    flagged-before-requires
     mul-cursors
     slice-write-cursors
     last-at-requires-2

@@ -1,56 +1,56 @@
--- `merge::unite` meets its contract. The loop's invariant: `out`, united with the states from the letters that are left, is the whole union.
--- The measure is the set of the letters that are left, as a number.
+-- `merge::unite` meets its contract. The loop's invariant: what is handed on so far, united with what the records of the letters that are left hand on, is
+-- the whole. The measure is the set of the letters that are left, as a number.
 use Prim.Native.Nat.{ℕ, _-_, _^_, _<_}
 use mathlib.Core.Path.{_≡_, sym, _∙_, ap}
 use mathlib.Core.Logic.{⊎-elim}
 use native.Mathlib.Omega.{arith}
-use lib.Bits.{bitAnd, bitOr, and-le-r, or-zero-l, or-zero-r}
+use lib.Bits.{bitAnd, bitOr, and-le-r, or-zero-l}
 use lib.Count.{trailing-le, trailingZeros}
 use lib.Dec.{T}
+use lib.ListN.{getD}
 use Rattle.profile.specs.Automata.{forward-step}
-use Rattle.profile.specs.Lists.{below}
 use Rattle.profile.specs.Prefixes.{at}
 use Rattle.profile.specs.Traces.{bit}
-use Rattle.profile.proofs.Sets.{not-in-none, or-assoc}
-use Rattle.theory.proofs.SetLoops.{lowest, rest-first, rest-in}
+use Rattle.theory.proofs.SetLoops.{rest-first, rest-in}
 use Rattle.records.specs.Records.{forward-at, records-in}
-use Rattle.rows.specs.Rows.{forward-by}
 use Rattle.rows.proofs.Rows.{forward-same}
-use Rattle.theory.proofs.Unions.{union-in, union-none, union-out}
-use Rattle.merge.specs.Merge.{united}
+use Rattle.merge.specs.declared.Handed.{Handed}
+use Rattle.merge.specs.Merge.{inherited, other-letters, passing, united}
+use Rattle.parents.proofs.Unions.{over-left, over-none, over-taken}
 use borrow.Author.Needs.{needs}
 use Rattle.merge.proofs.unite.Statement.{statement}
 use Rattle.merge.proofs.unite.Tie as tie
 
 abbrev Inv-loop : tie.InvT-loop
-Inv-loop level moves rows k s cursors set out₀ rest₀ out rest =
-    (rest < 2 ^ 32) × ((y : ℕ) → T (bit rest y) → T (bit set y)) × (bitOr out (united k s moves level cursors rest) ≡ united k s moves level cursors set)
+Inv-loop level moves rows masks k s cursors set out₀ rest₀ out rest =
+    (rest < 2 ^ 32) × ((y : ℕ) → T (bit rest y) → T (bit set y))
+    × (bitOr (out .forward) (united k s moves level cursors rest) ≡ united k s moves level cursors set)
+    × (bitOr (out .letters) (inherited k level cursors rest) ≡ inherited k level cursors set)
+    × (bitOr (out .passed) (passing k masks rest) ≡ passing k masks set)
 
 abbrev μ-loop : tie.MeasureT-loop
-μ-loop level moves rows k s cursors set out₀ rest₀ out rest = rest
+μ-loop level moves rows masks k s cursors set out₀ rest₀ out rest = rest
 
 loop-holds : tie.Need-loop-holds Inv-loop μ-loop
-loop-holds c = (search needs, (λ y m. m), or-zero-l _)
+loop-holds c = (search needs, (λ y m. m), or-zero-l _, or-zero-l _, or-zero-l _)
 
 cast-x : tie.Need-cast-x Inv-loop μ-loop
 cast-x c = omega (arith, trailing-le 32 (c .before .loop .rest))
 
-mul-j : tie.Need-mul-j Inv-loop μ-loop
-mul-j c = search needs
+mul-with-parent : tie.Need-mul-with-parent Inv-loop μ-loop
+mul-with-parent c = search needs
 
-shared-slice-read-j : tie.Need-shared-slice-read-j Inv-loop μ-loop
-shared-slice-read-j c = search needs
+shared-slice-read-with-parent : tie.Need-shared-slice-read-with-parent Inv-loop μ-loop
+shared-slice-read-with-parent c = search needs
 
-forward-at-requires : tie.Need-forward-at-requires Inv-loop μ-loop
-forward-at-requires c κs =
-    let s = c .before .before .before .before .before .before .before in
+with-parent-requires : tie.Need-with-parent-requires Inv-loop μ-loop
+with-parent-requires c κs =
+    let s = c .before .before .before .before .before .before .before .before in
     let l = c .before .before .before .loop in
     let x = trailingZeros 32 (l .rest) in
-    let h : at (s .args .cursors .now) x < records-in (s .args .level .now) = s .pre .1 .1 .1 x (c .before .if1 .taken) (l .inv .1 x (rest-first (l .rest) (omega arith) (l .inv .0))) in
-    omega (arith, h)
-
-forward-by-requires : tie.Need-forward-by-requires Inv-loop μ-loop
-forward-by-requires c κs = search needs
+    let lt : x < s .args .k = omega arith in
+    let h : at (s .args .cursors .now) x < records-in (s .args .level .now) = s .pre .1 .1 .1 x lt (l .inv .1 x (rest-first (l .rest) (omega arith) (l .inv .0))) in
+    (s .pre .0 .1, omega arith, omega arith, h)
 
 sub-rest : tie.Need-sub-rest Inv-loop μ-loop
 sub-rest c = search needs
@@ -60,35 +60,55 @@ loop-less c = let n = c .before .before .loop .rest in omega (arith, and-le-r n 
 
 loop-again : tie.Need-loop-again Inv-loop μ-loop
 loop-again c =
-    let a = c .before .before .before .before .before .before .args in
+    let b = c .before .before .before .before .before .before .before in
+    let a = b .args in
     let l = c .before .before .loop in
     let n = l .rest in
     let x = trailingZeros 32 n in
     let r = bitAnd n (n - 1) in
-    let f : ℕ → ℕ = λ y. forward-step (a .k) (a .s) (a .moves .now) (forward-at (a .level .now) (at (a .cursors .now) y)) y in
-    let all : ℕ → ℕ = united (a .k) (a .s) (a .moves .now) (a .level .now) (a .cursors .now) in
     let some : 0 < n = omega arith in
-    let whole = ap all (lowest 32 n some (l .inv .0)) in (
-      omega (arith, and-le-r n (n - 1), l .inv .0),
-      (λ y m. l .inv .1 y (rest-in n some (l .inv .0) y m)),
+    let small = l .inv .0 in
+    let f : ℕ → ℕ = λ y. forward-step (a .k) (a .s) (a .moves .now) (forward-at (a .level .now) (at (a .cursors .now) y)) y in
+    let g : ℕ → ℕ = λ y. other-letters (a .level .now) (at (a .cursors .now) y) y in
+    let m : ℕ → ℕ = λ y. getD (a .masks .now) y 0 in
+    let U = united (a .k) (a .s) (a .moves .now) (a .level .now) (a .cursors .now) in
+    let I = inherited (a .k) (a .level .now) (a .cursors .now) in
+    let P = passing (a .k) (a .masks .now) in (
+      omega (arith, and-le-r n (n - 1), small),
+      (λ y q. l .inv .1 y (rest-in n some small y q)),
       ⊎-elim
           (λ w.
-          let same = forward-same (a .k) (a .s) (a .moves .now) (a .rows .now) (c .before .before .before .before .before .before .pre .1 .1 .0) (omega arith) (omega arith) x (w .0 .taken) in
-          let to = w .3 .ensures ∙ ap (λ S. forward-by (a .s) (a .rows .now) S x) (w .2 .ensures) ∙ same (forward-at (a .level .now) (at (a .cursors .now) x)) in
-          ap (λ o. bitOr o (all r)) (w .4 ∙ ap (bitOr (l .out)) to) ∙ or-assoc (l .out) (f x) (all r)
-          ∙ ap (bitOr (l .out)) (sym (union-in f x r (a .k) (w .0 .taken)) ∙ whole) ∙ l .inv .2)
-          (λ w. ap (λ o. bitOr o (all r)) (w .1) ∙ ap (bitOr (l .out)) (sym (union-out f x r (a .k) (w .0 .left)) ∙ whole) ∙ l .inv .2)
+          let lt = w .0 .taken in
+          let same = forward-same (a .k) (a .s) (a .moves .now) (a .rows .now) (b .pre .1 .1 .0) (omega arith) (omega arith) x lt (forward-at (a .level .now) (at (a .cursors .now) x)) in
+          ap (λ (o : Handed). bitOr (o .forward) (U r)) (w .3) ∙ ap (λ v. bitOr v (U r)) (w .2 .ensures .0 ∙ ap (bitOr (l .out .forward)) same)
+          ∙ over-taken f (a .k) n some small (l .out .forward) lt ∙ l .inv .2)
+          (λ w. ap (λ (o : Handed). bitOr (o .forward) (U r)) (w .1) ∙ ap (bitOr (l .out .forward)) (over-left f (a .k) n some small (w .0 .left)) ∙ l .inv .2)
+          (c .if1 .came),
+      ⊎-elim
+          (λ w. ap (λ (o : Handed). bitOr (o .letters) (I r)) (w .3) ∙ ap (λ v. bitOr v (I r)) (w .2 .ensures .1) ∙ over-taken g (a .k) n some small (l .out .letters) (w .0 .taken) ∙ l .inv .3)
+          (λ w. ap (λ (o : Handed). bitOr (o .letters) (I r)) (w .1) ∙ ap (bitOr (l .out .letters)) (over-left g (a .k) n some small (w .0 .left)) ∙ l .inv .3)
+          (c .if1 .came),
+      ⊎-elim
+          (λ w. ap (λ (o : Handed). bitOr (o .passed) (P r)) (w .3) ∙ ap (λ v. bitOr v (P r)) (w .2 .ensures .2) ∙ over-taken m (a .k) n some small (l .out .passed) (w .0 .taken) ∙ l .inv .4)
+          (λ w. ap (λ (o : Handed). bitOr (o .passed) (P r)) (w .1) ∙ ap (bitOr (l .out .passed)) (over-left m (a .k) n some small (w .0 .left)) ∙ l .inv .4)
           (c .if1 .came),
     )
 
 returns : tie.Need-returns Inv-loop μ-loop
 returns c =
-    let a = c .before .before .before .before .before .args in
+    let a = c .before .before .before .before .before .before .args in
     let l = c .before .loop in
     let f : ℕ → ℕ = λ y. forward-step (a .k) (a .s) (a .moves .now) (forward-at (a .level .now) (at (a .cursors .now) y)) y in
-    let all : ℕ → ℕ = united (a .k) (a .s) (a .moves .now) (a .level .now) (a .cursors .now) in
-    let e : l .rest ≡ 0 = omega arith in
-    sym (ap (bitOr (l .out)) (ap all e ∙ union-none f (bit 0) (below (a .k)) not-in-none) ∙ or-zero-r (l .out)) ∙ l .inv .2
+    let g : ℕ → ℕ = λ y. other-letters (a .level .now) (at (a .cursors .now) y) y in
+    let m : ℕ → ℕ = λ y. getD (a .masks .now) y 0 in
+    let U = united (a .k) (a .s) (a .moves .now) (a .level .now) (a .cursors .now) in
+    let I = inherited (a .k) (a .level .now) (a .cursors .now) in
+    let P = passing (a .k) (a .masks .now) in
+    let e : 0 ≡ l .rest = omega arith in (
+      sym (over-none f (a .k) (l .out .forward)) ∙ ap (λ n. bitOr (l .out .forward) (U n)) e ∙ l .inv .2,
+      sym (over-none g (a .k) (l .out .letters)) ∙ ap (λ n. bitOr (l .out .letters) (I n)) e ∙ l .inv .3,
+      sym (over-none m (a .k) (l .out .passed)) ∙ ap (λ n. bitOr (l .out .passed) (P n)) e ∙ l .inv .4,
+    )
 
 pub unite-spec : {M : Type 1} → statement M
 unite-spec =
@@ -98,10 +118,9 @@ unite-spec =
     μ-loop
     loop-holds
     cast-x
-    mul-j
-    shared-slice-read-j
-    forward-at-requires
-    forward-by-requires
+    mul-with-parent
+    shared-slice-read-with-parent
+    with-parent-requires
     sub-rest
     loop-less
     loop-again
