@@ -16,7 +16,7 @@
 
 enum { LETTERS = FUMAREHI_MOST_LETTERS, MOVES = FUMAREHI_MOST_MOVES, EVENTS = FUMAREHI_LONGEST, TEXT = 4096, WORK = 16380 };
 
-enum { FILE_BYTES = 2 * LETTERS + 4 * MOVES + EVENTS + FUMAREHI_TRAILER_LENGTH };
+enum { FILE_BYTES = FUMAREHI_LONGEST_FILE };
 
 /* All that a profile needs; the library keeps none of it. */
 struct profile {

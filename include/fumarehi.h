@@ -1,4 +1,5 @@
-/* Fumarehi: a proved judge of loan logs. The C interface of the static library libcapi.a ('rt staticlib capi').
+/* Fumarehi: a proved judge of loan logs. The C interface of the static library libfumarehi.a, as './install PREFIX' puts it in place
+ * ('rt staticlib capi' makes it, as target/staticlib/libcapi.a). docs/RULES.md has the rules, docs/FORMAT.md the log file.
  *
  * Answers. Every function but fumarehi_next_event returns 0, or the number of the refusal that applies. If several do, it is the first of them in
  * this list, which is not by number throughout: those from 11 on stand where they are checked.
@@ -54,6 +55,12 @@
 extern "C" {
 #endif
 
+/* The version of this interface. The first number grows where a call or a record changes its meaning, the second where something is added. */
+#define FUMAREHI_VERSION_MAJOR 1
+#define FUMAREHI_VERSION_MINOR 0
+#define FUMAREHI_VERSION_PATCH 0
+#define FUMAREHI_VERSION "1.0.0"
+
 /* The refusals by name. */
 enum {
     FUMAREHI_SHORT_FILE = 1,
@@ -80,8 +87,9 @@ enum {
 };
 
 /* The limits by name: the most letters, states and moves of a profile, the most letters of a log; the numbers of a record and those of them that have the
- * counts; the bytes that a file has beside its sections (2 for a mask, 4 for a move, 1 for a letter); the most brackets inside each other and the most
- * letters in typed courses; the most terms, each of two days; the most groups of a ceiling. */
+ * counts; the bytes that a file has beside its sections (2 for a mask, 4 for a move, 1 for a letter), and the most that fumarehi_write_file writes; the most
+ * brackets inside each other and the most letters in typed courses; the most terms, each of two days; the most groups of a ceiling; the most names and rules of
+ * a grammar. */
 #define FUMAREHI_MOST_LETTERS 16u
 #define FUMAREHI_MOST_STATES 32u
 #define FUMAREHI_MOST_MOVES (FUMAREHI_MOST_STATES * FUMAREHI_MOST_LETTERS)
@@ -89,10 +97,13 @@ enum {
 #define FUMAREHI_RECORD_NUMBERS 10u
 #define FUMAREHI_COUNT_NUMBERS 8u
 #define FUMAREHI_TRAILER_LENGTH 16u
+#define FUMAREHI_LONGEST_FILE (2u * FUMAREHI_MOST_LETTERS + 4u * FUMAREHI_MOST_MOVES + FUMAREHI_LONGEST + FUMAREHI_TRAILER_LENGTH)
 #define FUMAREHI_DEEPEST_BRACKETS 16u
 #define FUMAREHI_MOST_TYPED 31u
 #define FUMAREHI_MOST_TERMS 12u
 #define FUMAREHI_MOST_GROUPS 16u
+#define FUMAREHI_MOST_NAMES 16u
+#define FUMAREHI_MOST_RULES 64u
 
 /* Judges a log. told: place, verdict, P, looks.
  * Verdict 1: some log that exchanges of neighbouring letters reach from the given one is accepted; the first log_len bytes of 'order' are the earliest such

@@ -3,8 +3,6 @@
 //! Judges the samples by the safe wrappers as the program `judge` does and compares with SAMPLE.txt, also event by event, writes and reads back what
 //! was read, judges logs by typed courses, and makes refused calls, which must leave their buffers as they were.
 
-mod fumarehi;
-
 use fumarehi::{Found, Profile, Refusal, Refused, Relation};
 use std::process::ExitCode;
 

@@ -7,10 +7,11 @@
 //! `ceilings.rs`, logs judged twice, with few pairs and with more, in `nested.rs`, closest orders in `closest.rs`. A refusal that a function can give
 //! and never gave is a failure.
 
+extern crate fumarehi; // so that the modules below find it as crate::fumarehi
+
 mod ceilings;
 mod closest;
 mod courses;
-mod fumarehi;
 mod grammars;
 mod nested;
 mod reference;

@@ -1,9 +1,8 @@
-//! Safe calls of the static library, one for each function of include/fumarehi.h.
+//! Fumarehi, a proved judge of loan logs: safe calls of the static library, one for each function of include/fumarehi.h, which says what each argument
+//! and answer means; docs/RULES.md has the rules. Nothing is allocated: the caller lends every buffer.
 //!
 //! The header leaves to the caller that pointers are not null, aligned, and valid for the length given, and that nothing else is written or read
 //! through a buffer during the call. Rust's slices have all of this, also where they are empty; so every call here is safe for all arguments.
-
-#![allow(dead_code)] // a client calls what it needs
 
 /// The functions as the header declares them.
 mod c {
@@ -159,6 +158,24 @@ mod c {
 /// What `numbers::next_event` gives at the end of a log.
 pub const END: u32 = 256;
 
+/// The limits, by the header's names.
+pub const MOST_LETTERS: usize = 16;
+pub const MOST_STATES: usize = 32;
+pub const MOST_MOVES: usize = MOST_STATES * MOST_LETTERS;
+/// The most letters of a log.
+pub const LONGEST: usize = 4000;
+pub const RECORD_NUMBERS: usize = 10;
+pub const COUNT_NUMBERS: usize = 8;
+pub const TRAILER_LENGTH: usize = 16;
+/// The most bytes that `write_file` writes.
+pub const LONGEST_FILE: usize = 2 * MOST_LETTERS + 4 * MOST_MOVES + LONGEST + TRAILER_LENGTH;
+pub const DEEPEST_BRACKETS: usize = 16;
+pub const MOST_TYPED: usize = 31;
+pub const MOST_TERMS: usize = 12;
+pub const MOST_GROUPS: usize = 16;
+pub const MOST_NAMES: usize = 16;
+pub const MOST_RULES: usize = 64;
+
 /// Letters and their exchanges: bit j of mask i is set where i directly followed by j may become j followed by i.
 #[derive(Clone, Copy, Debug)]
 pub struct Relation<'a> {
@@ -231,6 +248,33 @@ impl Refusal {
         self as u32
     }
 
+    /// What is wrong, in a few words.
+    pub fn reason(self) -> &'static str {
+        match self {
+            Refusal::ShortFile => "file under 16 bytes",
+            Refusal::OutOfRange => "number of letters, number of states or start out of range, or slices of another length",
+            Refusal::Distance => "a distance of the file is out of its range",
+            Refusal::MaskBit => "a mask has a bit past the letters, or its own",
+            Refusal::StateBit => "a move or the final set has a bit past the states",
+            Refusal::LongLog => "more than 4,000 letters in the log",
+            Refusal::BadLetter => "a letter of the log is out of range",
+            Refusal::ShortBuffer => "an output buffer is too short",
+            Refusal::FullTable => "the records of all prefixes do not fit the table",
+            Refusal::BadText => "the courses break the rules of their text, or use a letter out of range",
+            Refusal::DeepText => "brackets go deeper than 16",
+            Refusal::LongText => "more than 31 letters typed",
+            Refusal::BadDay => "not a day for each event, or no date from 1900 to 2199",
+            Refusal::BadTerm => "the terms break their rules",
+            Refusal::NoTerm => "an event's day is in no term",
+            Refusal::ShortCosts => "the cost table is too short",
+            Refusal::BadGroups => "the letter groups break their rules",
+            Refusal::HighCeiling => "the ceiling is above 4,294,967,295",
+            Refusal::ViewBit => "the mask of visible letters has a bit past the letters",
+            Refusal::BadRule => "a rule of the grammar is out of range, or too many names or rules, or no names",
+            Refusal::ShortSets => "too few sets of names",
+        }
+    }
+
     fn from_number(number: u32) -> Refusal {
         *Self::ALL.iter().find(|refusal| refusal.number() == number).expect("a refusal of the header")
     }
@@ -244,6 +288,14 @@ pub struct Refused {
     /// The log that `same` refuses at `LongLog` and `BadLetter`, 1 or 2, else 0.
     pub log: usize,
 }
+
+impl std::fmt::Display for Refused {
+    fn fmt(&self, f: &mut std::fmt::Formatter) -> std::fmt::Result {
+        write!(f, "refused {}: {}", self.refusal.number(), self.refusal.reason())
+    }
+}
+
+impl std::error::Error for Refused {}
 
 /// A day for each event of a log, and the first and the last day of each term in turn; a day is year × 10,000 + month × 100 + day.
 #[derive(Clone, Copy, Debug)]
