@@ -59,12 +59,16 @@ def declared():
     tops, fields = set(), set()
     for path in files(".antt"):
         where = place(path)
-        block = module = False
+        block, module = False, -1
         for line in read(path).split("\n"):
-            if module and line.startswith("  ") and not line.startswith("   "):
-                line = line[2:]
-            elif line and not line[0].isspace() and not line.startswith("--"):
-                module = line.startswith("module ")
+            # What stands in a block `module _ (..) where` is declared two blanks further in, once for each block around it.
+            depth = len(line) - len(line.lstrip())
+            if line.strip() and not line.lstrip().startswith("--"):
+                module = min(module, depth - 2) if depth % 2 == 0 and depth - 2 < module else module
+                if line.lstrip().startswith("module "):
+                    module = depth
+                elif module >= 0 and depth == module + 2:
+                    line = line.lstrip()
             if line and not line[0].isspace() and not line.startswith("--"):
                 block = bool(BLOCK.match(line)) and where != "function"
                 top = TOP.match(line)
@@ -102,7 +106,7 @@ def turn(text, names, fields, functions, in_function):
             return word
         if before == ".":
             stem = re.sub(r"\d+$", "", base)
-            if base in fields and stem not in functions:
+            if base in fields and not (in_function and stem in functions):
                 return spelled(base)
             # `path.name` of a module, not of a value
             head = re.search(r"([A-Z]\w*)\.$", text[: m.start()])
@@ -126,8 +130,20 @@ def quoted(text, every):
     return re.sub(r"`([^`\n]+)`", lambda m: "`" + WORD.sub(lambda w: spelled(w.group(0)) if w.group(0) in every and "-" in w.group(0) else w.group(0), m.group(1)) + "`", text)
 
 
+def foreign(text):
+    """The words that a file takes from modules of other repositories."""
+    out = set()
+    for m in re.finditer(r"^(?:pub )?(?:ghost )?use ([\w.+]+)\.\{([^}]*)\}", text, re.M):
+        head = m.group(1).split(".")
+        if not (head[0] == "Rattle" and os.path.isdir(os.path.join(CRATES, head[1]))):
+            for part in m.group(2).split(","):
+                out.update(w.strip() for w in part.split(" as "))
+    return out
+
+
 def turn_antt(text, tops, fields, functions, in_function):
     out = []
+    tops = tops - foreign(text)
     for line in text.split("\n"):
         code, comment = split_line(line, "--")
         out.append(turn(code, tops, fields, functions, in_function) + quoted(comment, tops | fields))
@@ -136,6 +152,7 @@ def turn_antt(text, tops, fields, functions, in_function):
 
 def turn_rt(text, tops, fields, functions):
     out = []
+    tops = tops - foreign(text)
     for line in text.split("\n"):
         code, comment = split_line(line, "//")
         if '"' in code and not code.lstrip().startswith("ghost"):
