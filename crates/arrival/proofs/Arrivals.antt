@@ -56,16 +56,16 @@ module _ (may : ℕ → ℕ → Bool) (k : ℕ) where
   -- what holds of the empty log and is kept by every event holds of the prefixes in order of arrival
   module _ (Q : List ℕ → List (List ℕ) → Type 0)
       (step : (w : List ℕ) (l : List (List ℕ)) (e : ℕ) → T (letters_below (λ a. a) k (w ++ (e ∷ []))) → Q w l → Q (w ++ (e ∷ [])) (arrive may k w e l)) where
-    arrive-all-keeps : (v w : List ℕ) (l : List (List ℕ)) → T (letters_below (λ a. a) k (w ++ v)) → Q w l → Q (w ++ v) (arrive_all may k w l v)
-    arrive-all-keeps [] w l h q = subst (λ u. Q u l) (sym (append-nil w)) q
-    arrive-all-keeps (a ∷ v) w l h q =
+    arrive_all_keeps : (v w : List ℕ) (l : List (List ℕ)) → T (letters_below (λ a. a) k (w ++ v)) → Q w l → Q (w ++ v) (arrive_all may k w l v)
+    arrive_all_keeps [] w l h q = subst (λ u. Q u l) (sym (append-nil w)) q
+    arrive_all_keeps (a ∷ v) w l h q =
         let e = append_assoc w (a ∷ []) v in
         let h' = subst (λ u. T (letters_below (λ a. a) k u)) (sym e) h in
         subst (λ u. Q u (arrive_all may k (w ++ (a ∷ [])) (arrive may k w a l) v)) e
-        (arrive-all-keeps v (w ++ (a ∷ [])) (arrive may k w a l) h' (step w l a (all_split (λ a. ltb a k) (w ++ (a ∷ [])) v h').0 q))
+        (arrive_all_keeps v (w ++ (a ∷ [])) (arrive may k w a l) h' (step w l a (all_split (λ a. ltb a k) (w ++ (a ∷ [])) v h').0 q))
 
-    pub arrivals-keep : (w : List ℕ) → T (letters_below (λ a. a) k w) → Q [] (replicate k 0 ∷ []) → Q w (arrivals may k w)
-    arrivals-keep w h q = arrive-all-keeps w [] (replicate k 0 ∷ []) h q
+    pub arrivals_keep : (w : List ℕ) → T (letters_below (λ a. a) k w) → Q [] (replicate k 0 ∷ []) → Q w (arrivals may k w)
+    arrivals_keep w h q = arrive_all_keeps w [] (replicate k 0 ∷ []) h q
 
   none_at : (i : ℕ) → at (replicate k 0) i ≡ 0
   none_at i = ⊎_elim (λ lt. get_or-replicate k i 0 0 lt) (λ le. get_or-eq_default (replicate k 0) 0 {n = i} (omega (arith, length-replicate {A = ℕ} k 0))) (lt_or_le i k)
@@ -98,7 +98,7 @@ module _ (may : ℕ → ℕ → Bool) (k : ℕ) where
       map_last (b ∷ m) a = ap (◌∷◌ (with_one b e)) (map_last m a)
 
   pub arrivals_full : (w : List ℕ) → T (letters_below (λ a. a) k w) → EndsFull w (arrivals may k w)
-  arrivals_full w h = arrivals-keep EndsFull full_next w h ([], ap (λ c. c ∷ []) all_none)
+  arrivals_full w h = arrivals_keep EndsFull full_next w h ([], ap (λ c. c ∷ []) all_none)
 
   -- there is no prefix of the empty log but the empty one
   pub listed_none : Listed may k [] (replicate k 0 ∷ [])
@@ -119,9 +119,9 @@ module _ (may : ℕ → ℕ → Bool) (k : ℕ) where
 
   module _ (distinct : (a b : ℕ) → T (may a b) → a ≢ b) (w : List ℕ) (letters : T (letters_below (λ a. a) k w)) where
     -- every prefix stands once in order of arrival, and nothing else
-    pub arrivals-listed : Listed may k w (arrivals may k w)
-    arrivals-listed = arrivals-keep (Listed may k) (λ w l e h q. listed_next may distinct k w e h q) w letters listed_none
+    pub arrivals_listed : Listed may k w (arrivals may k w)
+    arrivals_listed = arrivals_keep (Listed may k) (λ w l e h q. listed_next may distinct k w e h q) w letters listed_none
 
     -- so there are P of them
-    pub arrivals-count : length (arrivals may k w) ≡ prefix_count may (λ a. a) k w
-    arrivals-count = prefix_count_of may (λ a. a) k w (arrivals may k w) arrivals-listed.once arrivals-listed.into arrivals-listed.onto
+    pub arrivals_count : length (arrivals may k w) ≡ prefix_count may (λ a. a) k w
+    arrivals_count = prefix_count_of may (λ a. a) k w (arrivals may k w) arrivals_listed.once arrivals_listed.into arrivals_listed.onto

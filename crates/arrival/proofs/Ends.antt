@@ -9,7 +9,7 @@ use lib.Dec.{T}
 use Rattle.profile.specs.Lists.{all}
 use Rattle.profile.specs.Prefixes.{IsPrefix, count, marked, more, unmarked}
 use Rattle.profile.proofs.Lists.{all_append, all_split, both, fst_of, snd_of}
-use Rattle.theory.proofs.Prefixes.{Front, count_append, count_marked, count_of_prefix, empty, front-marked, front_of_prefix, keep, mark, prefix-of-front}
+use Rattle.theory.proofs.Prefixes.{Front, count_append, count_marked, count_of_prefix, empty, front_marked, front_of_prefix, keep, mark, prefix_of_front}
 
 module _ (may : ℕ → ℕ → Bool) where
   pub front_keep_last : (e : ℕ) {w m r : List ℕ} → Front may w m r → Front may (w ++ (e ∷ [])) m (r ++ (e ∷ []))
@@ -42,7 +42,7 @@ module _ (may : ℕ → ℕ → Bool) (distinct : (a b : ℕ) → T (may a b) �
       → IsPrefix may (λ a. a) w c
       ⊎ ((d : ℕ → ℕ) × IsPrefix may (λ a. a) w d × (c ≡ more d e) × T (all (λ a. may a e) (unmarked (λ a. a) w d)))
   last_cases c p = ⊎_elim
-      (λ n. inl (subst (IsPrefix may (λ a. a) w) (count_of_prefix may (λ a. a) p) (prefix-of-front may (λ a. a) distinct n.2)))
+      (λ n. inl (subst (IsPrefix may (λ a. a) w) (count_of_prefix may (λ a. a) p) (prefix_of_front may (λ a. a) distinct n.2)))
       (λ n.
       let m = n.0 in
       let eq : c ≡ more (count (λ a. a) m) e = fun_ext (λ x. omega (
@@ -53,21 +53,21 @@ module _ (may : ℕ → ℕ → Bool) (distinct : (a b : ℕ) → T (may a b) �
       )) in
       inr (
         count (λ a. a) m,
-        prefix-of-front may (λ a. a) distinct n.2,
+        prefix_of_front may (λ a. a) distinct n.2,
         eq,
-        subst (λ l. T (all (λ a. may a e) l)) (sym (front-marked may (λ a. a) distinct n.2).1) n.3,
+        subst (λ l. T (all (λ a. may a e) l)) (sym (front_marked may (λ a. a) distinct n.2).1) n.3,
       ))
       (front_last may e w (front_of_prefix may (λ a. a) p))
 
   -- a prefix of w is one of the longer log, with the same marked events; and one more where e can be added
   pub keep_prefix : (c : ℕ → ℕ) → IsPrefix may (λ a. a) w c → IsPrefix may (λ a. a) (w ++ (e ∷ [])) c
   keep_prefix c p = subst (IsPrefix may (λ a. a) (w ++ (e ∷ []))) (count_of_prefix may (λ a. a) p)
-      (prefix-of-front may (λ a. a) distinct (front_keep_last may e (front_of_prefix may (λ a. a) p)))
+      (prefix_of_front may (λ a. a) distinct (front_keep_last may e (front_of_prefix may (λ a. a) p)))
 
   pub keep_marked : (c : ℕ → ℕ) → IsPrefix may (λ a. a) w c → marked (λ a. a) (w ++ (e ∷ [])) c ≡ marked (λ a. a) w c
-  keep_marked c p = ap (marked (λ a. a) (w ++ (e ∷ []))) (sym (count_of_prefix may (λ a. a) p)) ∙ (front-marked may (λ a. a) distinct (front_keep_last may e (front_of_prefix may (λ a. a) p))).0
+  keep_marked c p = ap (marked (λ a. a) (w ++ (e ∷ []))) (sym (count_of_prefix may (λ a. a) p)) ∙ (front_marked may (λ a. a) distinct (front_keep_last may e (front_of_prefix may (λ a. a) p))).0
 
   pub add_prefix : (c : ℕ → ℕ) → IsPrefix may (λ a. a) w c → T (all (λ a. may a e) (unmarked (λ a. a) w c)) → IsPrefix may (λ a. a) (w ++ (e ∷ [])) (more c e)
   add_prefix c p h = subst (IsPrefix may (λ a. a) (w ++ (e ∷ [])))
       (fun_ext (λ x. omega (arith, count_append may (λ a. a) (marked (λ a. a) w c) (e ∷ []) x, count_marked may (λ a. a) w c p.fits x)))
-      (prefix-of-front may (λ a. a) distinct (front_mark_last may e (front_of_prefix may (λ a. a) p) h))
+      (prefix_of_front may (λ a. a) distinct (front_mark_last may e (front_of_prefix may (λ a. a) p) h))

@@ -89,8 +89,8 @@ module _ (may : ℕ → ℕ → Bool) (distinct : (a b : ℕ) → T (may a b) �
         let s = filter_at (joins? may k w e) l d.1 in
         (d.0, s.0, s.1, d.2)
 
-    arrive-into : (c : List ℕ) → Mem c (arrive may k w e l) → Mem c (prefixes may (λ a. a) k (w ++ (e ∷ [])))
-    arrive-into c m = ⊎_elim
+    arrive_into : (c : List ℕ) → Mem c (arrive may k w e l) → Mem c (prefixes may (λ a. a) k (w ++ (e ∷ [])))
+    arrive_into c m = ⊎_elim
         (λ n. let p = sized c n in prefixes_of may (λ a. a) k (w ++ (e ∷ [])) c p.1 (keep_prefix may distinct w e (at c) p.2))
         (λ n.
         let d = come n in
@@ -101,8 +101,8 @@ module _ (may : ℕ → ℕ → Bool) (distinct : (a b : ℕ) → T (may a b) �
         (add_prefix may distinct w e (at d.0) p.2 (joins_at may distinct k w e before d.0 p.2 d.2)))))
         (Memᴰ.append_cases l m)
 
-    arrive-onto : (c : List ℕ) → Mem c (prefixes may (λ a. a) k (w ++ (e ∷ []))) → Mem c (arrive may k w e l)
-    arrive-onto c m =
+    arrive_onto : (c : List ℕ) → Mem c (prefixes may (λ a. a) k (w ++ (e ∷ []))) → Mem c (arrive may k w e l)
+    arrive_onto c m =
         let p = prefixes_at may (λ a. a) k (w ++ (e ∷ [])) c letters m in
         ⊎_elim
         (λ q. Memᴰ.append_left (newcomers may k w e l) (h.onto c (prefixes_of may (λ a. a) k w c p.0 q)))
@@ -115,8 +115,8 @@ module _ (may : ℕ → ℕ → Bool) (distinct : (a b : ℕ) → T (may a b) �
         (last_cases may distinct w e (at c) p.1)
 
     -- a newcomer has one event of e's letter more than w
-    pub more-than : (c : List ℕ) → Mem c (newcomers may k w e l) → at c e ≡ suc (count (λ x. x) w e)
-    more-than c n =
+    pub more_than : (c : List ℕ) → Mem c (newcomers may k w e l) → at c e ≡ suc (count (λ x. x) w e)
+    more_than c n =
         let d = come n in
         omega (
           arith,
@@ -125,19 +125,19 @@ module _ (may : ℕ → ℕ → Bool) (distinct : (a b : ℕ) → T (may a b) �
           ap (λ f. f e) (sym (ap (λ z. at z) d.3) ∙ at_bump d.0 e (sized d.0 d.1).0),
         )
 
-    arrive-once : NoDup (arrive may k w e l)
-    arrive-once = append_nodup l (newcomers may k w e l) h.once
+    arrive_once : NoDup (arrive may k w e l)
+    arrive_once = append_nodup l (newcomers may k w e l) h.once
         (map_nodup_on (λ c. with_one c e) (filter (joins? may k w e) l)
         (λ a b m n q.
         let u = sized a (filter_at (joins? may k w e) l m).0 in
         let v = sized b (filter_at (joins? may k w e) l n).0 in
         ext_get_or 0 a b (u.1 ∙ sym v.1) (λ i j. omega (arith, ap (λ f. f i) (sym (at_bump a e u.0) ∙ ap (λ z. at z) q ∙ at_bump b e v.0))))
         (filter_nodup (joins? may k w e) l h.once))
-        (λ c m n. omega (arith, (sized c m).2.fits e, more-than c n))
+        (λ c m n. omega (arith, (sized c m).2.fits e, more_than c n))
 
     -- after one event more
     pub listed_next : Listed may k (w ++ (e ∷ [])) (arrive may k w e l)
-    listed_next = record { once = arrive-once; into = arrive-into; onto = arrive-onto }
+    listed_next = record { once = arrive_once; into = arrive_into; onto = arrive_onto }
 
   -- a prefix without e keeps its forward set
   pub forward_keep : (M : Automaton) (c : ℕ → ℕ) → IsPrefix may (λ a. a) w c → forward may (λ a. a) M (w ++ (e ∷ [])) c ≡ forward may (λ a. a) M w c

@@ -13,9 +13,9 @@ use Rattle.profile.specs.Prefixes.{at}
 use Rattle.profile.proofs.Lists.{NoDup, all_split, lt_or_le, mem_getd, mem_place, nodup_place}
 use Rattle.theory.proofs.Prefixes.{one_other}
 use Rattle.arrival.specs.Arrival.{arrivals, newcomers, with_one}
-use Rattle.arrival.proofs.Arrivals.{arrivals_last, arrivals-listed}
+use Rattle.arrival.proofs.Arrivals.{arrivals_last, arrivals_listed}
 use Rattle.arrival.proofs.Between.{arrivals_between}
-use Rattle.arrival.proofs.Inner.{arrivals_inner, arrivals_kept, new-count, old-count, one_more_at}
+use Rattle.arrival.proofs.Inner.{arrivals_inner, arrivals_kept, new_count, old_count, one_more_at}
 use Rattle.arrival.proofs.Before.{Before, begins, behind}
 
 module _ {A : Type 0} (z : A) where
@@ -55,7 +55,7 @@ module _ (may : ℕ → ℕ → Bool) (distinct : (a b : ℕ) → T (may a b) �
   all = arrivals may k w
 
   once : NoDup all
-  once = (arrivals-listed may k distinct w letters).once
+  once = (arrivals_listed may k distinct w letters).once
 
   -- a prefix stands behind every prefix that it has one letter more than
   pub less_before : (b i j : ℕ) → b < k → i < length all → j < length all → with_one (get_or all j []) b ≡ get_or all i [] → j < i
@@ -99,7 +99,7 @@ module _ (may : ℕ → ℕ → Bool) (distinct : (a b : ℕ) → T (may a b) �
   -- what gives a new prefix by a letter other than that of the event is new
   pub less_new : (b i j : ℕ) → b < k → (b ≡ e → ⊥) → i < length new → j < length old → with_one (get_or old j []) b ≡ get_or new i [] → ⊥
   less_new b i j lb ne li lj q =
-      let h = arrivals-listed may k distinct w before_letters in
-      let o = old-count may distinct k w old e letters h (get_or old j []) (mem_getd old j [] lj) in
-      let n = new-count may distinct k w old e letters h (get_or new i []) (mem_getd new i [] li) in
+      let h = arrivals_listed may k distinct w before_letters in
+      let o = old_count may distinct k w old e letters h (get_or old j []) (mem_getd old j [] lj) in
+      let n = new_count may distinct k w old e letters h (get_or new i []) (mem_getd new i [] li) in
       omega (arith, o.1, n.1, one_more_at (get_or old j []) b k o.0 lb e, ap (λ v. at v e) q, one_other b e ne)

@@ -18,7 +18,7 @@ use Rattle.theory.proofs.Counting.{prefixes_at}
 use Rattle.theory.proofs.Packing.{packed_length}
 use Rattle.arrival.specs.Arrival.{Keeps, arrivals, newcomers, put_numbers, put_written, written}
 use Rattle.arrival.proofs.Events.{forward_keep}
-use Rattle.arrival.proofs.Arrivals.{arrivals_last, arrivals-listed}
+use Rattle.arrival.proofs.Arrivals.{arrivals_last, arrivals_listed}
 
 -- ---- numbers put in a list
 
@@ -147,7 +147,7 @@ module _ (may : ℕ → ℕ → Bool) (distinct : (a b : ℕ) → T (may a b) �
   -- record r of the old ones is what it was
   written_keep : (c : List ℕ) → Mem c (arrivals may k w) → written layout may M (w ++ (e ∷ [])) c ≡ written layout may M w c
   written_keep c m =
-      let p = prefixes_at may (λ a. a) k w c before_letters ((arrivals-listed may k distinct w before_letters).into c m) in
+      let p = prefixes_at may (λ a. a) k w c before_letters ((arrivals_listed may k distinct w before_letters).into c m) in
       ap (λ f. packed layout c ++ (f ∷ [])) (forward_keep may distinct k w e letters M (at c) p.1)
 
   module _ (t : List ℕ) (h : Keeps layout may M k w t) where
@@ -181,11 +181,11 @@ module _ (may : ℕ → ℕ → Bool) (distinct : (a b : ℕ) → T (may a b) �
       fit : 10 * (length (arrivals may k w) + length (newcomers may k w e (arrivals may k w))) ≤ length t
       fit = subst (λ n. 10 * n ≤ length t) arrivals_more room
 
-      pub keeps-length : length after ≡ length t
-      keeps-length = put_length may M (w ++ (e ∷ [])) (newcomers may k w e (arrivals may k w)) (length (arrivals may k w)) t fit
+      pub keeps_length : length after ≡ length t
+      keeps_length = put_length may M (w ++ (e ∷ [])) (newcomers may k w e (arrivals may k w)) (length (arrivals may k w)) t fit
 
-      pub keeps-next : Keeps layout may M k (w ++ (e ∷ [])) after
-      keeps-next = record {
-        fits = omega (arith, room, keeps-length);
+      pub keeps_next : Keeps layout may M k (w ++ (e ∷ [])) after
+      keeps_next = record {
+        fits = omega (arith, room, keeps_length);
         holds = λ r j lr lj. put_holds (newcomers may k w e (arrivals may k w)) [] (sym (append-nil (newcomers may k w e (arrivals may k w)))) fit r j (omega (arith, lr, arrivals_more)) (omega (arith, lj));
       }

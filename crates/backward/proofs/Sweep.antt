@@ -9,7 +9,7 @@ use Rattle.theory.proofs.Counting.{prefixes_of}
 use Rattle.theory.proofs.Levels.{at_bump, bump, by_total_nodup, by_total_of, debump, level_next}
 use Rattle.theory.proofs.LetterOrder.{earlier_irrefl, earlier_trans}
 use Rattle.theory.proofs.Merge.{bump_earlier, level_at}
-use Rattle.theory.proofs.Prefixes.{addable-of, removable-at, removable-of, removable?}
+use Rattle.theory.proofs.Prefixes.{addable_of, removable_at, removable_of, removable?}
 use Rattle.theory.proofs.RecordOrder.{by_total_sorted, ranked_getd, ranked_total}
 use Rattle.theory.proofs.Refusals.{GoodEvents}
 use Rattle.records.specs.Drafts.{in_order, of_total}
@@ -77,14 +77,14 @@ module _ {p : Rules} {w : List ℕ} (log : GoodEvents p w) where
 
   module _ (x : ℕ) (lt : x < k) where
     -- a letter that can be added leads to a record, where it can be taken away
-    pub child-of : (i : ℕ) → i < length L → T (adds i x) → (j : ℕ) × Child x i j × T (takes j x)
-    child-of i h t =
+    pub child_of : (i : ℕ) → i < length L → T (adds i x) → (j : ℕ) × Child x i j × T (takes j x)
+    child_of i h t =
         let c = get_or L i [] in
         let n = level_of_record i h in
         let q = level_at p.may p.letter k w n.0 c log.letters n.1 in
         let up = level_at p.may p.letter k w (suc n.0) (bump c x) log.letters (level_next p.may p.letter log.apart k w log.letters n.0 x c n.1 lt t) in
         let j = place_of (bump c x) up.0 up.1 in
-        (j.0, (h, j.1, t, j.2), (removable-of p.may p.letter log.apart (at (get_or L j.0 [])) x q.1 (ap at j.2 ∙ at_bump c x (omega (arith, q.0)))).0)
+        (j.0, (h, j.1, t, j.2), (removable_of p.may p.letter log.apart (at (get_or L j.0 [])) x q.1 (ap at j.2 ∙ at_bump c x (omega (arith, q.0)))).0)
 
     -- and a letter that can be taken away comes so
     pub parent_of : (j : ℕ) → j < length L → T (takes j x) → (i : ℕ) × Child x i j
@@ -92,11 +92,11 @@ module _ {p : Rules} {w : List ℕ} (log : GoodEvents p w) where
         let d = get_or L j [] in
         let n = level_of_record j h in
         let q = level_at p.may p.letter k w n.0 d log.letters n.1 in
-        let r = removable-at p.may p.letter log.apart q.1 t in
+        let r = removable_at p.may p.letter log.apart q.1 t in
         let b = debump d x (less (at d) x) (omega (arith, q.0)) (sym r.4) in
         let c = b.0 in
         let i = place_of c (b.1 ∙ q.0) (subst (IsPrefix p.may p.letter w) (sym b.2) r.0) in
-        let a : T (addable? p.may p.letter w (at c) x) = addable-of p.may p.letter log.apart (at c) x (subst (IsPrefix p.may p.letter w) (sym (ap (λ f. more f x) b.2 ∙ r.4)) q.1) in
+        let a : T (addable? p.may p.letter w (at c) x) = addable_of p.may p.letter log.apart (at c) x (subst (IsPrefix p.may p.letter w) (sym (ap (λ f. more f x) b.2 ∙ r.4)) q.1) in
         (i.0, (i.1, h, subst (λ v. T (addable? p.may p.letter w (at v) x)) (sym i.2) a, sym b.3 ∙ ap (λ v. bump v x) (sym i.2)))
 
     total_more : (i : ℕ) → i < length L → T (adds i x) → total (bump (get_or L i []) x) ≡ suc (total (get_or L i []))
@@ -108,26 +108,26 @@ module _ {p : Rules} {w : List ℕ} (log : GoodEvents p w) where
         up.2 ∙ ap suc (sym q.2)
 
     -- the record with one letter more in the order of totals and counts
-    ranked-bump : (i : ℕ) → i < length L → T (adds i x) → ranked (bump (get_or L i []) x) ≡ bump (bump (ranked (get_or L i [])) (suc x)) 0
-    ranked-bump i h t = ap (λ m. m ∷ bump (get_or L i []) x) (total_more i h t)
+    ranked_bump : (i : ℕ) → i < length L → T (adds i x) → ranked (bump (get_or L i []) x) ≡ bump (bump (ranked (get_or L i [])) (suc x)) 0
+    ranked_bump i h t = ap (λ m. m ∷ bump (get_or L i []) x) (total_more i h t)
 
-    counts-length : (i : ℕ) → i < length L → length (get_or L i []) ≡ k
-    counts-length i h = let n = level_of_record i h in (level_at p.may p.letter k w n.0 (get_or L i []) log.letters n.1).0
+    counts_length : (i : ℕ) → i < length L → length (get_or L i []) ≡ k
+    counts_length i h = let n = level_of_record i h in (level_at p.may p.letter k w n.0 (get_or L i []) log.letters n.1).0
 
-    bump-length : (i : ℕ) → i < length L → length (bump (get_or L i []) x) ≡ k
-    bump-length i h = length-set (get_or L i []) x (suc (at (get_or L i []) x)) ∙ counts-length i h
+    bump_length : (i : ℕ) → i < length L → length (bump (get_or L i []) x) ≡ k
+    bump_length i h = length-set (get_or L i []) x (suc (at (get_or L i []) x)) ∙ counts_length i h
 
     -- records in order lead to records in order
-    pub children-order : (i i₂ j j₂ : ℕ) → i < i₂ → Child x i j → Child x i₂ j₂ → j < j₂
-    children-order i i₂ j j₂ l a b = ⊎_elim (λ h. h) (λ h. absurd (wrong h)) (lt_or_le j j₂)
+    pub children_order : (i i₂ j j₂ : ℕ) → i < i₂ → Child x i j → Child x i₂ j₂ → j < j₂
+    children_order i i₂ j j₂ l a b = ⊎_elim (λ h. h) (λ h. absurd (wrong h)) (lt_or_le j j₂)
       where
         r : ℕ → List ℕ
         r m = ranked (get_or L m [])
 
         rises : Earlier (r j) (r j₂)
-        rises = subst₂ Earlier (sym (ap ranked a.3 ∙ ranked-bump i a.0 a.2)) (sym (ap ranked b.3 ∙ ranked-bump i₂ b.0 b.2))
-            (bump_earlier (bump (r i) (suc x)) (bump (r i₂) (suc x)) 0 (ap suc (bump-length i a.0 ∙ sym (bump-length i₂ b.0)))
-            (bump_earlier (r i) (r i₂) (suc x) (ap suc (counts-length i a.0 ∙ sym (counts-length i₂ b.0))) (ranked_getd L (by_total_sorted p.may p.letter k w) i i₂ l b.0)))
+        rises = subst₂ Earlier (sym (ap ranked a.3 ∙ ranked_bump i a.0 a.2)) (sym (ap ranked b.3 ∙ ranked_bump i₂ b.0 b.2))
+            (bump_earlier (bump (r i) (suc x)) (bump (r i₂) (suc x)) 0 (ap suc (bump_length i a.0 ∙ sym (bump_length i₂ b.0)))
+            (bump_earlier (r i) (r i₂) (suc x) (ap suc (counts_length i a.0 ∙ sym (counts_length i₂ b.0))) (ranked_getd L (by_total_sorted p.may p.letter k w) i i₂ l b.0)))
 
         wrong : j₂ ≤ j → ⊥
         wrong h = ⊎_elim
@@ -136,12 +136,12 @@ module _ {p : Rules} {w : List ℕ} (log : GoodEvents p w) where
             (lt_or_le j₂ j)
 
     -- a record leads to one record
-    pub one-child : (i j j₂ : ℕ) → Child x i j → Child x i j₂ → j ≡ j₂
-    one-child i j j₂ a b = nodup_place L [] (by_total_nodup p.may p.letter k w) j j₂ a.1 b.1 (a.3 ∙ sym b.3)
+    pub one_child : (i j j₂ : ℕ) → Child x i j → Child x i j₂ → j ≡ j₂
+    one_child i j j₂ a b = nodup_place L [] (by_total_nodup p.may p.letter k w) j j₂ a.1 b.1 (a.3 ∙ sym b.3)
 
     -- one letter more stands further on
-    pub child-later : (i j : ℕ) → Child x i j → i < j
-    child-later i j a = ⊎_elim (λ h. h) (λ h. absurd (wrong h)) (lt_or_le i j)
+    pub child_later : (i j : ℕ) → Child x i j → i < j
+    child_later i j a = ⊎_elim (λ h. h) (λ h. absurd (wrong h)) (lt_or_le i j)
       where
         wrong : j ≤ i → ⊥
         wrong h =
@@ -164,7 +164,7 @@ module _ {p : Rules} {w : List ℕ} (log : GoodEvents p w) where
   cursor_start x i lt h = record {
     inside = omega arith;
     before = λ m j l a. a.1;
-    behind = λ m j l a. omega (arith, child-later x lt m j a, a.1);
+    behind = λ m j l a. omega (arith, child_later x lt m j a, a.1);
   }
 
   -- letter x cannot be added to record i
@@ -181,33 +181,33 @@ module _ {p : Rules} {w : List ℕ} (log : GoodEvents p w) where
   -- letter x can be added to record i: the last record before the cursor at which it can be taken away has one x more, and there the cursor moves
   module _ (x i q : ℕ) (lt : x < k) (h : i < length L) (t : T (adds i x)) (c : Cursor x (suc i) q) where
     abbrev child : ℕ
-    child = (child-of x lt i h t).0
+    child = (child_of x lt i h t).0
 
-    is-child : Child x i child
-    is-child = (child-of x lt i h t).1
+    is_child : Child x i child
+    is_child = (child_of x lt i h t).1
 
-    pub cursor-finds : (f : ℕ → Bool) → ((j : ℕ) → i < j → j < length L → f j ≡ takes j x) → last_below f q ≡ child
-    cursor-finds f same =
-        let a = is-child in
-        let later = child-later x lt i child a in
-        last_is f q child (c.before i child (omega arith) a) (subst T (sym (same child later a.1)) (child-of x lt i h t).2)
+    pub cursor_finds : (f : ℕ → Bool) → ((j : ℕ) → i < j → j < length L → f j ≡ takes j x) → last_below f q ≡ child
+    cursor_finds f same =
+        let a = is_child in
+        let later = child_later x lt i child a in
+        last_is f q child (c.before i child (omega arith) a) (subst T (sym (same child later a.1)) (child_of x lt i h t).2)
         (λ j l g y.
         let u = parent_of x lt j (omega (arith, c.inside)) (subst T (same j (omega arith) (omega (arith, c.inside))) y) in
         let m = u.0 in
         ⊎_elim
         (λ s. omega (arith, c.behind m j s u.1))
         (λ s. ⊎_elim
-        (λ r. omega (arith, children-order x lt m i j child r u.1 a))
-        (λ r. let e : m ≡ i = omega arith in omega (arith, one-child x lt i j child (subst (λ m. Child x m j) e u.1) a))
+        (λ r. omega (arith, children_order x lt m i j child r u.1 a))
+        (λ r. let e : m ≡ i = omega arith in omega (arith, one_child x lt i j child (subst (λ m. Child x m j) e u.1) a))
         (lt_or_le m i))
         (lt_or_le i m))
 
-    pub cursor-moves : Cursor x i child
-    cursor-moves = record {
-      inside = omega (arith, is-child.1);
-      before = λ m j l a. children-order x lt m i j child l a is-child;
+    pub cursor_moves : Cursor x i child
+    cursor_moves = record {
+      inside = omega (arith, is_child.1);
+      before = λ m j l a. children_order x lt m i j child l a is_child;
       behind = λ m j l a. ⊎_elim
-          (λ s. let g = children-order x lt i m child j s is-child a in omega arith)
-          (λ s. let e : m ≡ i = omega arith in omega (arith, one-child x lt i j child (subst (λ m. Child x m j) e a) is-child))
+          (λ s. let g = children_order x lt i m child j s is_child a in omega arith)
+          (λ s. let e : m ≡ i = omega arith in omega (arith, one_child x lt i j child (subst (λ m. Child x m j) e a) is_child))
           (lt_or_le i m);
     }

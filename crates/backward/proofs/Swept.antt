@@ -2,7 +2,7 @@
 use Rattle.std.proofs.Common.{◌≡◌, ℕ, zero, suc, ◌+◌, ◌-◌, ◌*◌, ◌/◌, ◌%◌, ◌<◌, ◌≤◌, Bool, cond, T, List, [], ◌∷◌, ◌++◌, map, length, get_or, take, drop, set, sym, refl, ap, ◌∙◌, subst, ap₂, ⊎_elim, append_assoc, append-nil, arith, length-append, length-drop, length-take-le, get_or-drop, drop-cons, get_or-take, take-suc, get_or-append-add, drop-set-lt}
 use mathlib.Core.List.Memᴰ
 use lib.ListN.{get_or-eq_default, get_or-append}
-use lib.Seq.{drop_length, get_or-append_seam, set-append_left, take-length}
+use lib.Seq.{drop-length, get_or-append_seam, set-append_left, take-length}
 use Rattle.profile.specs.Limits.{most_letters}
 use Rattle.profile.specs.Rules.{Rules}
 use Rattle.profile.specs.Automata.{automaton, backward_step, union}
@@ -13,7 +13,7 @@ use Rattle.profile.specs.Traces.{bit}
 use Rattle.profile.proofs.Lists.{below_at, below_suc, filter_agree, filter_at, flat_map_append, flat_map_getd, flat_map_length, is_false, is_true, lt_or_le, mem_getd, nodup_place, test}
 use Rattle.profile.proofs.Sets.{union_agree}
 use Rattle.theory.proofs.Levels.{bump, by_total_length, by_total_nodup, le_total}
-use Rattle.theory.proofs.Merge.{backward-level, backward-whole, level_at, level_left, level_whole}
+use Rattle.theory.proofs.Merge.{backward_level, backward_whole, level_at, level_left, level_whole}
 use Rattle.theory.proofs.Prefixes.{removable?}
 use Rattle.theory.proofs.Profiles.{lawful}
 use Rattle.theory.proofs.Refusals.{GoodEvents, GoodProfile}
@@ -24,7 +24,7 @@ use Rattle.records.proofs.Drafts.{drafts_length}
 use Rattle.records.proofs.Halves.{lower_half, upper_half}
 use Rattle.backward.specs.Backward.{Drafted, Inside, back_from, clear_at, cleared, done_at, flag_before, flag_bit, flag_number, flag?, letters_at, moved, with_flags, without_flags}
 use Rattle.backward.proofs.FlagBits.{flag_high, flag_low, pack_two, without_with}
-use Rattle.backward.proofs.Sweep.{Child, Cursor, child-later, child-of, cursor-finds, cursor-moves, cursor_start, cursor_stays, level_of_record}
+use Rattle.backward.proofs.Sweep.{Child, Cursor, child_later, child_of, cursor_finds, cursor_moves, cursor_start, cursor_stays, level_of_record}
 
 -- ---- a part v of a list, behind n others
 
@@ -107,8 +107,8 @@ module _ (p : Rules) (w : List ℕ) where
 
   module _ (t rest : List ℕ) (i : ℕ) (h : i ≤ length L) (e : Parted p w t rest i) where
     -- the records are in the table
-    pub parted-room : 10 * length L ≤ length t
-    parted-room = omega (
+    pub parted_room : 10 * length L ≤ length t
+    parted_room = omega (
       arith,
       ap length e,
       length-append (drafted p w (take i L)) (flat_map (done p w) (drop i L) ++ rest),
@@ -119,15 +119,15 @@ module _ (p : Rules) (w : List ℕ) where
     )
 
     -- number n of record j
-    drafted-number : (j n : ℕ) → j < i → n < 10 → get_or t (10 * j + n) 0 ≡ get_or (draft (forward_set p w) (letters_set p w) (get_or L j [])) n 0
-    drafted-number j n l k =
+    drafted_number : (j n : ℕ) → j < i → n < 10 → get_or t (10 * j + n) 0 ≡ get_or (draft (forward_set p w) (letters_set p w) (get_or L j [])) n 0
+    drafted_number j n l k =
         ap (λ u. get_or u (10 * j + n) 0) e
         ∙ get_or-append (drafted p w (take i L)) (flat_map (done p w) (drop i L) ++ rest) 0 (10 * j + n) (omega (arith, drafts_of i h))
         ∙ flat_map_getd (draft (forward_set p w) (letters_set p w)) 10 (λ c. refl) (take i L) j n [] 0 (omega (arith, length-take-le i L h)) k
         ∙ ap (λ c. get_or (draft (forward_set p w) (letters_set p w) c) n 0) (get_or-take i L j [] l)
 
-    done-number : (j n : ℕ) → i ≤ j → j < length L → n < 10 → get_or t (10 * j + n) 0 ≡ get_or (done p w (get_or L j [])) n 0
-    done-number j n l g k =
+    done_number : (j n : ℕ) → i ≤ j → j < length L → n < 10 → get_or t (10 * j + n) 0 ≡ get_or (done p w (get_or L j [])) n 0
+    done_number j n l g k =
         let m = j - i in
         let s : i + m ≡ j = omega arith in
         let q : 10 * j + n ≡ length (drafted p w (take i L)) + (10 * m + n) = omega (arith, drafts_of i h) in
@@ -181,17 +181,17 @@ module _ {p : Rules} {w : List ℕ} (good : GoodProfile p.profile) (log : GoodEv
     abbrev counts : List ℕ
     counts = get_or (L p w) i []
 
-    number-6 : get_or (packed layout counts) 6 0 ≡ at counts 12 + 65536 * at counts 13
-    number-6 = pack_two (drop 12 counts) ∙ ap₂ (λ m n. m + 65536 * n) (get_or-drop 12 counts 0 0) (get_or-drop 12 counts 1 0)
+    number_6 : get_or (packed layout counts) 6 0 ≡ at counts 12 + 65536 * at counts 13
+    number_6 = pack_two (drop 12 counts) ∙ ap₂ (λ m n. m + 65536 * n) (get_or-drop 12 counts 0 0) (get_or-drop 12 counts 1 0)
 
-    number-7 : get_or (packed layout counts) 7 0 ≡ at counts 14 + 65536 * at counts 15
-    number-7 = pack_two (drop 14 counts) ∙ ap₂ (λ m n. m + 65536 * n) (get_or-drop 14 counts 0 0) (get_or-drop 14 counts 1 0)
+    number_7 : get_or (packed layout counts) 7 0 ≡ at counts 14 + 65536 * at counts 15
+    number_7 = pack_two (drop 14 counts) ∙ ap₂ (λ m n. m + 65536 * n) (get_or-drop 14 counts 0 0) (get_or-drop 14 counts 1 0)
 
-    clears-6 : (S : ℕ) → without_flags (with_flags (get_or (packed layout counts) 6 0) S) ≡ get_or (packed layout counts) 6 0
-    clears-6 S = ap (λ n. without_flags (with_flags n S)) number-6 ∙ without_with (at counts 12) (at counts 13) (small i h 12) (small i h 13) S ∙ sym number-6
+    clears_6 : (S : ℕ) → without_flags (with_flags (get_or (packed layout counts) 6 0) S) ≡ get_or (packed layout counts) 6 0
+    clears_6 S = ap (λ n. without_flags (with_flags n S)) number_6 ∙ without_with (at counts 12) (at counts 13) (small i h 12) (small i h 13) S ∙ sym number_6
 
-    clears-7 : (S : ℕ) → without_flags (with_flags (get_or (packed layout counts) 7 0) S) ≡ get_or (packed layout counts) 7 0
-    clears-7 S = ap (λ n. without_flags (with_flags n S)) number-7 ∙ without_with (at counts 14) (at counts 15) (small i h 14) (small i h 15) S ∙ sym number-7
+    clears_7 : (S : ℕ) → without_flags (with_flags (get_or (packed layout counts) 7 0) S) ≡ get_or (packed layout counts) 7 0
+    clears_7 S = ap (λ n. without_flags (with_flags n S)) number_7 ∙ without_with (at counts 14) (at counts 15) (small i h 14) (small i h 15) S ∙ sym number_7
 
     -- the flags of a record that is done are the letters that can be taken away
     flag_is : (x : ℕ) → x < k → bit (get_or (done p w counts) (flag_number x) 0) (flag_bit x) ≡ removable? p.may p.letter w (at counts) x
@@ -201,11 +201,11 @@ module _ {p : Rules} {w : List ℕ} (good : GoodProfile p.profile) (log : GoodEv
         ⊎_elim
         (λ l.
         let e : flag_number x ≡ 6 = omega arith in
-        ap (λ n. bit (get_or (done p w counts) n 0) (flag_bit x)) e ∙ ap (λ n. bit (with_flags n R) (flag_bit x)) number-6
+        ap (λ n. bit (get_or (done p w counts) n 0) (flag_bit x)) e ∙ ap (λ n. bit (with_flags n R) (flag_bit x)) number_6
         ∙ flag_low (at counts 12) (at counts 13) (small i h 12) (small i h 13) R x l ∙ upper)
         (λ l.
         let e : flag_number x ≡ 7 = omega arith in
-        ap (λ n. bit (get_or (done p w counts) n 0) (flag_bit x)) e ∙ ap (λ n. bit (with_flags n (R / 256)) (flag_bit x)) number-7
+        ap (λ n. bit (get_or (done p w counts) n 0) (flag_bit x)) e ∙ ap (λ n. bit (with_flags n (R / 256)) (flag_bit x)) number_7
         ∙ flag_high (at counts 14) (at counts 15) (small i h 14) (small i h 15) R x l (omega arith) ∙ upper)
         (lt_or_le x 8)
 
@@ -227,7 +227,7 @@ module _ {p : Rules} {w : List ℕ} (good : GoodProfile p.profile) (log : GoodEv
       ap₂ (λ l n. get_or l n []) ends_whole s ∙ get_or-append_seam (flat_map (of_total p w) (below (length w))) whole [] []
 
   last_back : backward_set p w (get_or (L p w) (length (L p w) - 1) []) ≡ p.profile.finals
-  last_back = ap (backward_set p w) last_whole ∙ backward-whole p.may p.letter log.apart k w log.letters (automaton p.profile) (lawful p.profile)
+  last_back = ap (backward_set p w) last_whole ∙ backward_whole p.may p.letter log.apart k w log.letters (automaton p.profile) (lawful p.profile)
 
   -- a record before the last is not of the last total
   total_before : (i : ℕ) (h : i < length (L p w)) → suc i < length (L p w) → (level_of_record log i h).0 < length w
@@ -257,37 +257,37 @@ module _ {p : Rules} {w : List ℕ} (good : GoodProfile p.profile) (log : GoodEv
     abbrev adds : ℕ → Bool
     adds x = addable? p.may p.letter w (at c) x
 
-    pub swept-inside : Inside t i k from
-    swept-inside = record {
-      record_in = omega (arith, here, parted-room p w t rest (suc i) s.inside s.written);
-      cursors_in = λ x l. omega (arith, (s.cursors x l).inside, parted-room p w t rest (suc i) s.inside s.written);
+    pub swept_inside : Inside t i k from
+    swept_inside = record {
+      record_in = omega (arith, here, parted_room p w t rest (suc i) s.inside s.written);
+      cursors_in = λ x l. omega (arith, (s.cursors x l).inside, parted_room p w t rest (suc i) s.inside s.written);
     }
 
-    letters-is : letters_at t i ≡ addable_set p w c
-    letters-is = ap (λ n. n % 65536) (drafted-number p w t rest (suc i) s.inside s.written i 9 (omega arith) (omega arith)) ∙ lower_half p w c few
+    letters_is : letters_at t i ≡ addable_set p w c
+    letters_is = ap (λ n. n % 65536) (drafted_number p w t rest (suc i) s.inside s.written i 9 (omega arith) (omega arith)) ∙ lower_half p w c few
 
     letter_is : (x : ℕ) → x < k → bit (letters_at t i) x ≡ adds x
-    letter_is x l = ap (λ S. bit S x) letters-is ∙ passing_bit adds k x l
+    letter_is x l = ap (λ S. bit S x) letters_is ∙ passing_bit adds k x l
 
     -- where the cursor of a letter that can be added moves to
     module _ (x : ℕ) (l : x < k) (y : T (adds x)) where
       abbrev child : ℕ
-      child = (child-of log x l i here y).0
+      child = (child_of log x l i here y).0
 
-      is-child : Child log x i child
-      is-child = (child-of log x l i here y).1
+      is_child : Child log x i child
+      is_child = (child_of log x l i here y).1
 
       found : flag_before t x (from x) ≡ child
-      found = cursor-finds log x i (from x) l here y (s.cursors x l) (flag? t x)
-          (λ j a b. ap (λ n. bit n (flag_bit x)) (done-number p w t rest (suc i) s.inside s.written j (flag_number x) (omega arith) b (omega arith)) ∙ flag_is j b x l)
+      found = cursor_finds log x i (from x) l here y (s.cursors x l) (flag? t x)
+          (λ j a b. ap (λ n. bit n (flag_bit x)) (done_number p w t rest (suc i) s.inside s.written j (flag_number x) (omega arith) b (omega arith)) ∙ flag_is j b x l)
 
       last_found : last_at t (flag_before t x (from x)) ≡ backward_set p w (bump c x)
       last_found = ap (last_at t) found
-          ∙ done-number p w t rest (suc i) s.inside s.written child 9 (omega (arith, child-later log x l i child is-child)) is-child.1 (omega arith)
-          ∙ ap (backward_set p w) is-child.3
+          ∙ done_number p w t rest (suc i) s.inside s.written child 9 (omega (arith, child_later log x l i child is_child)) is_child.1 (omega arith)
+          ∙ ap (backward_set p w) is_child.3
 
-    pub swept-back : suc i < length (L p w) → back_from t i k p.profile.s p.profile.moves from ≡ backward_set p w c
-    swept-back before =
+    pub swept_back : suc i < length (L p w) → back_from t i k p.profile.s p.profile.moves from ≡ backward_set p w c
+    swept_back before =
         let f : ℕ → ℕ = λ x. backward_step k p.profile.s p.profile.moves (last_at t (flag_before t x (from x))) x in
         let n = level_of_record log i here in
         ap (union f) (filter_agree (bit (letters_at t i)) adds (below k) (λ x m. letter_is x (below_at k x m)))
@@ -295,20 +295,20 @@ module _ {p : Rules} {w : List ℕ} (good : GoodProfile p.profile) (log : GoodEv
         (λ x m.
         let d = filter_at adds (below k) m in
         ap (λ S. backward_step k p.profile.s p.profile.moves S x) (last_found x (below_at k x d.0) d.1))
-        ∙ sym (backward-level p.may p.letter log.apart k w log.letters (automaton p.profile) (lawful p.profile) n.0 c n.1 (total_before i here before))
+        ∙ sym (backward_level p.may p.letter log.apart k w log.letters (automaton p.profile) (lawful p.profile) n.0 c n.1 (total_before i here before))
 
     moved_cursor : (x : ℕ) → x < k → Cursor log x i (moved t i from x)
     moved_cursor x l = ⊎_elim
         (λ y.
         let e : moved t i from x ≡ child x l y = ap (λ b. cond b (flag_before t x (from x)) (from x)) (letter_is x l ∙ is_true (adds x) y) ∙ found x l y in
-        subst (Cursor log x i) (sym e) (cursor-moves log x i (from x) l here y (s.cursors x l)))
+        subst (Cursor log x i) (sym e) (cursor_moves log x i (from x) l here y (s.cursors x l)))
         (λ y.
         let e : moved t i from x ≡ from x = ap (λ b. cond b (flag_before t x (from x)) (from x)) (letter_is x l ∙ is_false (adds x) y) in
         subst (Cursor log x i) (sym e) (cursor_stays log x i (from x) y (s.cursors x l)))
         (test (adds x))
 
-    pub swept-next : (after : ℕ → ℕ) → ((x : ℕ) → x < k → after x ≡ moved t i from x) → Swept log (done_at t i (backward_set p w c)) rest i after
-    swept-next after e = record {
+    pub swept_next : (after : ℕ → ℕ) → ((x : ℕ) → x < k → after x ≡ moved t i from x) → Swept log (done_at t i (backward_set p w c)) rest i after
+    swept_next after e = record {
       inside = omega (arith, here);
       written = parted_next p w few t rest i here s.written;
       cursors = λ x l. subst (Cursor log x i) (sym (e x l)) (moved_cursor x l);
@@ -317,18 +317,18 @@ module _ {p : Rules} {w : List ℕ} (good : GoodProfile p.profile) (log : GoodEv
   -- ---- the first step and the last
 
   module _ (t : List ℕ) (records : ℕ) (d : Drafted p w t records) where
-    pub records-are : records ≡ length (L p w)
-    records-are = d.whole ∙ sym (by_total_length p.may p.letter k w log.letters)
+    pub records_are : records ≡ length (L p w)
+    records_are = d.whole ∙ sym (by_total_length p.may p.letter k w log.letters)
 
-    pub records-any : 1 ≤ records
-    records-any = omega (arith, records-are, records_some)
+    pub records_any : 1 ≤ records
+    records_any = omega (arith, records_are, records_some)
 
-    pub swept-start : (from : ℕ → ℕ) → ((x : ℕ) → x < k → from x ≡ records)
+    pub swept_start : (from : ℕ → ℕ) → ((x : ℕ) → x < k → from x ≡ records)
         → Swept log (done_at t (records - 1) p.profile.finals) (drop (10 * records) t) (records - 1) from
-    swept-start from e = record {
-      inside = omega (arith, records-are);
-      written = subst (λ S. Parted p w (done_at t i S) rest i) back (parted_next p w few t rest i (omega (arith, records-are, records-any)) all);
-      cursors = λ x l. subst (Cursor log x i) (sym (e x l ∙ records-are)) (cursor_start log x i l (omega (arith, records-are)));
+    swept_start from e = record {
+      inside = omega (arith, records_are);
+      written = subst (λ S. Parted p w (done_at t i S) rest i) back (parted_next p w few t rest i (omega (arith, records_are, records_any)) all);
+      cursors = λ x l. subst (Cursor log x i) (sym (e x l ∙ records_are)) (cursor_start log x i l (omega (arith, records_are)));
     }
       where
         i : ℕ
@@ -338,12 +338,12 @@ module _ {p : Rules} {w : List ℕ} (good : GoodProfile p.profile) (log : GoodEv
         rest = drop (10 * records) t
 
         back : backward_set p w (get_or (L p w) i []) ≡ p.profile.finals
-        back = ap (λ n. backward_set p w (get_or (L p w) (n - 1) [])) records-are ∙ last_back
+        back = ap (λ n. backward_set p w (get_or (L p w) (n - 1) [])) records_are ∙ last_back
 
         all : Parted p w t rest (suc i)
         all =
-            let s : suc i ≡ length (L p w) = omega (arith, records-are, records-any) in
-            d.written ∙ ap₂ (λ C D. drafted p w C ++ (flat_map (done p w) D ++ rest)) (sym (ap (λ n. take n (L p w)) s ∙ take-length (L p w))) (sym (ap (λ n. drop n (L p w)) s ∙ drop_length (L p w)))
+            let s : suc i ≡ length (L p w) = omega (arith, records_are, records_any) in
+            d.written ∙ ap₂ (λ C D. drafted p w C ++ (flat_map (done p w) D ++ rest)) (sym (ap (λ n. take n (L p w)) s ∙ take-length (L p w))) (sym (ap (λ n. drop n (L p w)) s ∙ drop-length (L p w)))
 
   -- the flags of the first n records cleared
   cleared_part : (t rest : List ℕ) → Parted p w t rest 0 → (n : ℕ) → n ≤ length (L p w)
@@ -358,11 +358,11 @@ module _ {p : Rules} {w : List ℕ} (good : GoodProfile p.profile) (log : GoodEv
       let l : length X ≡ 10 * n = drafts_length (forward_set p w) (backward_set p w) (take n (L p w)) ∙ ap (λ m. 10 * m) (length-take-le n (L p w) (omega arith)) in
       ap (λ u. clear_at u n)
       (cleared_part t rest e n (omega arith) ∙ ap (λ C. X ++ (flat_map (done p w) C ++ rest)) (drop-cons (L p w) n [] lt) ∙ ap (λ u. X ++ u) (append_assoc (done p w c) Y rest))
-      ∙ clear_record (forward_set p w) (letters_set p w) (backward_set p w) (removable_set p w) X c (Y ++ rest) n l (clears-6 n lt r) (clears-7 n lt (r / 256))
+      ∙ clear_record (forward_set p w) (letters_set p w) (backward_set p w) (removable_set p w) X c (Y ++ rest) n l (clears_6 n lt r) (clears_7 n lt (r / 256))
       ∙ sym (append_assoc X (draft (forward_set p w) (backward_set p w) c) (Y ++ rest))
       ∙ ap (λ u. u ++ (Y ++ rest)) (sym (flat_map_append (draft (forward_set p w) (backward_set p w)) (take n (L p w)) (c ∷ [])))
       ∙ ap (λ C. filled p w C ++ (Y ++ rest)) (sym (take-suc (L p w) n [] lt))
 
   pub cleared_all : (t rest : List ℕ) (from : ℕ → ℕ) → Swept log t rest 0 from → (records : ℕ) → records ≡ length (L p w) → cleared t records ≡ filled p w (L p w) ++ rest
   cleared_all t rest from s records e = ap (cleared t) e ∙ cleared_part t rest s.written (length (L p w)) (omega arith)
-      ∙ ap₂ (λ C D. filled p w C ++ (flat_map (done p w) D ++ rest)) (take-length (L p w)) (drop_length (L p w))
+      ∙ ap₂ (λ C D. filled p w C ++ (flat_map (done p w) D ++ rest)) (take-length (L p w)) (drop-length (L p w))

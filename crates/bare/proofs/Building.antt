@@ -22,7 +22,7 @@ use Rattle.profile.proofs.Lists.{is_true, mem_place}
 use Rattle.theory.proofs.Levels.{by_total_length}
 use Rattle.theory.proofs.Refusals.{log_at, lowest_append, lowest_none, relation_at}
 use Rattle.theory.proofs.Profiles.{distinct}
-use Rattle.theory.proofs.Prefixes.{front_none, prefix-of-front}
+use Rattle.theory.proofs.Prefixes.{front_none, prefix_of_front}
 use Rattle.grammars.proofs.Places.{place_of}
 use Rattle.table.specs.Table.{build_refusals}
 use Rattle.table.specs.Table.{Promise as Filling}
@@ -60,7 +60,7 @@ module _ (k : ℕ) (masks moves w : List ℕ) (none_moves : (i : ℕ) → get_or
   some_prefix : 0 < length (by_total (independent masks) (λ a. a) k w)
   some_prefix =
       let d = distinct masks (relation_at k masks good).own in
-      let m = place_of (independent masks) d k w (log_at k w log).letters (prefix-of-front (independent masks) (λ a. a) d (front_none (independent masks) w)) in
+      let m = place_of (independent masks) d k w (log_at k w log).letters (prefix_of_front (independent masks) (λ a. a) d (front_none (independent masks) w)) in
       omega (arith, m.1)
 
   pub built_full : (before after : List ℕ) (r : Refusal) → Filling (silent k masks moves none_moves) w before after (Refused r) → BuiltIs k masks w before after (Refused r)

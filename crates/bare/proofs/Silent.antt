@@ -55,11 +55,11 @@ module _ (k : ℕ) (masks moves : List ℕ) (none_moves : (i : ℕ) → get_or m
   run_back_none (a ∷ u) = back_none (run_back (automaton silent) (λ x. x) 0 u) a
 
   module _ (w : List ℕ) where
-    pub backward-none : (c : ℕ → ℕ) → backward (independent masks) (λ a. a) (automaton silent) w c ≡ 0
-    backward-none c = union_zero (run_back (automaton silent) (λ x. x) 0) (orders (independent masks) (unmarked (λ a. a) w c)) (λ v m. run_back_none v)
+    pub backward_none : (c : ℕ → ℕ) → backward (independent masks) (λ a. a) (automaton silent) w c ≡ 0
+    backward_none c = union_zero (run_back (automaton silent) (λ x. x) 0) (orders (independent masks) (unmarked (λ a. a) w c)) (λ v m. run_back_none v)
 
-    pub forward-none : (c : ℕ → ℕ) → 1 ≤ length (marked (λ a. a) w c) → forward (independent masks) (λ a. a) (automaton silent) w c ≡ 0
-    forward-none c h = union_zero (run (automaton silent) (λ x. x) 1) (orders (independent masks) (marked (λ a. a) w c))
+    pub forward_none : (c : ℕ → ℕ) → 1 ≤ length (marked (λ a. a) w c) → forward (independent masks) (λ a. a) (automaton silent) w c ≡ 0
+    forward_none c h = union_zero (run (automaton silent) (λ x. x) 1) (orders (independent masks) (marked (λ a. a) w c))
         (λ v m. some v (takes_length (independent masks) (order_of_mem (independent masks) (marked (λ a. a) w c) m)))
       where
         some : (v : List ℕ) → length (marked (λ a. a) w c) ≡ length v + 0 → run (automaton silent) (λ x. x) 1 v ≡ 0
@@ -74,7 +74,7 @@ module _ (k : ℕ) (masks moves : List ℕ) (none_moves : (i : ℕ) → get_or m
         → ((c : List ℕ) → Mem c C → total c ≡ length (marked (λ a. a) w (at c))) → set (flat_map record_is C ++ rest) count_numbers 0 ≡ flat_map bare_record C ++ rest
     set_first [] rest h d lens sorted tot = absurd (omega arith)
     set_first (c ∷ C) rest h d lens sorted tot =
-        ap₂ (λ b l. packed layout c ++ (0 ∷ b ∷ (l ++ rest))) (backward-none (at c)) (flat_map_agree record_is bare_record C (λ e m. agree e m))
+        ap₂ (λ b l. packed layout c ++ (0 ∷ b ∷ (l ++ rest))) (backward_none (at c)) (flat_map_agree record_is bare_record C (λ e m. agree e m))
       where
         same_counts : (e : List ℕ) → Mem e C → total e ≡ 0 → c ≡ e
         same_counts e m z =
@@ -85,7 +85,7 @@ module _ (k : ℕ) (masks moves : List ℕ) (none_moves : (i : ℕ) → get_or m
             none_at c e x = ⊎_elim (λ h. omega (arith, le_total (mem_getd c x 0 h))) (λ h. get_or-eq_default c 0 h) (lt_or_le x (length c))
 
         agree : (e : List ℕ) → Mem e C → record_is e ≡ bare_record e
-        agree e m = ap₂ (λ f b. packed layout e ++ (f ∷ b ∷ [])) (forward-none (at e) (⊎_elim (λ h. h) (λ h. absurd (d.0 (subst (λ x. Mem x C) (sym (same_counts e m (omega (arith, tot e (Memᴰ.tail m))))) m))) (lt_or_le 0 (length (marked (λ a. a) w (at e)))))) (backward-none (at e))
+        agree e m = ap₂ (λ f b. packed layout e ++ (f ∷ b ∷ [])) (forward_none (at e) (⊎_elim (λ h. h) (λ h. absurd (d.0 (subst (λ x. Mem x C) (sym (same_counts e m (omega (arith, tot e (Memᴰ.tail m))))) m))) (lt_or_le 0 (length (marked (λ a. a) w (at e)))))) (backward_none (at e))
 
 -- the table of the silent profile, with 0 for the start in the first record, is the table with forward and backward 0
 module _ (k : ℕ) (masks moves : List ℕ) (none_moves : (i : ℕ) → get_or moves i 0 ≡ 0) (w : List ℕ) (letters : T (letters_below (λ a. a) k w)) (before : List ℕ) where

@@ -21,7 +21,7 @@ use Rattle.swaps.specs.Swaps.{swaps}
 use Rattle.closestanswer.specs.Answers.{PromiseBy, closest_refusals, refused_by}
 use Rattle.closestanswer.specs.declared.Closest.{Closest}
 use Rattle.closestanswer.specs.declared.Closest.TheVariants.{NoOrder, Order, Refused}
-use Rattle.closestanswer.proofs.Promises.{floor-holds-by, no_order_told_by, order-accepted-by, refused_exactly_by}
+use Rattle.closestanswer.proofs.Promises.{floor_holds_by, no_order_told_by, order_accepted_by, refused_exactly_by}
 use Rattle.closestterms.specs.Dated.{dated_closest_refusals}
 use Rattle.closest_calls.specs.Calls.{Closing, TermClosing, closest_code, closest_told}
 use Rattle.demands.specs.Admitted.{Admitted, AdmittedAndFits}
@@ -49,7 +49,7 @@ module _ (r : Rules) (w : List ℕ) (B : ℕ) (order order' table table' costs c
   no_order_in (Refused x) h e = absurd (some-ne-none x e)
   no_order_in (NoOrder P n) h e = ((λ z. no_order_told_by r w B order order' table table' costs costs' (lowest l) P n h), λ f. refl)
   no_order_in (Order P n c f) h e =
-      let x = (order-accepted-by r w B order order' table table' costs costs' (lowest l) P n c f h).0 in
+      let x = (order_accepted_by r w B order order' table table' costs costs' (lowest l) P n c f h).0 in
       ((λ z. absurd (omega arith)), λ g. absurd (g x.0 x.2))
 
   order_in : (a : Closest) → PromiseBy r w B order order' table table' costs costs' (lowest l) a → verdict_in (closest_told a) ≡ 1
@@ -58,29 +58,29 @@ module _ (r : Rules) (w : List ℕ) (B : ℕ) (order order' table table' costs c
   order_in (Refused x) h e = absurd (omega arith)
   order_in (NoOrder P n) h e = absurd (omega arith)
   order_in (Order P n c f) h e =
-      let x = order-accepted-by r w B order order' table table' costs costs' (lowest l) P n c f h in
-      (x.0, x.1, floor-holds-by r w B order order' table table' costs costs' (lowest l) P n c f h)
+      let x = order_accepted_by r w B order order' table table' costs costs' (lowest l) P n c f h in
+      (x.0, x.1, floor_holds_by r w B order order' table table' costs costs' (lowest l) P n c f h)
 
   module _ (code : ℕ) (told : List ℕ) (a : Closest) (call : PromiseBy r w B order order' table table' costs costs' (lowest l) a)
       (code_is : code ≡ closest_code a) (told_is : told ≡ closest_told a) where
     -- 0 is returned exactly when the log is admitted, to which 17 must not apply, and its prefixes fit the work table
-    pub zero-by : (code ≡ 0) ↔ AdmittedAndFits l (prefixes_by r w) (length table)
-    zero-by =
+    pub zero_by : (code ≡ 0) ↔ AdmittedAndFits l (prefixes_by r w) (length table)
+    zero_by =
         let z = zero_none a in
         let h = unrefused_exactly l (prefixes_by r w) (length table) tenth in
         (λ e. h.0 (sym call.refused ∙ z.0 (sym code_is ∙ e)), λ g. code_is ∙ z.1 (call.refused ∙ h.1 g))
 
     -- an admitted log gets 10 exactly when they do not
-    pub ten-by : Admitted l → (code ≡ 10) ↔ (capacity layout (length table) < prefixes_by r w)
-    ten-by g =
+    pub ten_by : Admitted l → (code ≡ 10) ↔ (capacity layout (length table) < prefixes_by r w)
+    ten_by g =
         let z = ten_refused a in
         let h = ten_exactly l (prefixes_by r w) (length table) tenth g in
         let x = refused_exactly_by r w B order order' table table' costs costs' (lowest l) a call FullTable in
         (λ e. h.0 (x.0 (z.0 (sym code_is ∙ e))), λ lt. code_is ∙ z.1 (x.1 (h.1 lt)))
 
     -- a refusal gives its number and its place
-    pub refusal-by : (x : Refusal) → lowest l ≡ some x → (code ≡ refusal_number x) × (told ≡ refusal_place x ∷ 0 ∷ 0 ∷ 0 ∷ 0 ∷ 0 ∷ [])
-    refusal-by x e =
+    pub refusal_by : (x : Refusal) → lowest l ≡ some x → (code ≡ refusal_number x) × (told ≡ refusal_place x ∷ 0 ∷ 0 ∷ 0 ∷ 0 ∷ 0 ∷ [])
+    refusal_by x e =
         let q = (refused_exactly_by r w B order order' table table' costs costs' (lowest l) a call x).1 e in
         (code_is ∙ ap closest_code q, told_is ∙ ap closest_told q)
 
@@ -107,14 +107,14 @@ module _ (p : Profile) (w : List ℕ) (B : ℕ) (order order' table table' costs
   tenth_is = or_none (full_table (prefixes_by (plain p) w) (length table))
 
   pub zero_admitted : (code ≡ 0) ↔ AdmittedAndFits (closest_refusals p w (length order) (length table) (length costs)) (prefixes_by (plain p) w) (length table)
-  zero_admitted = zero-by (plain p) w B order order' table table' costs costs' refusals tenth_is code told call.answer call.promise call.code_is call.told_is
+  zero_admitted = zero_by (plain p) w B order order' table table' costs costs' refusals tenth_is code told call.answer call.promise call.code_is call.told_is
 
   pub ten_admitted : Admitted (closest_refusals p w (length order) (length table) (length costs)) → (code ≡ 10) ↔ (capacity layout (length table) < prefixes_by (plain p) w)
-  ten_admitted = ten-by (plain p) w B order order' table table' costs costs' refusals tenth_is code told call.answer call.promise call.code_is call.told_is
+  ten_admitted = ten_by (plain p) w B order order' table table' costs costs' refusals tenth_is code told call.answer call.promise call.code_is call.told_is
 
   pub refusal_told : (x : Refusal) → lowest (closest_refusals p w (length order) (length table) (length costs)) ≡ some x
       → (code ≡ refusal_number x) × (told ≡ refusal_place x ∷ 0 ∷ 0 ∷ 0 ∷ 0 ∷ 0 ∷ [])
-  refusal_told = refusal-by (plain p) w B order order' table table' costs costs' refusals tenth_is code told call.answer call.promise call.code_is call.told_is
+  refusal_told = refusal_by (plain p) w B order order' table table' costs costs' refusals tenth_is code told call.answer call.promise call.code_is call.told_is
 
   pub no_order_told : code ≡ 0 → (verdict_in told ≡ 0) ↔ ((v : List ℕ) → WitnessBy (plain p) w v → ⊥)
   no_order_told = no_order_by (plain p) w B order order' table table' costs costs' refusals tenth_is code told call.answer call.promise call.code_is call.told_is
@@ -135,12 +135,12 @@ module _ (p : Profile) (w days terms : List ℕ) (B : ℕ) (order order' table t
   pub terms_zero_admitted : (code ≡ 0)
       ↔ AdmittedAndFits (dated_closest_refusals p w days terms (length order) (length table) (length costs)) (prefixes_by (with_terms p terms) (events w days)) (length table)
   terms_zero_admitted =
-      zero-by (with_terms p terms) (events w days) B order order' table table' costs costs' dated dated_tenth code told call.answer call.promise call.code_is call.told_is
+      zero_by (with_terms p terms) (events w days) B order order' table table' costs costs' dated dated_tenth code told call.answer call.promise call.code_is call.told_is
 
   pub terms_ten_admitted : Admitted (dated_closest_refusals p w days terms (length order) (length table) (length costs))
       → (code ≡ 10) ↔ (capacity layout (length table) < prefixes_by (with_terms p terms) (events w days))
   terms_ten_admitted =
-      ten-by (with_terms p terms) (events w days) B order order' table table' costs costs' dated dated_tenth code told call.answer call.promise call.code_is call.told_is
+      ten_by (with_terms p terms) (events w days) B order order' table table' costs costs' dated dated_tenth code told call.answer call.promise call.code_is call.told_is
 
   pub terms_no_order_told : code ≡ 0 → (verdict_in told ≡ 0) ↔ ((v : List ℕ) → WitnessBy (with_terms p terms) (events w days) v → ⊥)
   terms_no_order_told =

@@ -21,7 +21,7 @@ use Rattle.grammar_calls.specs.GrammarCalls as numbers
 use Rattle.demands.specs.Admitted.{Admitted}
 use Rattle.demands.proofs.Admission.{or_none, ten_exactly, unrefused_exactly}
 use Rattle.call_demands.specs.Told.{GrammarJudgeable, looks_in, prefixes_in, verdict_in}
-use Rattle.call_demands.proofs.Numbers.{code_ten, code_zero, told_equal, verdict-is}
+use Rattle.call_demands.proofs.Numbers.{code_ten, code_zero, told_equal, verdict_is}
 
 -- nothing refuses the call exactly when the log is admitted, which takes in that the second table has P × P entries, and its prefixes fit the work table
 pub judgeable : (k : ℕ) (masks : List ℕ) (names : ℕ) (rules w : List ℕ) (n m z : ℕ)
@@ -62,10 +62,10 @@ module _ (k : ℕ) (masks : List ℕ) (names : ℕ) (rules w order order' table 
     answered = call.promise.refused ∙ unrefused
 
     told_as : (v : ℕ) → (verdict_in told ≡ v) ↔ (verdict_number call.answer ≡ some v)
-    told_as v = verdict-is call.answer code told call.code_is call.told_is answered v
+    told_as v = verdict_is call.answer code told call.code_is call.told_is answered v
 
-    pub verdict-told : (verdict_in told ≡ 0) ⊎ (verdict_in told ≡ 1)
-    verdict-told = ⊎_elim (λ e. inl ((told_as 0).1 e)) (λ e. inr ((told_as 1).1 e))
+    pub verdict_told : (verdict_in told ≡ 0) ⊎ (verdict_in told ≡ 1)
+    verdict_told = ⊎_elim (λ e. inl ((told_as 0).1 e)) (λ e. inr ((told_as 1).1 e))
         (grammar.verdict-cases k masks names rules w order order' table table' sets sets' unrefused call.answer call.promise)
 
     -- "The verdict is 1 exactly when some reachable log can be derived from name 0": 0 exactly when none can

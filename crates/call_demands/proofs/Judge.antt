@@ -24,7 +24,7 @@ use Rattle.demands.specs.Traces.{HoldsTraces}
 use Rattle.demands.proofs.Demand2 as two
 use Rattle.demands.proofs.Demand3 as three
 use Rattle.call_demands.specs.Told.{looks_in, prefixes_in, verdict_in}
-use Rattle.call_demands.proofs.Numbers.{code_ten, code_zero, told_count, told_equal, verdict-is}
+use Rattle.call_demands.proofs.Numbers.{code_ten, code_zero, told_count, told_equal, verdict_is}
 
 module _ (p : Profile) (w order order' table table' : List ℕ) (code : ℕ) (told : List ℕ) (call : Judging p w order order' table table' code told) where
   -- 0 is returned exactly when the log is admitted and its prefixes fit the table
@@ -52,10 +52,10 @@ module _ (p : Profile) (w order order' table table' : List ℕ) (code : ℕ) (to
     answered = (three.unrefused-admitted p w order order' table table' call.answer call.promise).1 ready
 
     told_as : (v : ℕ) → (verdict_in told ≡ v) ↔ (verdict_number call.answer ≡ some v)
-    told_as v = verdict-is call.answer code told call.code_is call.told_is answered v
+    told_as v = verdict_is call.answer code told call.code_is call.told_is answered v
 
-    pub verdict-told : (verdict_in told ≡ 0) ⊎ (verdict_in told ≡ 1)
-    verdict-told = ⊎_elim (λ e. inl ((told_as 0).1 e)) (λ e. inr ((told_as 1).1 e)) (three.verdict-given p w order order' table table' ready call.answer call.promise)
+    pub verdict_told : (verdict_in told ≡ 0) ⊎ (verdict_in told ≡ 1)
+    verdict_told = ⊎_elim (λ e. inl ((told_as 0).1 e)) (λ e. inr ((told_as 1).1 e)) (three.verdict-given p w order order' table table' ready call.answer call.promise)
 
     -- "The log gets 'no order' exactly when no log reachable from it by exchanges is accepted."
     pub no_order_told : (verdict_in told ≡ 0) ↔ ((v : List ℕ) → Witness p w v → ⊥)

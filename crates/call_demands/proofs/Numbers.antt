@@ -66,17 +66,17 @@ module _ (j : Judged) (code : ℕ) (told : List ℕ) (code_is : code ≡ judged_
 
   -- the numbers told are the verdict, P and looks
   module _ (answered : refused_by j ≡ none) where
-    pub told-verdict : verdict_number j ≡ some (verdict_in told)
-    told-verdict = (told_in j answered).0 ∙ ap (λ t. some (verdict_in t)) (sym told_is)
+    pub told_verdict : verdict_number j ≡ some (verdict_in told)
+    told_verdict = (told_in j answered).0 ∙ ap (λ t. some (verdict_in t)) (sym told_is)
 
     pub told_count : told_prefixes j ≡ some (prefixes_in told)
     told_count = (told_in j answered).1 ∙ ap (λ t. some (prefixes_in t)) (sym told_is)
 
-    pub told-number : told_looks j ≡ some (looks_in told)
-    told-number = (told_in j answered).2 ∙ ap (λ t. some (looks_in t)) (sym told_is)
+    pub told_number : told_looks j ≡ some (looks_in told)
+    told_number = (told_in j answered).2 ∙ ap (λ t. some (looks_in t)) (sym told_is)
 
-    pub verdict-is : (v : ℕ) → (verdict_in told ≡ v) ↔ (verdict_number j ≡ some v)
-    verdict-is v = (λ e. told-verdict ∙ ap some e, λ e. some-injective _ _ (sym told-verdict ∙ e))
+    pub verdict_is : (v : ℕ) → (verdict_in told ≡ v) ↔ (verdict_number j ≡ some v)
+    verdict_is v = (λ e. told_verdict ∙ ap some e, λ e. some-injective _ _ (sym told_verdict ∙ e))
 
 -- two calls with the same answer tell the same
 module _ (i j : Judged) (code₁ code₂ : ℕ) (told₁ told₂ : List ℕ) (c₁ : code₁ ≡ judged_code i) (t₁ : told₁ ≡ judged_told i) (c₂ : code₂ ≡ judged_code j) (t₂ : told₂ ≡ judged_told j)
@@ -84,7 +84,7 @@ module _ (i j : Judged) (code₁ code₂ : ℕ) (told₁ told₂ : List ℕ) (c�
   pub told_equal : (verdict_number i ≡ verdict_number j) → (told_prefixes i ≡ told_prefixes j) → (told_looks i ≡ told_looks j)
       → (verdict_in told₁ ≡ verdict_in told₂) × (prefixes_in told₁ ≡ prefixes_in told₂) × (looks_in told₁ ≡ looks_in told₂)
   told_equal v P n = (
-    some-injective _ _ (sym (told-verdict i code₁ told₁ c₁ t₁ a₁) ∙ v ∙ told-verdict j code₂ told₂ c₂ t₂ a₂),
+    some-injective _ _ (sym (told_verdict i code₁ told₁ c₁ t₁ a₁) ∙ v ∙ told_verdict j code₂ told₂ c₂ t₂ a₂),
     some-injective _ _ (sym (told_count i code₁ told₁ c₁ t₁ a₁) ∙ P ∙ told_count j code₂ told₂ c₂ t₂ a₂),
-    some-injective _ _ (sym (told-number i code₁ told₁ c₁ t₁ a₁) ∙ n ∙ told-number j code₂ told₂ c₂ t₂ a₂),
+    some-injective _ _ (sym (told_number i code₁ told₁ c₁ t₁ a₁) ∙ n ∙ told_number j code₂ told₂ c₂ t₂ a₂),
   )

@@ -24,7 +24,7 @@ use Rattle.grammar_judge.specs.GrammarJudge.{grammar_refusals}
 use Rattle.capi.specs.Numbers.{Building, built_code, built_told, compared_code, compared_told, ordered_code}
 use Rattle.demands.specs.Admitted.{Buildable, admitted?}
 use Rattle.demands.specs.Traces.{HoldsTraces}
-use Rattle.demands.proofs.Demand2.{built_trace, first-trace, same_trace}
+use Rattle.demands.proofs.Demand2.{built_trace, first_trace, same_trace}
 use Rattle.demands.proofs.Demand3.{built_admitted}
 use Rattle.call_demands.proofs.Numbers.{zero_unused}
 
@@ -82,7 +82,7 @@ module _ (k : ℕ) (masks : List ℕ) (symmetric : Symmetric (independent masks)
       × ((u : List ℕ) → Congruent (independent masks) w u → NoLater (take (length w) after) u) × (drop (length w) after ≡ drop (length w) before)
   first_order_told e = subst (λ b. Congruent (independent masks) w (take (length w) b)
       × ((u : List ℕ) → Congruent (independent masks) w u → NoLater (take (length w) b) u) × (drop (length w) b ≡ drop (length w) before)) (sym buffer)
-      (first-trace k masks symmetric w before (go (first_order_refusal k masks w (length before)) refl))
+      (first_trace k masks symmetric w before (go (first_order_refusal k masks w (length before)) refl))
     where
       go : (o : Option Refusal) → first_order_refusal k masks w (length before) ≡ o → first_order_refusal k masks w (length before) ≡ none
       go none q = q

@@ -22,7 +22,7 @@ use Rattle.term_calls.specs.TermCalls.{TermJudging}
 use Rattle.demands.specs.Admitted.{Admitted}
 use Rattle.demands.proofs.Admission.{or_none, ten_exactly, unrefused_exactly}
 use Rattle.call_demands.specs.Told.{TermsJudgeable, looks_in, prefixes_in, verdict_in}
-use Rattle.call_demands.proofs.Numbers.{code_ten, code_zero, told_equal, verdict-is}
+use Rattle.call_demands.proofs.Numbers.{code_ten, code_zero, told_equal, verdict_is}
 
 -- nothing refuses the call exactly when the log is admitted and its prefixes fit
 pub judgeable : (p : Profile) (w days terms : List ℕ) (n m : ℕ) → (dated_refusal p w days terms n m ≡ none) ↔ TermsJudgeable p w days terms n m
@@ -62,10 +62,10 @@ module _ (p : Profile) (w days terms order order' table table' : List ℕ) (code
     answered = call.promise.refused ∙ unrefused
 
     told_as : (v : ℕ) → (verdict_in told ≡ v) ↔ (verdict_number call.answer ≡ some v)
-    told_as v = verdict-is call.answer code told call.code_is call.told_is answered v
+    told_as v = verdict_is call.answer code told call.code_is call.told_is answered v
 
-    pub verdict-told : (verdict_in told ≡ 0) ⊎ (verdict_in told ≡ 1)
-    verdict-told = ⊎_elim (λ e. inl ((told_as 0).1 e)) (λ e. inr ((told_as 1).1 e))
+    pub verdict_told : (verdict_in told ≡ 0) ⊎ (verdict_in told ≡ 1)
+    verdict_told = ⊎_elim (λ e. inl ((told_as 0).1 e)) (λ e. inr ((told_as 1).1 e))
         (termed.verdict-cases p w days terms order order' table table' unrefused call.answer call.promise)
 
     -- "The log gets 'no order' exactly when no log reachable from it by exchanges is accepted."

@@ -22,7 +22,7 @@ use Rattle.view_calls.specs.ViewCalls.{Viewing}
 use Rattle.demands.specs.Admitted.{Admitted}
 use Rattle.demands.proofs.Admission.{or_none, ten_exactly, unrefused_exactly}
 use Rattle.call_demands.specs.Told.{Viewable, looks_in, prefixes_in, verdict_in}
-use Rattle.call_demands.proofs.Numbers.{code_ten, code_zero, told_equal, verdict-is}
+use Rattle.call_demands.proofs.Numbers.{code_ten, code_zero, told_equal, verdict_is}
 
 -- nothing refuses the call exactly when the log is admitted and the prefixes of its visible part fit
 pub viewable : (p : Profile) (visible : ℕ) (w : List ℕ) (n m : ℕ) → (view_refusal p visible w n m ≡ none) ↔ Viewable p visible w n m
@@ -63,10 +63,10 @@ module _ (p : Profile) (visible : ℕ) (w order order' table table' : List ℕ) 
     answered = refusal_is ∙ unrefused
 
     told_as : (v : ℕ) → (verdict_in told ≡ v) ↔ (verdict_number call.answer ≡ some v)
-    told_as v = verdict-is call.answer code told call.code_is call.told_is answered v
+    told_as v = verdict_is call.answer code told call.code_is call.told_is answered v
 
-    pub verdict-told : (verdict_in told ≡ 0) ⊎ (verdict_in told ≡ 1)
-    verdict-told = ⊎_elim (λ e. inl ((told_as 0).1 e)) (λ e. inr ((told_as 1).1 e))
+    pub verdict_told : (verdict_in told ≡ 0) ⊎ (verdict_in told ≡ 1)
+    verdict_told = ⊎_elim (λ e. inl ((told_as 0).1 e)) (λ e. inr ((told_as 1).1 e))
         (viewed.verdict-cases p visible w order order' table table' call.answer call.promise unrefused)
 
     -- "Verdict 1 means that some list of letters … has a visible part reachable from that part": verdict 0 exactly when none does

@@ -44,20 +44,20 @@ module _ (k : ℕ) (masks w groups : List ℕ) where
   bound_relation e = answer (lowest_first (relation_refusals k masks) (log_refusals k w ++ late) e)
 
   module _ (e₀ : lowest (relation_refusals k masks) ≡ none) where
-    past-masks : bound_refusal k masks w groups ≡ lowest (log_refusals k w ++ late)
+    past_masks : bound_refusal k masks w groups ≡ lowest (log_refusals k w ++ late)
     unfolding late
-    past-masks = lowest_append (relation_refusals k masks) (log_refusals k w ++ late) e₀
+    past_masks = lowest_append (relation_refusals k masks) (log_refusals k w ++ late) e₀
 
-    pub bound-log : {r : Refusal} → lowest (log_refusals k w) ≡ some r → Refused r ≡ bounding k masks w groups
-    bound-log e = answer (past-masks ∙ lowest_first (log_refusals k w) late e)
+    pub bound_log : {r : Refusal} → lowest (log_refusals k w) ≡ some r → Refused r ≡ bounding k masks w groups
+    bound_log e = answer (past_masks ∙ lowest_first (log_refusals k w) late e)
 
     module _ (e₁ : lowest (log_refusals k w) ≡ none) where
-      past-log : bound_refusal k masks w groups ≡ lowest late
-      past-log = past-masks ∙ lowest_append (log_refusals k w) late e₁
+      past_log : bound_refusal k masks w groups ≡ lowest late
+      past_log = past_masks ∙ lowest_append (log_refusals k w) late e₁
 
-      pub bound-groups : bad_groups k masks groups ≡ true → Refused BadGroups ≡ bounding k masks w groups
+      pub bound_groups : bad_groups k masks groups ≡ true → Refused BadGroups ≡ bounding k masks w groups
       unfolding late
-      bound-groups e = answer (past-log ∙ rw (e, lowest))
+      bound_groups e = answer (past_log ∙ rw (e, lowest))
 
       -- the product of the counts, capped
       module _ (e₂ : bad_groups k masks groups ≡ false) (counts : List ℕ) (n : ℕ) (e₃ : counts ≡ map (count (λ a. a) w) (below most_letters))
@@ -65,19 +65,19 @@ module _ (k : ℕ) (masks w groups : List ℕ) where
         capped : n ≡ min (ceiling_of (λ a. a) groups w) (highest_ceiling + 1)
         capped = e₄ ∙ ap (λ m. min m (highest_ceiling + 1)) (ap (λ c. product_of c groups) e₃ ∙ product_ceiling w (log_fits k masks w e₀ e₁).1 groups)
 
-        pub bound-high : highest_ceiling < n → Refused HighCeiling ≡ bounding k masks w groups
+        pub bound_high : highest_ceiling < n → Refused HighCeiling ≡ bounding k masks w groups
         unfolding late
-        bound-high h =
+        bound_high h =
             let l : highest_ceiling < ceiling_of (λ a. a) groups w = omega (arith, capped) in
-            answer (past-log ∙ rw (e₂, lt-ltb highest_ceiling (ceiling_of (λ a. a) groups w) l, lowest))
+            answer (past_log ∙ rw (e₂, lt-ltb highest_ceiling (ceiling_of (λ a. a) groups w) l, lowest))
 
-        pub bound-told : n ≤ highest_ceiling → Ceiling n ≡ bounding k masks w groups
+        pub bound_told : n ≤ highest_ceiling → Ceiling n ≡ bounding k masks w groups
         unfolding late
-        bound-told h =
+        bound_told h =
             let c = ceiling_of (λ a. a) groups w in
             let q : n ≡ c = omega (arith, capped) in
             let l : c ≤ highest_ceiling = omega arith in
-            let e : bound_refusal k masks w groups ≡ none = past-log ∙ rw (e₂, le-ltb highest_ceiling c l, lowest) in
+            let e : bound_refusal k masks w groups ≡ none = past_log ∙ rw (e₂, le-ltb highest_ceiling c l, lowest) in
             ap Ceiling q ∙ ap (λ o. bounded_as o c) (sym e)
 
 -- the conditions stand by rising number, 2, 4, 7, 8, 18, 19: the first that applies is the lowest

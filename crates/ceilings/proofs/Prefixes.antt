@@ -42,22 +42,22 @@ module _ (may : ℕ → ℕ → Bool) (p : ℕ → Bool) where
 
   module _ (apart : (a b : ℕ) → T (p a) → T (p b) → T (may a b) → ⊥) where
     -- where the events keep their order, the marked ones come first
-    filter-front : {w m r : List ℕ} → Front may w m r → filter p w ≡ filter p m ++ filter p r
-    filter-front empty = refl
-    filter-front (mark {a = a} {w = w} {m = m} {r = r} f) = ⊎_elim
-        (λ t. rw (filter_yes p a w t, filter_yes p a m t) (ap (◌∷◌ a) (filter-front f)))
-        (λ t. rw (filter_no p a w t, filter_no p a m t) (filter-front f)) (test (p a))
-    filter-front (keep {a = a} {w = w} {m = m} {r = r} h f) = ⊎_elim
+    filter_front : {w m r : List ℕ} → Front may w m r → filter p w ≡ filter p m ++ filter p r
+    filter_front empty = refl
+    filter_front (mark {a = a} {w = w} {m = m} {r = r} f) = ⊎_elim
+        (λ t. rw (filter_yes p a w t, filter_yes p a m t) (ap (◌∷◌ a) (filter_front f)))
+        (λ t. rw (filter_no p a w t, filter_no p a m t) (filter_front f)) (test (p a))
+    filter_front (keep {a = a} {w = w} {m = m} {r = r} h f) = ⊎_elim
         (λ t.
         let e = filter_none p m (λ b k u. apart a b t u (all_at (may a) h k)) in
-        rw (filter_yes p a w t, filter_yes p a r t, e) (ap (◌∷◌ a) (filter-front f ∙ ap (λ l. l ++ filter p r) e)))
-        (λ t. rw (filter_no p a w t, filter_no p a r t) (filter-front f)) (test (p a))
+        rw (filter_yes p a w t, filter_yes p a r t, e) (ap (◌∷◌ a) (filter_front f ∙ ap (λ l. l ++ filter p r) e)))
+        (λ t. rw (filter_no p a w t, filter_no p a r t) (filter_front f)) (test (p a))
 
     -- so their number says which they are
     filter_same : {w m r m' r' : List ℕ} → Front may w m r → Front may w m' r' → length (filter p m) ≡ length (filter p m') → filter p m ≡ filter p m'
     filter_same {m = m} {r = r} {m' = m'} {r' = r'} f g e =
         sym (take-append_seam (filter p m) (filter p r))
-        ∙ ap₂ (λ n l. take n l) e (sym (filter-front f) ∙ filter-front g)
+        ∙ ap₂ (λ n l. take n l) e (sym (filter_front f) ∙ filter_front g)
         ∙ take-append_seam (filter p m') (filter p r')
 
 -- ---- lists of numbers, each at most one of a list

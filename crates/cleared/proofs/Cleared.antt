@@ -83,9 +83,9 @@ module _ (p : Profile) (M : Automaton) (u : List ℕ) (clean : Clean p u) where
         (ap (capacity layout) (part_length ∙ e) ∙ usable_capacity (length t))
 
     -- the records are put in the part, and what stands behind it stays
-    part-table : (T : List ℕ) → P ≤ capacity layout (length t) → T ≡ table_of layout (independent p.masks) (λ a. a) M p.k u (take z t)
+    part_table : (T : List ℕ) → P ≤ capacity layout (length t) → T ≡ table_of layout (independent p.masks) (λ a. a) M p.k u (take z t)
         → T ++ drop z t ≡ table_of layout (independent p.masks) (λ a. a) M p.k u t
-    part-table T h q =
+    part_table T h q =
         let F = flat_map (record_of layout (independent p.masks) (λ a. a) M u) (by_total (independent p.masks) (λ a. a) p.k u) in
         let n = record_length layout * P in
         let l : n ≤ length (take z t) = omega (arith, part_length, e) in
@@ -130,7 +130,7 @@ module _ (p : Profile) (u : List ℕ) (clean : Clean p u) (t : List ℕ) (z : �
       let f = refusal_is p M u clean t z e order order' T fits kept h.refused in
       let g = h.told.2 in
       by_both f h.told.0 (NoOrder P n) (T ++ drop z t) (ap₂ (λ a b. NoOrder a b) g.prefixes g.looks) h.told.1
-      (part-table p M u clean t z e T (ten_not p M u clean (length order) (length t) fits f) g.table)
+      (part_table p M u clean t z e T (ten_not p M u clean (length order) (length t) fits f) g.table)
 
   pub told_some : (P n : ℕ) → Promise p u order order' (take z t) T (Order P n) → Told (Order P n) (T ++ drop z t)
   told_some P n h =
@@ -138,4 +138,4 @@ module _ (p : Profile) (u : List ℕ) (clean : Clean p u) (t : List ℕ) (z : �
       let v = h.told.0 in
       let g = h.told.3 in
       by_both f h.told.1 (Order P n) (T ++ drop z t) (ap₂ (λ a b. Order a b) g.prefixes g.looks) (h.told.2 ∙ ap (λ k. v ++ drop k order) (sym (order_length p u h.told.1)))
-      (part-table p M u clean t z e T (ten_not p M u clean (length order) (length t) fits f) g.table)
+      (part_table p M u clean t z e T (ten_not p M u clean (length order) (length t) fits f) g.table)

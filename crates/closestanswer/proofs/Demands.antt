@@ -3,7 +3,7 @@
 use mathlib.Core.Path.{◌≡◌, sym, ◌∙◌, ap, subst}
 use mathlib.Core.Bool.{not}
 use mathlib.Core.Logic.{◌↔◌, ◌≢◌}
-use mathlib.Core.List.{List, map_id}
+use mathlib.Core.List.{List, map-id}
 use mathlib.Core.Option.{none, some}
 use Prim.Native.Nat.{ℕ, ◌*◌, ◌≤◌, ◌<◌}
 use lib.Dec.{T, eqb}
@@ -25,7 +25,7 @@ use Rattle.verdict.proofs.Promises as told
 use Rattle.closestanswer.specs.Answers.{Promise, closest_refusal, refused_by, verdict_number}
 use Rattle.closestanswer.specs.declared.Closest.{Closest}
 use Rattle.closestanswer.specs.declared.Closest.TheVariants.{NoOrder, Order, Refused}
-use Rattle.closestanswer.proofs.Promises.{as-the-judge-by, before_none, covered-told-by, floor-fewest-swaps-by, floor-holds-by, judges-told-by, lowest_passes, no_order_told_by, order-accepted-by, refused_exactly_by, seventeen_exactly, told_looks, told_prefixes}
+use Rattle.closestanswer.proofs.Promises.{as_the_judge_by, before_none, covered_told_by, floor_fewest_swaps_by, floor_holds_by, judges_told_by, lowest_passes, no_order_told_by, order_accepted_by, refused_exactly_by, seventeen_exactly, told_looks, told_prefixes}
 
 -- the judge never gives 17
 judge_not_short : (p : Profile) (w : List ℕ) (n m : ℕ) → judge_refusal p w n m ≡ some ShortCosts → ⊥
@@ -61,31 +61,31 @@ module _ (p : Profile) (w : List ℕ) (B : ℕ) (order order' table table' costs
   pub as_the_judge : (order₁ table₁ : List ℕ) (r : Closest) (j : Judged) → Promise p w B order order' table table' costs costs' r → judge.Promise p w order order₁ table table₁ j
       → refused_by r ≡ none
       → (verdict_number r ≡ judge.verdict-number j) × (told_prefixes r ≡ told.told-prefixes j) × (told_looks r ≡ told.told-looks j) × (table' ≡ table₁)
-  as_the_judge order₁ table₁ r j h g e = as-the-judge-by (plain p) w B order order' table table' costs costs' (closest_refusal p w (length order) (length table) (length costs)) order₁ table₁
+  as_the_judge order₁ table₁ r j h g e = as_the_judge_by (plain p) w B order order' table table' costs costs' (closest_refusal p w (length order) (length table) (length costs)) order₁ table₁
       (before_none (judge_refusals p w (length order) (length table)) (prefixes_of p w) p.s (length costs) (sym h.refused ∙ e)) r j h g e
 
   module _ (P n c f : ℕ) (h : Promise p w B order order' table table' costs costs' (Order P n c f)) where
     -- "the answer is an accepted order, its swaps c": it stands in the first bytes of the buffer
-    pub order-accepted : Witness p w (take (length w) order') × (c ≡ swaps (λ a. a) w (take (length w) order'))
-    order-accepted =
-        let x = order-accepted-by (plain p) w B order order' table table' costs costs' _ P n c f h in
-        (subst (Witness p w) (sym (map_id x.0.0) ∙ x.0.1) x.0.2, x.1)
+    pub order_accepted : Witness p w (take (length w) order') × (c ≡ swaps (λ a. a) w (take (length w) order'))
+    order_accepted =
+        let x = order_accepted_by (plain p) w B order order' table table' costs costs' _ P n c f h in
+        (subst (Witness p w) (sym (map-id x.0.0) ∙ x.0.1) x.0.2, x.1)
 
     -- "No accepted order has fewer than f swaps"
-    pub floor-holds : (u : List ℕ) → Witness p w u → f ≤ swaps (λ a. a) w u
-    floor-holds u x = subst (λ z. f ≤ swaps (λ a. a) w z) (map_id u) (floor-holds-by (plain p) w B order order' table table' costs costs' _ P n c f h u x)
+    pub floor_holds : (u : List ℕ) → Witness p w u → f ≤ swaps (λ a. a) w u
+    floor_holds u x = subst (λ z. f ≤ swaps (λ a. a) w z) (map-id u) (floor_holds_by (plain p) w B order order' table table' costs costs' _ P n c f h u x)
 
     -- "If B covers all pairs, the order has c = f and is the earliest such in letter order"
-    pub covered-told : T (covers (independent p.masks) (λ a. a) (automaton p) p.k p.s w B)
+    pub covered_told : T (covers (independent p.masks) (λ a. a) (automaton p) p.k p.s w B)
         → (c ≡ f) × ((u : List ℕ) → Witness p w u → swaps (λ a. a) w u ≡ f → NoLater (take (length w) order') u)
-    covered-told b =
-        let z = covered-told-by (plain p) w B order order' table table' costs costs' _ P n c f h b in
-        (z.0, λ u x s. subst (NoLater (take (length w) order')) (map_id u) (z.1 u x (ap (swaps (λ a. a) w) (map_id u) ∙ s)))
+    covered_told b =
+        let z = covered_told_by (plain p) w B order order' table table' costs costs' _ P n c f h b in
+        (z.0, λ u x s. subst (NoLater (take (length w) order')) (map-id u) (z.1 u x (ap (swaps (λ a. a) w) (map-id u) ∙ s)))
 
     -- "otherwise it is the judge's"
-    pub judges-told : T (not (covers (independent p.masks) (λ a. a) (automaton p) p.k p.s w B)) → order_of p w ≡ some (take (length w) order')
-    judges-told = judges-told-by (plain p) w B order order' table table' costs costs' _ P n c f h
+    pub judges_told : T (not (covers (independent p.masks) (λ a. a) (automaton p) p.k p.s w B)) → order_of p w ≡ some (take (length w) order')
+    judges_told = judges_told_by (plain p) w B order order' table table' costs costs' _ P n c f h
 
     -- f, the fewest swaps of any accepted order, c
-    pub floor-fewest-swaps : {m : ℕ} → fewest_swaps (independent p.masks) (λ a. a) (automaton p) w ≡ some m → (f ≤ m) × (m ≤ c)
-    floor-fewest-swaps = floor-fewest-swaps-by (plain p) w B order order' table table' costs costs' _ P n c f h
+    pub floor_fewest_swaps : {m : ℕ} → fewest_swaps (independent p.masks) (λ a. a) (automaton p) w ≡ some m → (f ≤ m) × (m ≤ c)
+    floor_fewest_swaps = floor_fewest_swaps_by (plain p) w B order order' table table' costs costs' _ P n c f h

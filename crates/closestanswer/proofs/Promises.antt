@@ -26,7 +26,7 @@ use Rattle.theory.proofs.Profiles.{lawful}
 use Rattle.theory.proofs.Refusals.{lowest_append, lowest_first, lowest_none}
 use Rattle.swaps.specs.Swaps.{swaps}
 use Rattle.swaps.specs.Closest.{covers, fewest_swaps}
-use Rattle.swaps.proofs.Floors.{closest-at, covered, floor-below, floor-fewest-told, not_covered, same-verdict}
+use Rattle.swaps.proofs.Floors.{closest_at, covered, floor_below, floor_fewest_told, not_covered, same_verdict}
 use Rattle.verdict.specs.Verdict.{Counted}
 use Rattle.verdict.specs.Verdict as judge
 use Rattle.verdict.specs.declared.Judged.{Judged}
@@ -102,22 +102,22 @@ module _ (p : Rules) (w : List ℕ) (B : ℕ) (order order' table table' costs c
     same_counts : {P n Q m : ℕ} → Counted p w table table' P n → Counted p w table table₁ Q m → (some P ≡ some Q) × (some n ≡ some m) × (table' ≡ table₁)
     same_counts a b = (ap some (a.prefixes ∙ sym b.prefixes), ap some (a.looks ∙ sym b.looks), a.table ∙ sym b.table)
 
-    pub as-the-judge-by : (r : Closest) (j : Judged) → PromiseBy p w B order order' table table' costs costs' q r → judge.PromiseBy p w order order₁ table table₁ q₁ j → refused_by r ≡ none
+    pub as_the_judge_by : (r : Closest) (j : Judged) → PromiseBy p w B order order' table table' costs costs' q r → judge.PromiseBy p w order order₁ table table₁ q₁ j → refused_by r ≡ none
         → (verdict_number r ≡ judge.verdict-number j) × (told_prefixes r ≡ told.told-prefixes j) × (told_looks r ≡ told.told-looks j) × (table' ≡ table₁)
-    as-the-judge-by (Refused x) j h g e = absurd (some-ne-none x e)
-    as-the-judge-by (NoOrder P n) (judged.Refused x) h g e = absurd (some-ne-none x (g.refused ∙ unrefused))
-    as-the-judge-by (NoOrder P n) (judged.NoOrder Q m) h g e = let s = same_counts h.tells.2 g.told.2 in (refl, s.0, s.1, s.2)
-    as-the-judge-by (NoOrder P n) (judged.Order Q m) h g e = absurd (none-ne-some g.told.0 (sym h.tells.0 ∙ g.told.1))
-    as-the-judge-by (Order P n c f) (judged.Refused x) h g e = absurd (some-ne-none x (g.refused ∙ unrefused))
-    as-the-judge-by (Order P n c f) (judged.NoOrder Q m) h g e = absurd (none-ne-some h.tells.0.order
-        (sym ((same-verdict p.may p.letter (automaton p.profile) (lawful p.profile) w p.profile.k p.profile.s B).1 g.told.0) ∙ h.tells.0.is_order))
-    as-the-judge-by (Order P n c f) (judged.Order Q m) h g e = let s = same_counts h.tells.1 g.told.3 in (refl, s.0, s.1, s.2)
+    as_the_judge_by (Refused x) j h g e = absurd (some-ne-none x e)
+    as_the_judge_by (NoOrder P n) (judged.Refused x) h g e = absurd (some-ne-none x (g.refused ∙ unrefused))
+    as_the_judge_by (NoOrder P n) (judged.NoOrder Q m) h g e = let s = same_counts h.tells.2 g.told.2 in (refl, s.0, s.1, s.2)
+    as_the_judge_by (NoOrder P n) (judged.Order Q m) h g e = absurd (none-ne-some g.told.0 (sym h.tells.0 ∙ g.told.1))
+    as_the_judge_by (Order P n c f) (judged.Refused x) h g e = absurd (some-ne-none x (g.refused ∙ unrefused))
+    as_the_judge_by (Order P n c f) (judged.NoOrder Q m) h g e = absurd (none-ne-some h.tells.0.order
+        (sym ((same_verdict p.may p.letter (automaton p.profile) (lawful p.profile) w p.profile.k p.profile.s B).1 g.told.0) ∙ h.tells.0.is_order))
+    as_the_judge_by (Order P n c f) (judged.Order Q m) h g e = let s = same_counts h.tells.1 g.told.3 in (refl, s.0, s.1, s.2)
 
   module _ (P n c f : ℕ) (h : PromiseBy p w B order order' table table' costs costs' q (Order P n c f)) where
     -- the order told is the letters of events that are reachable and accepted
     witness : (x : List ℕ) × (map p.letter x ≡ h.tells.0.order) × WitnessBy p w x
     witness =
-        let z = closest-at p.may p.letter (automaton p.profile) (lawful p.profile) w p.profile.k p.profile.s B h.tells.0.is_order in
+        let z = closest_at p.may p.letter (automaton p.profile) (lawful p.profile) w p.profile.k p.profile.s B h.tells.0.is_order in
         (z.0, z.1, record { reached = z.2; accepted = z.3 })
 
     -- it has as many letters as the log, so it is what the buffer begins with
@@ -129,29 +129,29 @@ module _ (p : Rules) (w : List ℕ) (B : ℕ) (order order' table table' costs c
         ap (take (length w)) h.tells.0.written ∙ take_at v (drop (length w) order) (length w) l
 
     -- "the answer is an accepted order, its swaps c": it stands in the first bytes of the buffer
-    pub order-accepted-by : ((x : List ℕ) × (map p.letter x ≡ take (length w) order') × WitnessBy p w x) × (c ≡ swaps p.letter w (take (length w) order'))
-    order-accepted-by = let x = witness in ((x.0, x.1 ∙ sym in_buffer, x.2), h.tells.0.its_swaps ∙ ap (swaps p.letter w) (sym in_buffer))
+    pub order_accepted_by : ((x : List ℕ) × (map p.letter x ≡ take (length w) order') × WitnessBy p w x) × (c ≡ swaps p.letter w (take (length w) order'))
+    order_accepted_by = let x = witness in ((x.0, x.1 ∙ sym in_buffer, x.2), h.tells.0.its_swaps ∙ ap (swaps p.letter w) (sym in_buffer))
 
     -- "No accepted order has fewer than f swaps"
-    pub floor-holds-by : (u : List ℕ) → WitnessBy p w u → f ≤ swaps p.letter w (map p.letter u)
-    floor-holds-by u x = floor-below p.may p.letter (automaton p.profile) (lawful p.profile) w p.profile.k p.profile.s B h.tells.0.its_floor x.reached x.accepted
+    pub floor_holds_by : (u : List ℕ) → WitnessBy p w u → f ≤ swaps p.letter w (map p.letter u)
+    floor_holds_by u x = floor_below p.may p.letter (automaton p.profile) (lawful p.profile) w p.profile.k p.profile.s B h.tells.0.its_floor x.reached x.accepted
 
     -- "If B covers all pairs, the order has c = f and is the earliest such in letter order"
-    pub covered-told-by : T (covers p.may p.letter (automaton p.profile) p.profile.k p.profile.s w B)
+    pub covered_told_by : T (covers p.may p.letter (automaton p.profile) p.profile.k p.profile.s w B)
         → (c ≡ f) × ((u : List ℕ) → WitnessBy p w u → swaps p.letter w (map p.letter u) ≡ f → NoLater (take (length w) order') (map p.letter u))
-    covered-told-by b =
+    covered_told_by b =
         let z = covered p.may p.letter (automaton p.profile) (lawful p.profile) w p.profile.k p.profile.s B b h.tells.0.is_order in
         let e : c ≡ f = h.tells.0.its_swaps ∙ some-injective _ _ (sym z.0 ∙ h.tells.0.its_floor) in
         (e, λ u x s. subst (λ v. NoLater v (map p.letter u)) (sym in_buffer) (z.1.least u x.reached x.accepted (s ∙ sym e ∙ h.tells.0.its_swaps)))
 
     -- "otherwise it is the judge's"
-    pub judges-told-by : T (not (covers p.may p.letter (automaton p.profile) p.profile.k p.profile.s w B)) → order_by p w ≡ some (take (length w) order')
-    judges-told-by b =
+    pub judges_told_by : T (not (covers p.may p.letter (automaton p.profile) p.profile.k p.profile.s w B)) → order_by p w ≡ some (take (length w) order')
+    judges_told_by b =
         sym (not_covered p.may p.letter (automaton p.profile) (lawful p.profile) w p.profile.k p.profile.s B b)
         ∙ h.tells.0.is_order ∙ ap some (sym in_buffer)
 
     -- f, the fewest swaps of any accepted order, c
-    pub floor-fewest-swaps-by : {m : ℕ} → fewest_swaps p.may p.letter (automaton p.profile) w ≡ some m → (f ≤ m) × (m ≤ c)
-    floor-fewest-swaps-by {m} e =
-        let z = floor-fewest-told p.may p.letter (automaton p.profile) (lawful p.profile) w p.profile.k p.profile.s B e h.tells.0.its_floor h.tells.0.is_order in
+    pub floor_fewest_swaps_by : {m : ℕ} → fewest_swaps p.may p.letter (automaton p.profile) w ≡ some m → (f ≤ m) × (m ≤ c)
+    floor_fewest_swaps_by {m} e =
+        let z = floor_fewest_told p.may p.letter (automaton p.profile) (lawful p.profile) w p.profile.k p.profile.s B e h.tells.0.its_floor h.tells.0.is_order in
         (z.0, subst (λ i. m ≤ i) (sym h.tells.0.its_swaps) z.1)

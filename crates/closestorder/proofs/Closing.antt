@@ -32,7 +32,7 @@ use Rattle.swaps.specs.Swaps.{swaps}
 use Rattle.swaps.proofs.Bounds.{fewest_small}
 use Rattle.swaps.proofs.Letters.{swaps_letters}
 use Rattle.swaps.proofs.Pairs.{count_letters}
-use Rattle.swaps.proofs.Floors.{covered, covered-order, fewest_swaps_at, fewest_swaps_some, floor-is, not_covered, order_with_at, order_with_some}
+use Rattle.swaps.proofs.Floors.{covered, covered_order, fewest_swaps_at, fewest_swaps_some, floor_is, not_covered, order_with_at, order_with_some}
 use Rattle.stepcost.specs.StepCosts.{Placed}
 use Rattle.costcells.specs.Cells.{Least, cell, cost_in, pair_costs}
 use Rattle.costcursors.specs.Cursors.{Lists}
@@ -106,23 +106,23 @@ module _ {p : Rules} {w log t : List ℕ} (h : Held p w log t) where
         go none e = absurd (true≢false (sym found ∙ ap found? e))
         go (some v) e = (v, e)
 
-    pub some-fewest : (n : ℕ) × (fewest_swaps p.may p.letter (automaton p.profile) w ≡ some n)
-    some-fewest =
+    pub some_fewest : (n : ℕ) × (fewest_swaps p.may p.letter (automaton p.profile) w ≡ some n)
+    some_fewest =
         let x = (order_by_earliest p w judges.1).0.2 in
         fewest_swaps_some p.may p.letter (automaton p.profile) (lawful p.profile) w x.reached x.accepted
 
     -- the judge's order in the buffer
-    judges-long : length judges.0 ≡ length w
-    judges-long = order_by_length p w judges.1
+    judges_long : length judges.0 ≡ length w
+    judges_long = order_by_length p w judges.1
 
     written : (before after : List ℕ) → after ≡ with_order (order_by p w) before → after ≡ judges.0 ++ drop (length w) before
-    written before after e = e ∙ ap (λ o. with_order o before) judges.1 ∙ ap (λ n. judges.0 ++ drop n before) judges-long
+    written before after e = e ∙ ap (λ o. with_order o before) judges.1 ∙ ap (λ n. judges.0 ++ drop n before) judges_long
 
     front : (before after : List ℕ) → after ≡ with_order (order_by p w) before → take (length w) after ≡ judges.0
-    front before after e = ap (take (length w)) (written before after e) ∙ take_at judges.0 (drop (length w) before) (length w) judges-long
+    front before after e = ap (take (length w)) (written before after e) ∙ take_at judges.0 (drop (length w) before) (length w) judges_long
 
-    front-log : (before after : List ℕ) → after ≡ with_order (order_by p w) before → take (length log) after ≡ judges.0
-    front-log before after e = ap (λ n. take n after) (sym as_long) ∙ front before after e
+    front_log : (before after : List ℕ) → after ≡ with_order (order_by p w) before → take (length log) after ≡ judges.0
+    front_log before after e = ap (λ n. take n after) (sym as_long) ∙ front before after e
 
     pub arranged : {starts places : List ℕ} → Placed p.profile.k log starts places → (before after : List ℕ) → length log ≤ length after
         → after ≡ with_order (order_by p w) before → Arranged p.profile.k log (counts_at t (records_in t - 1)) after
@@ -130,7 +130,7 @@ module _ {p : Rules} {w log t : List ℕ} (h : Held p w log t) where
         let x = (order_by_earliest p w judges.1).0 in
         record {
           long = room;
-          same = λ y. ap (λ l. count (λ a. a) l y) (front-log before after e ∙ sym x.1) ∙ count_letters p.letter x.0 y
+          same = λ y. ap (λ l. count (λ a. a) l y) (front_log before after e ∙ sym x.1) ∙ count_letters p.letter x.0 y
               ∙ sym (ap (λ f. f y) (count_order p.may p.letter (order_of_reach p.may x.2.reached))) ∙ count_log y;
           all = λ y l. whole_counts (lent placed) y ∙ count_log y;
         }
@@ -138,57 +138,57 @@ module _ {p : Rules} {w log t : List ℕ} (h : Held p w log t) where
     -- ---- the cost table is filled
 
     module _ {starts places costs : List ℕ} (placed : Placed p.profile.k log starts places) (r : RowsThere p.profile p.may p.letter w costs) where
-      some-listed : 1 ≤ length (in_order p w)
-      some-listed = omega (arith, some_record (lent placed), all_listed)
+      some_listed : 1 ≤ length (in_order p w)
+      some_listed = omega (arith, some_record (lent placed), all_listed)
 
       -- the last row is that of all events
       last_row : records_in t * p.profile.s - p.profile.s ≡ (length (in_order p w) - 1) * p.profile.s
       last_row =
           let n = length (in_order p w) - 1 in
-          let e : suc n ≡ length (in_order p w) = omega (arith, some-listed) in
+          let e : suc n ≡ length (in_order p w) = omega (arith, some_listed) in
           omega (arith, ap (λ i. i * p.profile.s) all_listed, ap (λ i. i * p.profile.s) e, suc-mul n p.profile.s)
 
       -- what `least_in` finds there
       pub fewest_is : (m row : ℕ) → row ≡ records_in t * p.profile.s - p.profile.s → Least costs row p.profile.finals m
           → fewest_swaps p.may p.letter (automaton p.profile) w ≡ some m
       fewest_is m row e least =
-          let few = some-fewest in
+          let few = some_fewest in
           let n = length (in_order p w) - 1 in
           let cells : (q : ℕ) → T (bit p.profile.finals q) → cost_in costs (row + q) ≡ cell (pair_swaps p.may p.letter (automaton p.profile) w (count p.letter w) q) = λ q b.
-          ap (λ i. cost_in costs (i + q)) (e ∙ last_row) ∙ r.cells n q (omega (arith, some-listed)) (bit_below p.profile.s p.profile.finals q h.profile.finals_inside b)
-          ∙ ap (λ f. cell (pair_swaps p.may p.letter (automaton p.profile) w f q)) (last_counts (lent placed) n (omega (arith, some-listed))) in
+          ap (λ i. cost_in costs (i + q)) (e ∙ last_row) ∙ r.cells n q (omega (arith, some_listed)) (bit_below p.profile.s p.profile.finals q h.profile.finals_inside b)
+          ∙ ap (λ f. cell (pair_swaps p.may p.letter (automaton p.profile) w f q)) (last_counts (lent placed) n (omega (arith, some_listed))) in
           few.1 ∙ ap some (sym (fewest_found p.may p.letter (automaton p.profile) (lawful p.profile) w h.events.apart (few_events (lent placed)) few.0 few.1 costs row m least cells))
 
-      pub all-pairs : {n : ℕ} → n ≡ records_in t * p.profile.s → pair_costs (take n costs) ≡ pairs p.may p.letter (automaton p.profile) p.profile.k p.profile.s w
-      all-pairs e = ap (λ n. pair_costs (take n costs)) (e ∙ ap (λ n. n * p.profile.s) all_listed) ∙ pairs_listed (lent placed) r
+      pub all_pairs : {n : ℕ} → n ≡ records_in t * p.profile.s → pair_costs (take n costs) ≡ pairs p.may p.letter (automaton p.profile) p.profile.k p.profile.s w
+      all_pairs e = ap (λ n. pair_costs (take n costs)) (e ∙ ap (λ n. n * p.profile.s) all_listed) ∙ pairs_listed (lent placed) r
 
       module _ (B n few : ℕ) (is_all : n ≡ records_in t * p.profile.s) (is-few : fewest_swaps p.may p.letter (automaton p.profile) w ≡ some few) (before after : List ℕ) where
         -- B does not cover all pairs: the judge's order
-        pub close-judges : (f c : ℕ) → B < length (pair_costs (take n costs)) → f ≡ smaller few (after-th B (sorted (pair_costs (take n costs))))
+        pub close_judges : (f c : ℕ) → B < length (pair_costs (take n costs)) → f ≡ smaller few (after-th B (sorted (pair_costs (take n costs))))
             → c ≡ swaps (λ a. a) log (take (length log) after) → after ≡ with_order (order_by p w) before → Close p w B before after c f
-        close-judges f c less is-floor is-swaps e = record {
+        close_judges f c less is-floor is-swaps e = record {
           order = judges.0;
           is_order = not_covered p.may p.letter (automaton p.profile) (lawful p.profile) w p.profile.k p.profile.s B
               (not_T (covers p.may p.letter (automaton p.profile) p.profile.k p.profile.s w B) (λ k.
-              omega (arith, leb→le (length (pairs p.may p.letter (automaton p.profile) p.profile.k p.profile.s w)) B k, less, ap length (all-pairs is_all)))) ∙ judges.1;
+              omega (arith, leb→le (length (pairs p.may p.letter (automaton p.profile) p.profile.k p.profile.s w)) B k, less, ap length (all_pairs is_all)))) ∙ judges.1;
           written = written before after e;
           its_swaps = is-swaps ∙ ap (λ l. swaps (λ a. a) l (take (length log) after)) (sym h.letters) ∙ sym (swaps_letters p.letter w (take (length log) after))
-              ∙ ap (swaps p.letter w) (front-log before after e);
-          its_floor = floor-is p.may p.letter (automaton p.profile) (lawful p.profile) w p.profile.k p.profile.s B is-few
-              ∙ ap some (sym (is-floor ∙ ap (λ l. smaller few (after-th B (sorted l))) (all-pairs is_all)));
+              ∙ ap (swaps p.letter w) (front_log before after e);
+          its_floor = floor_is p.may p.letter (automaton p.profile) (lawful p.profile) w p.profile.k p.profile.s B is-few
+              ∙ ap some (sym (is-floor ∙ ap (λ l. smaller few (after-th B (sorted l))) (all_pairs is_all)));
         }
 
         -- B covers all pairs: the earliest order of the fewest swaps
-        pub close-best : length (pair_costs (take n costs)) ≤ B → after ≡ with_order (order_with p.may p.letter (automaton p.profile) w few) before
+        pub close_best : length (pair_costs (take n costs)) ≤ B → after ≡ with_order (order_with p.may p.letter (automaton p.profile) w few) before
             → Close p w B before after few few
-        close-best le e =
+        close_best le e =
             let M = automaton p.profile in
             let u = fewest_swaps_at p.may p.letter M (lawful p.profile) w is-few in
             let v = order_with_some p.may p.letter M (lawful p.profile) w u.1 u.2 u.3 in
             let z = order_with_at p.may p.letter M (lawful p.profile) w v.1 in
             let k : T (covers p.may p.letter M p.profile.k p.profile.s w B) =
-            le→leb (length (pairs p.may p.letter M p.profile.k p.profile.s w)) B (omega (arith, le, ap length (all-pairs is_all))) in
-            let o = covered-order p.may p.letter M (lawful p.profile) w p.profile.k p.profile.s B k is-few ∙ v.1 in
+            le→leb (length (pairs p.may p.letter M p.profile.k p.profile.s w)) B (omega (arith, le, ap length (all_pairs is_all))) in
+            let o = covered_order p.may p.letter M (lawful p.profile) w p.profile.k p.profile.s B k is-few ∙ v.1 in
             let long : length v.0 ≡ length w = omega (arith, takes_length p.may (order_of_reach p.may z.reached), length-map z.order p.letter, ap length z.letters) in
             record {
               order = v.0;

@@ -28,7 +28,7 @@ use Rattle.termed.specs.Termed as termed
 use Rattle.closestanswer.specs.Answers.{refused_by, verdict_number}
 use Rattle.closestanswer.specs.declared.Closest.{Closest}
 use Rattle.closestanswer.specs.declared.Closest.TheVariants.{NoOrder, Order, Refused}
-use Rattle.closestanswer.proofs.Promises.{as-the-judge-by, before_none, covered-told-by, floor-fewest-swaps-by, floor-holds-by, judges-told-by, lowest_passes, no_order_told_by, order-accepted-by, refused_exactly_by, seventeen_exactly, told_looks, told_prefixes}
+use Rattle.closestanswer.proofs.Promises.{as_the_judge_by, before_none, covered_told_by, floor_fewest_swaps_by, floor_holds_by, judges_told_by, lowest_passes, no_order_told_by, order_accepted_by, refused_exactly_by, seventeen_exactly, told_looks, told_prefixes}
 use Rattle.closestterms.specs.Dated.{Promise, dated_closest_refusal}
 
 -- the judge with terms never gives 17
@@ -68,35 +68,35 @@ module _ (p : Profile) (w days terms : List ℕ) (B : ℕ) (order order' table t
   pub as_the_judge : (order₁ table₁ : List ℕ) (r : Closest) (j : Judged) → Promise p w days terms B order order' table table' costs costs' r
       → termed.Promise p w days terms order order₁ table table₁ j → refused_by r ≡ none
       → (verdict_number r ≡ judge.verdict-number j) × (told_prefixes r ≡ told.told-prefixes j) × (told_looks r ≡ told.told-looks j) × (table' ≡ table₁)
-  as_the_judge order₁ table₁ r j h g e = as-the-judge-by (with_terms p terms) (events w days) B order order' table table' costs costs'
+  as_the_judge order₁ table₁ r j h g e = as_the_judge_by (with_terms p terms) (events w days) B order order' table table' costs costs'
       (dated_closest_refusal p w days terms (length order) (length table) (length costs)) order₁ table₁
       (before_none (dated_refusals p w days terms (length order) (length table)) (prefixes_by (with_terms p terms) (events w days)) p.s (length costs) (sym h.refused ∙ e)) r j h g e
 
   module _ (P n c f : ℕ) (h : Promise p w days terms B order order' table table' costs costs' (Order P n c f)) where
     -- "the answer is an accepted order, its swaps c": in the first bytes of the buffer stand the letters of such events
-    pub order-accepted : ((x : List ℕ) × (map letter_of x ≡ take (length w) order') × WitnessBy (with_terms p terms) (events w days) x)
+    pub order_accepted : ((x : List ℕ) × (map letter_of x ≡ take (length w) order') × WitnessBy (with_terms p terms) (events w days) x)
         × (c ≡ swaps letter_of (events w days) (take (length w) order'))
-    order-accepted = subst (λ m.
+    order_accepted = subst (λ m.
         ((x : List ℕ) × (map letter_of x ≡ take m order') × WitnessBy (with_terms p terms) (events w days) x) × (c ≡ swaps letter_of (events w days) (take m order')))
-        (events_length w days) (order-accepted-by (with_terms p terms) (events w days) B order order' table table' costs costs' _ P n c f h)
+        (events_length w days) (order_accepted_by (with_terms p terms) (events w days) B order order' table table' costs costs' _ P n c f h)
 
     -- "No accepted order has fewer than f swaps"
-    pub floor-holds : (u : List ℕ) → WitnessBy (with_terms p terms) (events w days) u → f ≤ swaps letter_of (events w days) (map letter_of u)
-    floor-holds = floor-holds-by (with_terms p terms) (events w days) B order order' table table' costs costs' _ P n c f h
+    pub floor_holds : (u : List ℕ) → WitnessBy (with_terms p terms) (events w days) u → f ≤ swaps letter_of (events w days) (map letter_of u)
+    floor_holds = floor_holds_by (with_terms p terms) (events w days) B order order' table table' costs costs' _ P n c f h
 
     -- "If B covers all pairs, the order has c = f and is the earliest such in letter order"
-    pub covered-told : T (covers (may_in p.masks terms) letter_of (automaton p) p.k p.s (events w days) B)
+    pub covered_told : T (covers (may_in p.masks terms) letter_of (automaton p) p.k p.s (events w days) B)
         → (c ≡ f) × ((u : List ℕ) → WitnessBy (with_terms p terms) (events w days) u → swaps letter_of (events w days) (map letter_of u) ≡ f → NoLater (take (length w) order') (map letter_of u))
-    covered-told b = subst (λ m.
+    covered_told b = subst (λ m.
         (c ≡ f) × ((u : List ℕ) → WitnessBy (with_terms p terms) (events w days) u → swaps letter_of (events w days) (map letter_of u) ≡ f → NoLater (take m order') (map letter_of u)))
-        (events_length w days) (covered-told-by (with_terms p terms) (events w days) B order order' table table' costs costs' _ P n c f h b)
+        (events_length w days) (covered_told_by (with_terms p terms) (events w days) B order order' table table' costs costs' _ P n c f h b)
 
     -- "otherwise it is the judge's"
-    pub judges-told : T (not (covers (may_in p.masks terms) letter_of (automaton p) p.k p.s (events w days) B))
+    pub judges_told : T (not (covers (may_in p.masks terms) letter_of (automaton p) p.k p.s (events w days) B))
         → order_by (with_terms p terms) (events w days) ≡ some (take (length w) order')
-    judges-told b = subst (λ m. order_by (with_terms p terms) (events w days) ≡ some (take m order')) (events_length w days)
-        (judges-told-by (with_terms p terms) (events w days) B order order' table table' costs costs' _ P n c f h b)
+    judges_told b = subst (λ m. order_by (with_terms p terms) (events w days) ≡ some (take m order')) (events_length w days)
+        (judges_told_by (with_terms p terms) (events w days) B order order' table table' costs costs' _ P n c f h b)
 
     -- f, the fewest swaps of any accepted order, c
-    pub floor-fewest-swaps : {m : ℕ} → fewest_swaps (may_in p.masks terms) letter_of (automaton p) (events w days) ≡ some m → (f ≤ m) × (m ≤ c)
-    floor-fewest-swaps = floor-fewest-swaps-by (with_terms p terms) (events w days) B order order' table table' costs costs' _ P n c f h
+    pub floor_fewest_swaps : {m : ℕ} → fewest_swaps (may_in p.masks terms) letter_of (automaton p) (events w days) ≡ some m → (f ≤ m) × (m ≤ c)
+    floor_fewest_swaps = floor_fewest_swaps_by (with_terms p terms) (events w days) B order order' table table' costs costs' _ P n c f h

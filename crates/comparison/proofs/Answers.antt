@@ -38,18 +38,18 @@ module _ (k : ℕ) (masks v w : List ℕ) where
   compared_relation e = refused_as (lowest_first (of_log 0 (relation_refusals k masks)) (of_log 1 (log_refusals k v) ++ of_log 2 (log_refusals k w)) (of_log_some 0 (relation_refusals k masks) e))
 
   module _ (e₀ : lowest (relation_refusals k masks) ≡ none) where
-    past-relation : same_refusal k masks v w ≡ lowest (of_log 1 (log_refusals k v) ++ of_log 2 (log_refusals k w))
-    past-relation = lowest_append (of_log 0 (relation_refusals k masks)) (of_log 1 (log_refusals k v) ++ of_log 2 (log_refusals k w)) (of_log_none 0 (relation_refusals k masks) e₀)
+    past_relation : same_refusal k masks v w ≡ lowest (of_log 1 (log_refusals k v) ++ of_log 2 (log_refusals k w))
+    past_relation = lowest_append (of_log 0 (relation_refusals k masks)) (of_log 1 (log_refusals k v) ++ of_log 2 (log_refusals k w)) (of_log_none 0 (relation_refusals k masks) e₀)
 
-    pub compared-first : {r : Refusal} → lowest (log_refusals k v) ≡ some r → comparison k masks v w ≡ Refused r 1
-    compared-first e = refused_as (past-relation ∙ lowest_first (of_log 1 (log_refusals k v)) (of_log 2 (log_refusals k w)) (of_log_some 1 (log_refusals k v) e))
+    pub compared_first : {r : Refusal} → lowest (log_refusals k v) ≡ some r → comparison k masks v w ≡ Refused r 1
+    compared_first e = refused_as (past_relation ∙ lowest_first (of_log 1 (log_refusals k v)) (of_log 2 (log_refusals k w)) (of_log_some 1 (log_refusals k v) e))
 
     module _ (e₁ : lowest (log_refusals k v) ≡ none) where
       past_first : same_refusal k masks v w ≡ lowest (of_log 2 (log_refusals k w))
-      past_first = past-relation ∙ lowest_append (of_log 1 (log_refusals k v)) (of_log 2 (log_refusals k w)) (of_log_none 1 (log_refusals k v) e₁)
+      past_first = past_relation ∙ lowest_append (of_log 1 (log_refusals k v)) (of_log 2 (log_refusals k w)) (of_log_none 1 (log_refusals k v) e₁)
 
-      pub compared-second : {r : Refusal} → lowest (log_refusals k w) ≡ some r → comparison k masks v w ≡ Refused r 2
-      compared-second e = refused_as (past_first ∙ of_log_some 2 (log_refusals k w) e)
+      pub compared_second : {r : Refusal} → lowest (log_refusals k w) ≡ some r → comparison k masks v w ≡ Refused r 2
+      compared_second e = refused_as (past_first ∙ of_log_some 2 (log_refusals k w) e)
 
       module _ (e₂ : lowest (log_refusals k w) ≡ none) where
         pub compared_same : {b : Bool} → same? (independent masks) k v w ≡ b → comparison k masks v w ≡ compared_as none b

@@ -8,7 +8,7 @@ use native.Mathlib.Omega.{arith}
 use lib.Dec.{T, eqb, leb}
 use borrow.Author.Tests.{eq-eqb, le-leb, lt-leb, ne_eqb}
 use lib.ListN.{length, get_or, drop, length-drop, drop_of_length-le}
-use lib.Seq.{drop-cons, drop_drop, get_or-drop}
+use lib.Seq.{drop-cons, drop-drop, get_or-drop}
 use Rattle.profile.specs.Lists.{all, below, equal?, filter, first_place, range}
 use Rattle.profile.specs.Orders.{project, same?}
 use Rattle.profile.specs.Traces.{independent}
@@ -31,7 +31,7 @@ module _ (p : ℕ → Bool) where
   -- i is the first place from `from` on that passes
   module _ (w : List ℕ) (from i : ℕ) (e : i ≡ from + first_place p (drop from w)) where
     kept_from : filter p (drop from w) ≡ filter p (drop i w)
-    kept_from = filter_place (drop from w) ∙ ap (filter p) (drop_drop (first_place p (drop from w)) from w ∙ ap (λ n. drop n w) (sym e))
+    kept_from = filter_place (drop from w) ∙ ap (filter p) (drop-drop (first_place p (drop from w)) from w ∙ ap (λ n. drop n w) (sym e))
 
     kept_at : i < length w → p (get_or w i 0) ≡ true
     kept_at h =
@@ -55,37 +55,37 @@ module _ (p : ℕ → Bool) where
     pub second : j < length w → p (get_or w j 0) ≡ true
 
   module _ (v w : List ℕ) where
-    pub compares-start : (i j : ℕ) → i ≡ 0 + first_place p v → j ≡ 0 + first_place p w → Compares v w i j
-    compares-start i j d e = record {
+    pub compares_start : (i j : ℕ) → i ≡ 0 + first_place p v → j ≡ 0 + first_place p w → Compares v w i j
+    compares_start i j d e = record {
       same = ap₂ equal? (kept_from v 0 i d) (kept_from w 0 j e);
       first = kept_at v 0 i d;
       second = kept_at w 0 j e;
     }
 
     module _ (i j : ℕ) (c : Compares v w i j) (i< : i < length v) where
-      both-kept : j < length w
+      both_kept : j < length w
           → equal? (filter p v) (filter p w) ≡ (eqb (get_or v i 0) (get_or w j 0) && equal? (filter p (drop (i + 1) v)) (filter p (drop (j + 1) w)))
-      both-kept j< = c.same ∙ ap₂ equal? (kept_cons v i i< (c.first i<)) (kept_cons w j j< (c.second j<))
+      both_kept j< = c.same ∙ ap₂ equal? (kept_cons v i i< (c.first i<)) (kept_cons w j j< (c.second j<))
 
-      pub compares-step : (i' j' : ℕ) → j < length w → get_or v i 0 ≡ get_or w j 0
+      pub compares_step : (i' j' : ℕ) → j < length w → get_or v i 0 ≡ get_or w j 0
           → i' ≡ (i + 1) + first_place p (drop (i + 1) v) → j' ≡ (j + 1) + first_place p (drop (j + 1) w) → Compares v w i' j'
-      compares-step i' j' j< q d e = record {
+      compares_step i' j' j< q d e = record {
         same =
-            both-kept j< ∙ ap (λ b. b && equal? (filter p (drop (i + 1) v)) (filter p (drop (j + 1) w))) (eq-eqb (get_or v i 0) (get_or w j 0) q)
+            both_kept j< ∙ ap (λ b. b && equal? (filter p (drop (i + 1) v)) (filter p (drop (j + 1) w))) (eq-eqb (get_or v i 0) (get_or w j 0) q)
             ∙ ap₂ equal? (kept_from v (i + 1) i' d) (kept_from w (j + 1) j' e);
         first = kept_at v (i + 1) i' d;
         second = kept_at w (j + 1) j' e;
       }
 
-      pub compares-other : j < length w → (get_or v i 0 ≡ get_or w j 0 → ⊥) → equal? (filter p v) (filter p w) ≡ false
-      compares-other j< n =
-          both-kept j< ∙ ap (λ b. b && equal? (filter p (drop (i + 1) v)) (filter p (drop (j + 1) w))) (ne_eqb (get_or v i 0) (get_or w j 0) n)
+      pub compares_other : j < length w → (get_or v i 0 ≡ get_or w j 0 → ⊥) → equal? (filter p v) (filter p w) ≡ false
+      compares_other j< n =
+          both_kept j< ∙ ap (λ b. b && equal? (filter p (drop (i + 1) v)) (filter p (drop (j + 1) w))) (ne_eqb (get_or v i 0) (get_or w j 0) n)
 
-      pub compares-short : length w ≤ j → equal? (filter p v) (filter p w) ≡ false
-      compares-short h = c.same ∙ ap₂ equal? (kept_cons v i i< (c.first i<)) (kept_end w j h)
+      pub compares_short : length w ≤ j → equal? (filter p v) (filter p w) ≡ false
+      compares_short h = c.same ∙ ap₂ equal? (kept_cons v i i< (c.first i<)) (kept_end w j h)
 
-    pub compares-end : (i j : ℕ) → Compares v w i j → length v ≤ i → equal? (filter p v) (filter p w) ≡ leb (length w) j
-    compares-end i j c h = ⊎_elim
+    pub compares_end : (i j : ℕ) → Compares v w i j → length v ≤ i → equal? (filter p v) (filter p w) ≡ leb (length w) j
+    compares_end i j c h = ⊎_elim
         (λ j<. c.same ∙ ap₂ equal? (kept_end v i h) (kept_cons w j j< (c.second j<)) ∙ sym (lt-leb (length w) j j<))
         (λ le. c.same ∙ ap₂ equal? (kept_end v i h) (kept_end w j le) ∙ sym (le-leb (length w) j le)) (lt_or_le j (length w))
 

@@ -9,7 +9,7 @@ use lib.Dec.{T, not_T, ltb, ltb→lt, lt→ltb}
 use Rattle.profile.proofs.Lists.{is_false, is_true, lt_or_le}
 use Rattle.records.specs.Records.{counts_at, records_in}
 use Rattle.search.specs.Search.{Ordered, has?, stands_before?}
-use Rattle.search.proofs.Halves.{between-down, between-up}
+use Rattle.search.proofs.Halves.{between_down, between_up}
 use Rattle.costcursors.specs.Cursors.{High, Low, Splits}
 
 pub not_false : (b : Bool) → not b ≡ false → T b
@@ -21,7 +21,7 @@ module _ (t c : List ℕ) where
   forth_stop j h low n o = record {
     inside = h;
     low = low;
-    high = (between-down t c o j (records_in t) j (low, λ i l k. absurd (omega (arith, l, k))) n).1;
+    high = (between_down t c o j (records_in t) j (low, λ i l k. absurd (omega (arith, l, k))) n).1;
   }
 
   pub forth_more : (j m : ℕ) → m ≡ suc j → Low t c j → T (stands_before? (counts_at t j) c) → Low t c m
@@ -33,7 +33,7 @@ module _ (t c : List ℕ) where
   pub back_stop : (j m : ℕ) → j ≡ suc m → j ≤ records_in t → High t c j → T (stands_before? (counts_at t m) c) → Ordered t → Splits t c j
   back_stop j m e h high y o = record {
     inside = h;
-    low = λ i l. (between-up t c o 0 j m (λ i l. absurd (omega (arith, l)), high) (omega (arith, e, h)) y).0 i (omega (arith, e, l));
+    low = λ i l. (between_up t c o 0 j m (λ i l. absurd (omega (arith, l)), high) (omega (arith, e, h)) y).0 i (omega (arith, e, l));
     high = high;
   }
 

@@ -77,8 +77,8 @@ module _ (t : List ℕ) (k : ℕ) (l : List (List ℕ)) (h : Lists t k l) where
 
   -- record i with one x more stands before record j with one x more, for i before j
   module _ (i j x : ℕ) (before : i < j) (lt : j < length l) (inside : x < k) (small-i : Small layout (bump (get_or l i []) x)) (small-j : Small layout (bump (get_or l j []) x)) where
-    next-before : T (stands_before? (packed layout (bump (get_or l i []) x)) (packed layout (bump (get_or l j []) x)))
-    next-before =
+    next_before : T (stands_before? (packed layout (bump (get_or l i []) x)) (packed layout (bump (get_or l j []) x)))
+    next_before =
         let c = get_or l i [] in
         let d = get_or l j [] in
         let m = mem_getd l i [] (omega (arith, before, lt)) in
@@ -93,13 +93,13 @@ module _ (t : List ℕ) (k : ℕ) (l : List (List ℕ)) (h : Lists t k l) where
         (bump_earlier c d x (h.long c m ∙ sym (h.long d n)) (omega (arith, inside, h.long c m)) earlier))
 
     -- so a cursor that stands right for one may go on from there for the other
-    pub low-on : (r : ℕ) → Low t (packed layout (bump (get_or l i []) x)) r → Low t (packed layout (bump (get_or l j []) x)) r
-    low-on r low n less = before_trans (counts_at t n) (packed layout (bump (get_or l i []) x)) (packed layout (bump (get_or l j []) x)) (low n less) next-before
+    pub low_on : (r : ℕ) → Low t (packed layout (bump (get_or l i []) x)) r → Low t (packed layout (bump (get_or l j []) x)) r
+    low_on r low n less = before_trans (counts_at t n) (packed layout (bump (get_or l i []) x)) (packed layout (bump (get_or l j []) x)) (low n less) next_before
 
-    pub high-on : (r : ℕ) → High t (packed layout (bump (get_or l j []) x)) r → High t (packed layout (bump (get_or l i []) x)) r
-    high-on r high n ge less = not_T (stands_before? (counts_at t n) (packed layout (bump (get_or l i []) x))) (λ y.
+    pub high_on : (r : ℕ) → High t (packed layout (bump (get_or l j []) x)) r → High t (packed layout (bump (get_or l i []) x)) r
+    high_on r high n ge less = not_T (stands_before? (counts_at t n) (packed layout (bump (get_or l i []) x))) (λ y.
         T_not (stands_before? (counts_at t n) (packed layout (bump (get_or l j []) x))) (high n ge less)
-        (before_trans (counts_at t n) (packed layout (bump (get_or l i []) x)) (packed layout (bump (get_or l j []) x)) y next-before))
+        (before_trans (counts_at t n) (packed layout (bump (get_or l i []) x)) (packed layout (bump (get_or l j []) x)) y next_before))
 
   -- one more of letter x in the numbers of record j
   pub next_packed : (j x : ℕ) → j < length l → x < k → Small layout (bump (get_or l j []) x) → add_count layout (counts_at t j) x ≡ packed layout (bump (get_or l j []) x)

@@ -46,8 +46,8 @@ module _ (may : ℕ → ℕ → Bool) (letter : ℕ → ℕ) (M : Automaton) (L 
     -- each number is the cost of some order
     module _ (by : (c : ℕ → ℕ) (q : ℕ) → IsPrefix may letter w c → (there c q ≡ none_cost) ⊎ ((n : ℕ) × (pair_swaps may letter M w c q ≡ some n) × (n ≤ there c q)))
         (small : (c : ℕ → ℕ) (q n : ℕ) → IsPrefix may letter w c → pair_swaps may letter M w c q ≡ some n → n < none_cost) where
-      pub settled-there : (c : ℕ → ℕ) (q : ℕ) → IsPrefix may letter w c → there c q ≡ cell (pair_swaps may letter M w c q)
-      settled-there c q p = go (pair_swaps may letter M w c q) refl
+      pub settled_there : (c : ℕ → ℕ) (q : ℕ) → IsPrefix may letter w c → there c q ≡ cell (pair_swaps may letter M w c q)
+      settled_there c q p = go (pair_swaps may letter M w c q) refl
         where
           go : (o : Option ℕ) → pair_swaps may letter M w c q ≡ o → there c q ≡ cell (pair_swaps may letter M w c q)
           go none e = ⊎_elim (λ z. z ∙ sym (ap cell e)) (λ z. absurd (none-ne-some z.0 (sym e ∙ z.1))) (by c q p)
@@ -62,24 +62,24 @@ module _ (may : ℕ → ℕ → Bool) (letter : ℕ → ℕ) (M : Automaton) (L 
       (ends : (c : ℕ → ℕ) (q : ℕ) → IsPrefix may letter w c → unmarked letter w c ≡ [] → T (bit M.final q) → rest c q ≡ 0)
       (led : (c : ℕ → ℕ) (a p q : ℕ) → IsPrefix may letter w c → Pick may (unmarked letter w c) a (unmarked letter w (more c (letter a))) → T (M.move q (letter a) p)
       → rest c q ≤ with_step (rest (more c (letter a)) p) (step_cost letter w c (letter a))) where
-    rest-no-larger : (n : ℕ) (c : ℕ → ℕ) (m q : ℕ) → IsPrefix may letter w c → length (unmarked letter w c) ≤ n → rest_swaps may letter M w c q ≡ some m → rest c q ≤ m
-    rest-no-larger zero c m q p h e = ⊎_elim
+    rest_no_larger : (n : ℕ) (c : ℕ → ℕ) (m q : ℕ) → IsPrefix may letter w c → length (unmarked letter w c) ≤ n → rest_swaps may letter M w c q ≡ some m → rest c q ≤ m
+    rest_no_larger zero c m q p h e = ⊎_elim
         (λ z. omega (arith, ends c q p z.0 z.2))
         (λ z. absurd (omega (arith, h, pick_length may z.4))) (rest_first may letter M L w distinct q p e)
-    rest-no-larger (suc n) c m q p h e = ⊎_elim
+    rest_no_larger (suc n) c m q p h e = ⊎_elim
         (λ z. omega (arith, ends c q p z.0 z.2))
         (λ z.
-        let ih = rest-no-larger n (more c (letter z.0)) z.2 z.1 z.3 (omega (arith, h, pick_length may z.4)) z.5 in
+        let ih = rest_no_larger n (more c (letter z.0)) z.2 z.1 z.3 (omega (arith, h, pick_length may z.4)) z.5 in
         omega (arith, led c z.0 z.1 q p z.4 z.6, ih, z.7)) (rest_first may letter M L w distinct q p e)
 
     module _ (by : (c : ℕ → ℕ) (q : ℕ) → IsPrefix may letter w c → (rest c q ≡ none_cost) ⊎ ((n : ℕ) × (rest_swaps may letter M w c q ≡ some n) × (n ≤ rest c q)))
         (small : (c : ℕ → ℕ) (q n : ℕ) → IsPrefix may letter w c → rest_swaps may letter M w c q ≡ some n → n < none_cost) where
-      pub settled-rest : (c : ℕ → ℕ) (q : ℕ) → IsPrefix may letter w c → rest c q ≡ cell (rest_swaps may letter M w c q)
-      settled-rest c q p = go (rest_swaps may letter M w c q) refl
+      pub settled_rest : (c : ℕ → ℕ) (q : ℕ) → IsPrefix may letter w c → rest c q ≡ cell (rest_swaps may letter M w c q)
+      settled_rest c q p = go (rest_swaps may letter M w c q) refl
         where
           go : (o : Option ℕ) → rest_swaps may letter M w c q ≡ o → rest c q ≡ cell (rest_swaps may letter M w c q)
           go none e = ⊎_elim (λ z. z ∙ sym (ap cell e)) (λ z. absurd (none-ne-some z.0 (sym e ∙ z.1))) (by c q p)
           go (some m) e =
-              let le = rest-no-larger (length (unmarked letter w c)) c m q p (omega arith) e in
+              let le = rest_no_larger (length (unmarked letter w c)) c m q p (omega arith) e in
               ⊎_elim (λ z. absurd (omega (arith, le, z, small c q m p e)))
               (λ z. let s = some-injective _ _ (sym z.1 ∙ e) in omega (arith, le, z.2, s, ap cell e)) (by c q p)

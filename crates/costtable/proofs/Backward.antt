@@ -33,8 +33,8 @@ module _ (h : Shape) (moves log t : List ℕ) where
 
   module _ (laid : Laid h moves log t) where
     -- the last record
-    pub backward-start : (u v v' : List ℕ) (j x : ℕ) → suc j ≡ records_in t → Cleared u v (j * h.s) h.s → Lowered v v' (j * h.s) h.finals 0 → Backward u v' j x
-    backward-start u v v' j x last c l = record {
+    pub backward_start : (u v v' : List ℕ) (j x : ℕ) → suc j ≡ records_in t → Cleared u v (j * h.s) h.s → Lowered v v' (j * h.s) h.finals 0 → Backward u v' j x
+    backward_start u v v' j x last c l = record {
       as_long = l.as_long ∙ c.as_long;
       behind = λ i le.
           let w = row_ends j (records_in t) h.s (omega (arith, last)) in
@@ -77,8 +77,8 @@ module _ (h : Shape) (moves log t : List ℕ) where
             ∙ cleared_in u v (j * h.s) h.s c (j * h.s + q) (omega arith) (omega (arith, qs))
 
     -- the row of the record before is cleared
-    pub backward-row : (u v v' : List ℕ) (j x : ℕ) → h.k ≤ x → suc j < records_in t → Cleared v v' (j * h.s) h.s → Backward u v (suc j) x → Backward u v' j 0
-    backward-row u v v' j x all lt c o = record {
+    pub backward_row : (u v v' : List ℕ) (j x : ℕ) → h.k ≤ x → suc j < records_in t → Cleared v v' (j * h.s) h.s → Backward u v (suc j) x → Backward u v' j 0
+    backward_row u v v' j x all lt c o = record {
       as_long = c.as_long ∙ o.as_long;
       behind = λ i le. cleared_out v v' (j * h.s) h.s c i (inr (omega (arith, le, row_ends j (records_in t) h.s (omega (arith, lt))))) ∙ o.behind i le;
       finish = λ i q e b. stays i q (omega (arith, e, lt)) ∙ o.finish i q e b;
@@ -100,9 +100,9 @@ module _ (h : Shape) (moves log t : List ℕ) where
         stays i q less = cleared_out v v' (j * h.s) h.s c (i * h.s + q) (inr (omega (arith, row_ends j i h.s less)))
 
     -- letter x leads back from record r to record j
-    pub backward-led : (u v v' : List ℕ) (j x r : ℕ) → Next h moves log t j x r
+    pub backward_led : (u v v' : List ℕ) (j x r : ℕ) → Next h moves log t j x r
         → LedBack v v' (j * h.s) (r * h.s) h.k h.s moves x (cost_after h moves log t j x) h.s → Backward u v j x → Backward u v' j (suc x)
-    backward-led u v v' j x r next l o = record {
+    backward_led u v v' j x r next l o = record {
       as_long = l.as_long ∙ o.as_long;
       behind = λ i le. l.outside i (inr (omega (arith, le, row_ends j (records_in t) h.s next.before))) ∙ o.behind i le;
       finish = λ i q e b. stays i q (omega (arith, e, up, next.inside)) ∙ o.finish i q e b;
@@ -163,8 +163,8 @@ module _ (h : Shape) (moves log t : List ℕ) where
             (o.by r r₀ (omega (arith, up)) next.inside (laid.state q₀ x r₀ lt next.letter m))
 
     -- letter x leads nowhere
-    pub backward-none : (u v : List ℕ) (j x : ℕ) → ((r : ℕ) → Next h moves log t j x r → ⊥) → Backward u v j x → Backward u v j (suc x)
-    backward-none u v j x none o = record {
+    pub backward_none : (u v : List ℕ) (j x : ℕ) → ((r : ℕ) → Next h moves log t j x r → ⊥) → Backward u v j x → Backward u v j (suc x)
+    backward_none u v j x none o = record {
       as_long = o.as_long;
       behind = o.behind;
       finish = o.finish;

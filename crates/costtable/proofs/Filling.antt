@@ -19,7 +19,7 @@ use Rattle.profile.proofs.Sets.{bit_self, bit_single}
 use Rattle.profile.proofs.Traces.{Pick}
 use Rattle.theory.proofs.Automata.{Lawful}
 use Rattle.theory.proofs.Levels.{at_below, by_total_nodup}
-use Rattle.theory.proofs.Prefixes.{front_all, front-marked, more-of-pick, pick-of-more}
+use Rattle.theory.proofs.Prefixes.{front_all, front_marked, more_of_pick, pick_of_more}
 use Rattle.theory.proofs.Profiles.{lawful}
 use Rattle.records.specs.Records.{records_in}
 use Rattle.swaps.specs.Closest.{pair_swaps, rest_swaps}
@@ -29,7 +29,7 @@ use Rattle.swaps.proofs.Pairs.{pair_next, pair_none}
 use Rattle.swaps.proofs.Rests.{rest_all, rest_next}
 use Rattle.costcells.specs.Cells.{cell, cost_in, none_cost}
 use Rattle.costrows.specs.Rows.{with_step}
-use Rattle.costrows.proofs.Settled.{settled-rest, settled-there}
+use Rattle.costrows.proofs.Settled.{settled_rest, settled_there}
 use Rattle.costtable.specs.Costs.{Filled, Lent}
 use Rattle.costtable.proofs.Ways.{Next, Way, WayOut, begins, cost_after, ends, goes_back, goes_on}
 use Rattle.costtable.proofs.Onward.{Onward}
@@ -91,7 +91,7 @@ module _ (h : Shape) (masks moves : List ℕ) (may : ℕ → ℕ → Bool) (lett
       let e = next_at h masks moves may letter w t log starts places g i y r n in
       let li = inside_of h masks moves may letter w t log starts places g i n.before in
       let lr = inside_of h masks moves may letter w t log starts places g r n.inside in
-      pick-of-more may letter g.apart (prefix_at h masks moves may letter w t log starts places g i li).1
+      pick_of_more may letter g.apart (prefix_at h masks moves may letter w t log starts places g i li).1
       (subst (IsPrefix may letter w) e (prefix_at h masks moves may letter w t log starts places g r lr).1)
 
   -- the places of a prefix and of the same with one letter more
@@ -132,7 +132,7 @@ module _ (h : Shape) (masks moves : List ℕ) (may : ℕ → ℕ → Bool) (lett
   onward_fills before costs j x all o = record {
     as_long = o.as_long;
     cells = λ i q li qs. sym (at_place costs i q li qs)
-        ∙ settled-there may letter M lawful_m w g.apart (cell_of costs) start led by small (at (get_or l i [])) q (prefix_at h masks moves may letter w t log starts places g i li).1;
+        ∙ settled_there may letter M lawful_m w g.apart (cell_of costs) start led by small (at (get_or l i [])) q (prefix_at h masks moves may letter w t log starts places g i li).1;
     behind = λ i le. o.behind i (subst (λ n. n * h.s ≤ i) (sym g.records.many) le);
   }
     where
@@ -145,7 +145,7 @@ module _ (h : Shape) (masks moves : List ℕ) (may : ℕ → ℕ → Bool) (lett
       led : (d : ℕ → ℕ) (a p q : ℕ) (r : List ℕ) → IsPrefix may letter w d → Pick may (unmarked letter w d) a r → T (M.move p (letter a) q)
           → cell_of costs (more d (letter a)) q ≤ with_step (cell_of costs d p) (step_cost letter w d (letter a))
       led d a p q r pre pick m =
-          let z = stepped d a pre (more-of-pick may letter g.apart pre pick).0 in
+          let z = stepped d a pre (more_of_pick may letter g.apart pre pick).0 in
           let i = z.0 in
           let r' = z.1 in
           let n = z.2 in
@@ -184,7 +184,7 @@ module _ (h : Shape) (masks moves : List ℕ) (may : ℕ → ℕ → Bool) (lett
   out_costs : {i q n : ℕ} → WayOut h moves log t i q n → (m : ℕ) × (rest_swaps may letter M w (at (get_or l i [])) q ≡ some m) × (m ≤ n)
   out_costs (ends {i = i} {q = q} e b) =
       let whole = last_at h masks moves may letter w t log starts places g i (e ∙ g.records.many) in
-      (0, rest_all may letter M lawful_m w g.apart (at (get_or l i [])) q (ap (unmarked letter w) whole ∙ (front-marked may letter g.apart (front_all may w)).1) b, omega arith)
+      (0, rest_all may letter M lawful_m w g.apart (at (get_or l i [])) q (ap (unmarked letter w) whole ∙ (front_marked may letter g.apart (front_all may w)).1) b, omega arith)
   out_costs (goes_back {i = i} {y = y} {r = r} {q = q} {q' = q'} {n = n} way next qs b) =
       let ih = out_costs way in
       let li = inside_of h masks moves may letter w t log starts places g i next.before in
@@ -203,7 +203,7 @@ module _ (h : Shape) (masks moves : List ℕ) (may : ℕ → ℕ → Bool) (lett
   backward_fills before costs x all o = record {
     as_long = o.as_long;
     cells = λ i q li qs. sym (at_place costs i q li qs)
-        ∙ settled-rest may letter M lawful_m w g.apart (cell_of costs) finish led by small (at (get_or l i [])) q (prefix_at h masks moves may letter w t log starts places g i li).1;
+        ∙ settled_rest may letter M lawful_m w g.apart (cell_of costs) finish led by small (at (get_or l i [])) q (prefix_at h masks moves may letter w t log starts places g i li).1;
     behind = λ i le. o.behind i (subst (λ n. n * h.s ≤ i) (sym g.records.many) le);
   }
     where
@@ -225,7 +225,7 @@ module _ (h : Shape) (masks moves : List ℕ) (may : ℕ → ℕ → Bool) (lett
       led : (c : ℕ → ℕ) (a p q : ℕ) → IsPrefix may letter w c → Pick may (unmarked letter w c) a (unmarked letter w (more c (letter a))) → T (M.move q (letter a) p)
           → cell_of costs c q ≤ with_step (cell_of costs (more c (letter a)) p) (step_cost letter w c (letter a))
       led c a p q pre pick m =
-          let z = stepped c a pre (more-of-pick may letter g.apart pre pick).0 in
+          let z = stepped c a pre (more_of_pick may letter g.apart pre pick).0 in
           let i = z.0 in
           let r' = z.1 in
           let n = z.2 in

@@ -22,7 +22,7 @@ use Rattle.theory.proofs.Counting.{count_above, length_range, prefixes_at, prefi
 use Rattle.theory.proofs.Levels.{at_bump, bump, by_total_at, by_total_nodup, by_total_of, le_total, total_prefix}
 use Rattle.theory.proofs.Merge.{at_prefix, level_first, level_whole}
 use Rattle.theory.proofs.Packing.{field_packed, packed_inj, packed_length}
-use Rattle.theory.proofs.Prefixes.{count_front, count_of_prefix, front_all, front_length, front_of_prefix, one_same, prefix-of-front}
+use Rattle.theory.proofs.Prefixes.{count_front, count_of_prefix, front_all, front_length, front_of_prefix, one_same, prefix_of_front}
 use Rattle.theory.proofs.RecordOrder.{by_total_sorted, ranked_getd, ranked_total}
 use Rattle.counts.proofs.Packed.{Small}
 use Rattle.records.specs.Records.{counts_at, records_in}
@@ -157,7 +157,7 @@ module _ (h : Shape) (masks moves : List ℕ) (may : ℕ → ℕ → Bool) (lett
   )
 
   whole_prefix : IsPrefix may letter w (count letter w)
-  whole_prefix = prefix-of-front may letter g.apart (front_all may w)
+  whole_prefix = prefix_of_front may letter g.apart (front_all may w)
 
   pub last_at : (i : ℕ) → suc i ≡ length prefix_list → at (get_or prefix_list i []) ≡ count letter w
   last_at i e =

@@ -34,9 +34,9 @@ module _ (h : Shape) (moves log t : List ℕ) where
 
   module _ (laid : Laid h moves log t) where
     -- all is none but the start
-    pub onward-start : (u v v' : List ℕ) → Cleared u v 0 (records_in t * h.s) → v' ≡ set v h.start (min 0 (get_or v h.start none_cost))
+    pub onward_start : (u v v' : List ℕ) → Cleared u v 0 (records_in t * h.s) → v' ≡ set v h.start (min 0 (get_or v h.start none_cost))
         → records_in t * h.s ≤ length u → Onward u v' 0 0
-    onward-start u v v' c e room = record {
+    onward_start u v v' c e room = record {
       as_long = ap length e ∙ length-set v h.start (min 0 (get_or v h.start none_cost)) ∙ c.as_long;
       behind = λ i le. other i (λ q. omega (arith, q, le, first)) ∙ cleared_out u v 0 (records_in t * h.s) c i (inr (omega (arith, le)));
       start = here (0 * h.s + h.start) (omega arith);
@@ -65,9 +65,9 @@ module _ (h : Shape) (moves log t : List ℕ) where
             omega (arith, ap (cost_in v') q, ap (λ z. cost_in z h.start) e, s)
 
     -- letter x leads from record j to record r
-    pub onward-led : (u v v' : List ℕ) (j x r : ℕ) → Next h moves log t j x r
+    pub onward_led : (u v v' : List ℕ) (j x r : ℕ) → Next h moves log t j x r
         → LedOn v v' (j * h.s) (r * h.s) h.k h.s moves x (cost_after h moves log t j x) h.s → Onward u v j x → Onward u v' j (suc x)
-    onward-led u v v' j x r next l o = record {
+    onward_led u v v' j x r next l o = record {
       as_long = l.as_long ∙ o.as_long;
       behind = λ i le. l.outside i (inr (omega (arith, le, row_ends r (records_in t) h.s next.inside))) ∙ o.behind i le;
       start = omega (arith, l.no_more (0 * h.s + h.start), o.start);
@@ -128,8 +128,8 @@ module _ (h : Shape) (moves log t : List ℕ) where
             (o.by j q₀ next.before lt)
 
     -- letter x leads nowhere
-    pub onward-none : (u v : List ℕ) (j x : ℕ) → ((r : ℕ) → Next h moves log t j x r → ⊥) → Onward u v j x → Onward u v j (suc x)
-    onward-none u v j x none o = record {
+    pub onward_none : (u v : List ℕ) (j x : ℕ) → ((r : ℕ) → Next h moves log t j x r → ⊥) → Onward u v j x → Onward u v j (suc x)
+    onward_none u v j x none o = record {
       as_long = o.as_long;
       behind = o.behind;
       start = o.start;
@@ -144,8 +144,8 @@ module _ (h : Shape) (moves log t : List ℕ) where
     }
 
     -- all letters of record j have led on
-    pub onward-record : (u v : List ℕ) (j x : ℕ) → h.k ≤ x → Onward u v j x → Onward u v (suc j) 0
-    onward-record u v j x all o = record {
+    pub onward_record : (u v : List ℕ) (j x : ℕ) → h.k ≤ x → Onward u v j x → Onward u v (suc j) 0
+    onward_record u v j x all o = record {
       as_long = o.as_long;
       behind = o.behind;
       start = o.start;

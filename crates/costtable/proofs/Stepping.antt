@@ -18,7 +18,7 @@ use Rattle.records.specs.Records.{counts_at, records_in}
 use Rattle.search.specs.Search.{has?}
 use Rattle.stepcost.specs.StepCosts.{Within}
 use Rattle.costcursors.specs.Cursors.{High, Low, Splits}
-use Rattle.costcursors.proofs.Successors.{high-on, low-on, next_packed, successor_of}
+use Rattle.costcursors.proofs.Successors.{high_on, low_on, next_packed, successor_of}
 use Rattle.costrows.specs.Rows.{Rows}
 use Rattle.costtable.specs.Costs.{Given}
 use Rattle.costtable.proofs.Ways.{Laid, Next, row_ends, same_or_not}
@@ -61,14 +61,14 @@ module _ (h : Shape) (moves t log starts places costs : List ℕ) (g : Given h m
     lj : j < length lists
     lj = inside_of h g.masks moves g.may g.letter g.events t log starts places g.lent j lt
 
-    pub low-next : (r : ℕ) → Low t (add_count layout (counts_at t i) x) r → Low t (add_count layout (counts_at t j) x) r
-    low-next r low = subst (λ c. Low t c r) (sym (wanted j x lt xk)) (low-on t h.k lists g.lent.records i j x before lj xk
+    pub low_next : (r : ℕ) → Low t (add_count layout (counts_at t i) x) r → Low t (add_count layout (counts_at t j) x) r
+    low_next r low = subst (λ c. Low t c r) (sym (wanted j x lt xk)) (low_on t h.k lists g.lent.records i j x before lj xk
         (small_more h g.masks moves g.may g.letter g.events t log starts places g.lent i x li xk)
         (small_more h g.masks moves g.may g.letter g.events t log starts places g.lent j x lj xk)
         r (subst (λ c. Low t c r) (wanted i x (omega (arith, before, lt)) xk) low))
 
-    pub high-next : (r : ℕ) → High t (add_count layout (counts_at t j) x) r → High t (add_count layout (counts_at t i) x) r
-    high-next r high = subst (λ c. High t c r) (sym (wanted i x (omega (arith, before, lt)) xk)) (high-on t h.k lists g.lent.records i j x before lj xk
+    pub high_next : (r : ℕ) → High t (add_count layout (counts_at t j) x) r → High t (add_count layout (counts_at t i) x) r
+    high_next r high = subst (λ c. High t c r) (sym (wanted i x (omega (arith, before, lt)) xk)) (high_on t h.k lists g.lent.records i j x before lj xk
         (small_more h g.masks moves g.may g.letter g.events t log starts places g.lent i x li xk)
         (small_more h g.masks moves g.may g.letter g.events t log starts places g.lent j x lj xk)
         r (subst (λ c. High t c r) (wanted j x lt xk) high))
@@ -76,8 +76,8 @@ module _ (h : Shape) (moves t log starts places costs : List ℕ) (g : Given h m
   -- ---- letter x of record j; `want` are the counts looked for, r is where the cursor stops
   module _ (j x r : ℕ) (want : List ℕ) (lt : j < records_in t) (xk : x < h.k) (is-wanted : want ≡ add_count layout (counts_at t j) x) where
     -- the record there is the next
-    pub found-next : (ltb r (records_in t) && has? t want r) ≡ true → Next h moves log t j x r
-    found-next e =
+    pub found_next : (ltb r (records_in t) && has? t want r) ≡ true → Next h moves log t j x r
+    found_next e =
         let y : T (ltb r (records_in t) && has? t want r) = rw e tt in
         record {
           letter = xk;
@@ -87,8 +87,8 @@ module _ (h : Shape) (moves t log starts places costs : List ℕ) (g : Given h m
         }
 
     -- or there is none
-    pub no-next : (ltb r (records_in t) && has? t want r) ≡ false → Splits t want r → (r' : ℕ) → Next h moves log t j x r' → ⊥
-    no-next e s r' n =
+    pub no_next : (ltb r (records_in t) && has? t want r) ≡ false → Splits t want r → (r' : ℕ) → Next h moves log t j x r' → ⊥
+    no_next e s r' n =
         let lr = inside_of h g.masks moves g.may g.letter g.events t log starts places g.lent r' n.inside in
         let q : want ≡ packed layout (get_or lists r' []) = is-wanted ∙ sym n.one_more ∙ g.lent.records.counts r' lr in
         let z = successor_of t h.k lists g.lent.records r' r lr (subst (λ c. Splits t c r) q s) in
@@ -96,8 +96,8 @@ module _ (h : Shape) (moves t log starts places costs : List ℕ) (g : Given h m
         rw e at y
 
     module _ (n : Next h moves log t j x r) where
-      pub next-rows : Rows costs (j * h.s) (r * h.s) h.k h.s moves x
-      next-rows = record {
+      pub next_rows : Rows costs (j * h.s) (r * h.s) h.k h.s moves x
+      next_rows = record {
         letters = g.lent.records.letters;
         letter = xk;
         states = g.lent.profile.states.1;
@@ -107,8 +107,8 @@ module _ (h : Shape) (moves t log starts places costs : List ℕ) (g : Given h m
         small = λ q qs. row_small h g.masks moves g.may g.letter g.events t log starts places g.lent q x qs xk;
       }
 
-      pub next-within : Within h.k log (counts_at t j) (counts_at t (records_in t - 1)) x
-      next-within = within h g.masks moves g.may g.letter g.events t log starts places g.lent j x r (records_in t - 1) n (omega (arith, lt))
+      pub next_within : Within h.k log (counts_at t j) (counts_at t (records_in t - 1)) x
+      next_within = within h g.masks moves g.may g.letter g.events t log starts places g.lent j x r (records_in t - 1) n (omega (arith, lt))
 
 -- the cursor of each letter may go on from where it stands, for record j; or back
 abbrev pub LowAll : List ℕ → ℕ → ℕ → List ℕ → Type 0
@@ -147,7 +147,7 @@ high_start t j k cursors last x xk = (omega (arith, last x xk), λ i ge lt. absu
 -- from record to record
 module _ (h : Shape) (moves t log starts places costs : List ℕ) (g : Given h moves t log starts places costs) (j : ℕ) (lt : suc j < records_in t) (cursors : List ℕ) where
   pub low_record : LowAll t j h.k cursors → LowAll t (suc j) h.k cursors
-  low_record all x xk = ((all x xk).0, low-next h moves t log starts places costs g j (suc j) x (omega arith) lt xk (get_or cursors x 0) (all x xk).1)
+  low_record all x xk = ((all x xk).0, low_next h moves t log starts places costs g j (suc j) x (omega arith) lt xk (get_or cursors x 0) (all x xk).1)
 
   pub high_record : HighAll t (suc j) h.k cursors → HighAll t j h.k cursors
-  high_record all x xk = ((all x xk).0, high-next h moves t log starts places costs g j (suc j) x (omega arith) lt xk (get_or cursors x 0) (all x xk).1)
+  high_record all x xk = ((all x xk).0, high_next h moves t log starts places costs g j (suc j) x (omega arith) lt xk (get_or cursors x 0) (all x xk).1)

@@ -34,7 +34,7 @@ use Rattle.costwalk.specs.Walk.{Chooses, Ends, Standing, Tested, Tries}
 use Rattle.costwalk.specs.declared.Choice.{Choice}
 use Rattle.costwalk.specs.declared.Next.TheVariants.{Costs as Cost, Not}
 use Rattle.swaps.proofs.Letters.{step_letters}
-use Rattle.successors.proofs.More.{more-at, more-none, prefix_of}
+use Rattle.successors.proofs.More.{more_at, more_none, prefix_of}
 use Rattle.costwalk.proofs.Rows.{fields, recorded, whole_counts}
 
 -- ---- moves stay below s
@@ -67,7 +67,7 @@ module _ {p : Profile} {may : ℕ → ℕ → Bool} {letter : ℕ → ℕ} {w t 
 
     module _ (r : ℕ) (found : found_in t (add_count layout n x) ≡ At r) where
       there : T (addable? may letter w (at z.counts) x) × (r < length (by_total may letter p.k w)) × (get_or (by_total may letter p.k w) r [] ≡ bump z.counts x)
-      there = more-at (recorded z.lent) z.counts z.prefix x h r (ap (found_in t) (sym looked) ∙ found)
+      there = more_at (recorded z.lent) z.counts z.prefix x h r (ap (found_in t) (sym looked) ∙ found)
 
       pub addable : T (addable? may letter w (count_field layout n) x)
       addable = subst (λ f. T (addable? may letter w f x)) (sym counted) there.0
@@ -93,13 +93,13 @@ module _ {p : Profile} {may : ℕ → ℕ → Bool} {letter : ℕ → ℕ} {w t 
           log-count y = ap (λ l. count (λ a. a) l y) (sym z.lent.letters) ∙ count_letters letter w y
 
       -- the cost of letter x, from the places of the log
-      pub own-cost : (m : List ℕ) → m ≡ n → step_cost (λ a. a) log (count_field layout m) x ≡ step_cost letter w (count_field layout n) x
-      own-cost m e =
+      pub own_cost : (m : List ℕ) → m ≡ n → step_cost (λ a. a) log (count_field layout m) x ≡ step_cost letter w (count_field layout n) x
+      own_cost m e =
           ap (λ i. step_cost (λ a. a) log (count_field layout i) x) e ∙ ap (λ l. step_cost (λ a. a) l (count_field layout n) x) (sym z.lent.letters) ∙ sym (step_letters letter w (count_field layout n) x)
 
       -- what stands in the row
-      row-cells : (S q : ℕ) → T (bit ((automaton p).step S x) q) → cost_in costs (r * p.s + q) ≡ cell (rest_swaps may letter (automaton p) w (more (count_field layout n) x) q)
-      row-cells S q b =
+      row_cells : (S q : ℕ) → T (bit ((automaton p).step S x) q) → cost_in costs (r * p.s + q) ≡ cell (rest_swaps may letter (automaton p) w (more (count_field layout n) x) q)
+      row_cells S q b =
           let l = (prefix_of (recorded z.lent) z.counts z.prefix).0 in
           z.right.cells r q there.1 (bit_below p.s ((automaton p).step S x) q (step_inside p z.lent.profile S x) b)
           ∙ ap (λ f. cell (rest_swaps may letter (automaton p) w f q)) (ap at there.2 ∙ at_bump z.counts x (omega (arith, h, l)) ∙ ap (λ f. more f x) (sym counted))
@@ -107,18 +107,18 @@ module _ {p : Profile} {may : ℕ → ℕ → Bool} {letter : ℕ → ℕ} {w t 
       module _ (S : ℕ) {more-cost : ℕ} (is-cost : more-cost ≡ step_cost letter w (count_field layout n) x) where
         pub ends_of : Tested costs (r * p.s) ((automaton p).step S x) more-cost left true → Ends p may letter w (count_field layout n) S left x
         ends_of d =
-            let f = fits_of may letter (automaton p) w (count_field layout n) S left x z.small costs (r * p.s) d.cost d.least (row-cells S)
+            let f = fits_of may letter (automaton p) w (count_field layout n) S left x z.small costs (r * p.s) d.cost d.least (row_cells S)
             (subst (λ i. with_step d.cost i ≤ left) is-cost (leb→le (with_step d.cost more-cost) left (subst T d.told tt))) in
             (addable, f.0, f.1, f.2, f.3, f.4)
 
-        pub ends-not : Tested costs (r * p.s) ((automaton p).step S x) more-cost left false → Ends p may letter w (count_field layout n) S left x → ⊥
-        ends-not d e =
+        pub ends_not : Tested costs (r * p.s) ((automaton p).step S x) more-cost left false → Ends p may letter w (count_field layout n) S left x → ⊥
+        ends_not d e =
             subst T (sym d.told) (le→leb (with_step d.cost more-cost) left (subst (λ i. with_step d.cost i ≤ left) (sym is-cost)
-            (fits_at may letter (automaton p) w (count_field layout n) S left x z.small costs (r * p.s) d.cost d.least (row-cells S) (e.1, e.2, e.3, e.4, e.5))))
+            (fits_at may letter (automaton p) w (count_field layout n) S left x z.small costs (r * p.s) d.cost d.least (row_cells S) (e.1, e.2, e.3, e.4, e.5))))
 
-    pub absent-ends : (i S : ℕ) → found_in t (add_count layout n x) ≡ Absent i → Ends p may letter w (count_field layout n) S left x → ⊥
-    absent-ends i S found e =
-        more-none (recorded z.lent) z.counts z.prefix x h i (ap (found_in t) (sym looked) ∙ found)
+    pub absent_ends : (i S : ℕ) → found_in t (add_count layout n x) ≡ Absent i → Ends p may letter w (count_field layout n) S left x → ⊥
+    absent_ends i S found e =
+        more_none (recorded z.lent) z.counts z.prefix x h i (ap (found_in t) (sym looked) ∙ found)
         (subst (λ f. T (addable? may letter w f x)) counted e.0)
 
 -- ---- the letters tried so far

@@ -18,9 +18,9 @@ use Rattle.profile.specs.Lists.{Mem, below}
 use Rattle.profile.specs.Prefixes.{IsPrefix, addable?, at, by_total, more, unmarked}
 use Rattle.profile.specs.Tables.{count_field, layout, packed}
 use Rattle.profile.proofs.Traces.{takes_length}
-use Rattle.theory.proofs.Automata.{prefix-none, unmarked-none}
+use Rattle.theory.proofs.Automata.{prefix_none, unmarked_none}
 use Rattle.theory.proofs.Counting.{length_range}
-use Rattle.theory.proofs.Earliest.{end, greedy-append}
+use Rattle.theory.proofs.Earliest.{end, greedy_append}
 use Rattle.theory.proofs.Levels.{at_bump, bump}
 use Rattle.theory.proofs.Merge.{at_prefix}
 use Rattle.theory.proofs.Packing.{packed_zero}
@@ -29,12 +29,12 @@ use Rattle.counts.specs.Counts.{add_count}
 use Rattle.swaps.specs.Closest.{fewest_swaps, order_with}
 use Rattle.swaps.specs.Swaps.{step_cost}
 use Rattle.swaps.proofs.Bounds.{fewest_small}
-use Rattle.swaps.proofs.Walks.{Fits, Read, ReadBy, Walk, goes_on, read_all, read_on, rest_goes, unread, walk_order, walk-some, walk-starts, walk_step}
+use Rattle.swaps.proofs.Walks.{Fits, Read, ReadBy, Walk, goes_on, read_all, read_on, rest_goes, unread, walk_order, walk_some, walk_starts, walk_step}
 use Rattle.earliest.specs.Earliest.{with_order}
 use Rattle.costtable.specs.Costs.{Lent}
 use Rattle.costwalk.specs.Walk.{Chooses, Chosen, Ends, Known, Leads, Puts, RowsOut, Some, Standing}
 use Rattle.costwalk.specs.declared.Choice.{Choice}
-use Rattle.successors.proofs.More.{more-in-order, more_packed, of_prefix, prefix_of}
+use Rattle.successors.proofs.More.{more_in_order, more_packed, of_prefix, prefix_of}
 use Rattle.costwalk.proofs.Rows.{as_many, below_k, few_events, fields, recorded}
 
 module _ {p : Profile} {may : ℕ → ℕ → Bool} {letter : ℕ → ℕ} {w t log starts places costs : List ℕ} {n : ℕ} (g : Lent p may letter w t log starts places)
@@ -79,18 +79,18 @@ module _ {p : Profile} {may : ℕ → ℕ → Bool} {letter : ℕ → ℕ} {w t 
   -- ---- nothing is taken
 
   no_counts : at (map (λ x. 0) (below p.k)) ≡ (λ x. 0)
-  no_counts = at_prefix may letter g.apart p.k w (below_k g) (prefix-none may letter (automaton p) (lawful p) w g.apart)
+  no_counts = at_prefix may letter g.apart p.k w (below_k g) (prefix_none may letter (automaton p) (lawful p) w g.apart)
 
   pub taken_none : (before c : List ℕ) → c ≡ packed layout [] → Taken before 0 before c (automaton p).start n
   taken_none before c e =
       let z : List ℕ = map (λ x. 0) (below p.k) in
-      let first = walk-starts may letter (automaton p) (lawful p) w g.apart n few in
-      let all = unmarked-none may letter (automaton p) (lawful p) w g.apart in
+      let first = walk_starts may letter (automaton p) (lawful p) w g.apart n few in
+      let all = unmarked_none may letter (automaton p) (lawful p) w g.apart in
       record {
         events = [];
         counts = z;
         spent = 0;
-        prefix = of_prefix (recorded g) z (length_range (λ x. 0) p.k 0) (subst (IsPrefix may letter w) (sym no_counts) (prefix-none may letter (automaton p) (lawful p) w g.apart));
+        prefix = of_prefix (recorded g) z (length_range (λ x. 0) p.k 0) (subst (IsPrefix may letter w) (sym no_counts) (prefix_none may letter (automaton p) (lawful p) w g.apart));
         numbers = e ∙ sym (packed_zero layout p.k);
         walk = subst (λ f. Walked [] (f, 0, (automaton p).start) (unmarked letter w f)) (sym no_counts)
             (subst (Walked [] begun) (sym all) end);
@@ -105,11 +105,11 @@ module _ {p : Profile} {may : ℕ → ℕ → Bool} {letter : ℕ → ℕ} {w t 
   -- ---- one letter more
 
   module _ {before now c : List ℕ} {i S left : ℕ} (r : Taken before i now c S left) where
-    pub taken-standing : Standing p may letter w t log starts places costs c left
-    taken-standing = record { lent = g; right = right; counts = r.counts; prefix = r.prefix; numbers = r.numbers; small = omega (arith, n_small, r.sum) }
+    pub taken_standing : Standing p may letter w t log starts places costs c left
+    taken_standing = record { lent = g; right = right; counts = r.counts; prefix = r.prefix; numbers = r.numbers; small = omega (arith, n_small, r.sum) }
 
-    pub taken-length : i ≤ length before → length now ≡ length before
-    taken-length h = ap length r.there ∙ omega (arith, length-append (map letter r.events) (drop i before), length-drop i before, length-map r.events letter, r.long)
+    pub taken_length : i ≤ length before → length now ≡ length before
+    taken_length h = ap length r.there ∙ omega (arith, length-append (map letter r.events) (drop i before), length-drop i before, length-map r.events letter, r.long)
 
     counted : count_field layout c ≡ at r.counts
     counted = ap (count_field layout) r.numbers ∙ fields g r.counts r.prefix
@@ -119,18 +119,18 @@ module _ {p : Profile} {may : ℕ → ℕ → Bool} {letter : ℕ → ℕ} {w t 
     left_over = omega (arith, takes_length may r.by.taken, r.long)
 
     -- that an end is reached, in the words of the walk
-    fits-at-end : (x : ℕ) → Ends p may letter w (at r.counts) S left x → Fitting (at r.counts, r.spent, S) x
-    fits-at-end x e = (e.1, e.2, e.3, e.4, omega (arith, e.5, r.sum))
+    fits_at_end : (x : ℕ) → Ends p may letter w (at r.counts) S left x → Fitting (at r.counts, r.spent, S) x
+    fits_at_end x e = (e.1, e.2, e.3, e.4, omega (arith, e.5, r.sum))
 
-    end-of-fits : (x : ℕ) → T (addable? may letter w (at r.counts) x) → Fitting (at r.counts, r.spent, S) x
+    end_of_fits : (x : ℕ) → T (addable? may letter w (at r.counts) x) → Fitting (at r.counts, r.spent, S) x
         → Ends p may letter w (at r.counts) S left x
-    end-of-fits x a f = (a, f.0, f.1, f.2, f.3, omega (arith, f.4, r.sum))
+    end_of_fits x a f = (a, f.0, f.1, f.2, f.3, omega (arith, f.4, r.sum))
 
-    pub taken-some : i < length w → Some p may letter w (count_field layout c) S left
-    taken-some h =
-        let s = walk-some may letter (automaton p) (lawful p) w g.apart n few p.k (below_k g) (at r.counts, r.spent, S) (prefix_of (recorded g) r.counts r.prefix).1
+    pub taken_some : i < length w → Some p may letter w (count_field layout c) S left
+    taken_some h =
+        let s = walk_some may letter (automaton p) (lawful p) w g.apart n few p.k (below_k g) (at r.counts, r.spent, S) (prefix_of (recorded g) r.counts r.prefix).1
         (λ e. omega (arith, h, left_over, ap length e)) r.goes in
-        subst (λ f. Some p may letter w f S left) (sym counted) (s.0, s.1, end-of-fits s.0 s.2 s.3)
+        subst (λ f. Some p may letter w f S left) (sym counted) (s.0, s.1, end_of_fits s.0 s.2 s.3)
 
     pub taken_next : i < length w → length w ≤ length before → (o : Choice) → Chosen p may letter w (count_field layout c) S left o
         → (o.cost ≤ left) × Taken before (suc i) (set now i o.letter) (add_count layout c o.letter) ((automaton p).step S o.letter) (left - o.cost)
@@ -140,14 +140,14 @@ module _ {p : Profile} {may : ℕ → ℕ → Bool} {letter : ℕ → ℕ} {w t 
         events = r.events ++ (a ∷ []);
         counts = bump v x;
         spent = r.spent + step_cost letter w (at v) x;
-        prefix = more-in-order (recorded g) v r.prefix x chosen.below ends.0;
+        prefix = more_in_order (recorded g) v r.prefix x chosen.below ends.0;
         numbers = ap (λ m. add_count layout m x) r.numbers ∙ more_packed (recorded g) v x chosen.below r.prefix;
         walk = subst (λ f. Walked (r.events ++ (a ∷ [])) (f, r.spent + step_cost letter w (at v) x, (automaton p).step S x) (unmarked letter w f)) (sym more-is)
-            (greedy-append may letter (read_on may letter (automaton p) (lawful p) w g.apart n) (read_all may letter (automaton p) (lawful p) w g.apart n) (goes_on may letter (automaton p) (lawful p) w g.apart n) r.walk step.2);
+            (greedy_append may letter (read_on may letter (automaton p) (lawful p) w g.apart n) (read_all may letter (automaton p) (lawful p) w g.apart n) (goes_on may letter (automaton p) (lawful p) w g.apart n) r.walk step.2);
         by = subst (λ f. ReadTo (r.events ++ (a ∷ [])) (f, r.spent + step_cost letter w (at v) x, (automaton p).step S x)) (sym more-is) step.3;
         goes = subst (λ f. Live (f, r.spent + step_cost letter w (at v) x, (automaton p).step S x) (unmarked letter w f)) (sym more-is)
-            (let f = fits-at-end x ends in rest_goes may letter (automaton p) (lawful p) w g.apart n few (read_on may letter (automaton p) (lawful p) w g.apart n (at v, r.spent, S) x) f.0 f.1 step.3 f.2 f.3 f.4);
-        sum = omega (arith, r.sum, ends.5, own-cost);
+            (let f = fits_at_end x ends in rest_goes may letter (automaton p) (lawful p) w g.apart n few (read_on may letter (automaton p) (lawful p) w g.apart n (at v, r.spent, S) x) f.0 f.1 step.3 f.2 f.3 f.4);
+        sum = omega (arith, r.sum, ends.5, own_cost);
         long = omega (arith, length-append r.events (a ∷ []), r.long);
         there = put;
       },
@@ -162,16 +162,16 @@ module _ {p : Profile} {may : ℕ → ℕ → Bool} {letter : ℕ → ℕ} {w t 
         ends : Ends p may letter w (at v) S left x
         ends = subst (λ f. Ends p may letter w f S left x) counted chosen.ends
 
-        own-cost : o.cost ≡ step_cost letter w (at v) x
-        own-cost = chosen.cost ∙ ap (λ f. step_cost letter w f x) counted
+        own_cost : o.cost ≡ step_cost letter w (at v) x
+        own_cost = chosen.cost ∙ ap (λ f. step_cost letter w f x) counted
 
         more-is : at (bump v x) ≡ more (at v) x
         more-is = at_bump v x (omega (arith, chosen.below, (prefix_of (recorded g) v r.prefix).0))
 
         step : (a : ℕ) × (letter a ≡ x) × Walk may letter (automaton p) (lawful p) w g.apart n (at v, r.spent, S) (unmarked letter w (at v)) (a ∷ []) (read_on may letter (automaton p) (lawful p) w g.apart n (at v, r.spent, S) x) (unmarked letter w (more (at v) x))
             × ReadTo (r.events ++ (a ∷ [])) (read_on may letter (automaton p) (lawful p) w g.apart n (at v, r.spent, S) x) × IsPrefix may letter w (more (at v) x)
-        step = walk_step may letter (automaton p) (lawful p) w g.apart n few (at v, r.spent, S) x (prefix_of (recorded g) v r.prefix).1 r.by ends.0 (fits-at-end x ends)
-            (λ y lt s f. chosen.first y lt (subst (λ c. Ends p may letter w c S left y) (sym counted) (end-of-fits y s f)))
+        step = walk_step may letter (automaton p) (lawful p) w g.apart n few (at v, r.spent, S) x (prefix_of (recorded g) v r.prefix).1 r.by ends.0 (fits_at_end x ends)
+            (λ y lt s f. chosen.first y lt (subst (λ c. Ends p may letter w c S left y) (sym counted) (end_of_fits y s f)))
 
         a : ℕ
         a = step.0
@@ -187,7 +187,7 @@ module _ {p : Profile} {may : ℕ → ℕ → Bool} {letter : ℕ → ℕ} {w t 
 
   pub taken_all : {before now c : List ℕ} {S left : ℕ} → Taken before (length w) now c S left → now ≡ with_order (order_with may letter (automaton p) w n) before
   taken_all {before} {now} {c} {S} {left} r =
-      let first = walk-starts may letter (automaton p) (lawful p) w g.apart n few in
+      let first = walk_starts may letter (automaton p) (lawful p) w g.apart n few in
       let rest = unmarked letter w (at r.counts) in
       let whole : rest ≡ [] = drop_of_length-le rest {i = 0} (omega (arith, left_over r)) in
       let all = walk_order may letter (automaton p) (lawful p) w g.apart n first.0
@@ -211,19 +211,19 @@ module _ (h : Shape) (moves t log starts places costs : List ℕ) (n : ℕ) (bef
 
   module _ {i S left : ℕ} {now c : List ℕ} (k : Walks i now c S left) where
     -- what the next letter asks for
-    pub walks-lead : Known h moves t log starts places costs n → i < length log → Leads h moves t log starts places costs c S left
-    walks-lead z lt =
+    pub walks_lead : Known h moves t log starts places costs n → i < length log → Leads h moves t log starts places costs c S left
+    walks_lead z lt =
         let r = k z.masks z.may z.letter z.events z.lent z.right z.fewest in
         record {
-          stands = record { masks = z.masks; may = z.may; letter = z.letter; events = z.events; standing = taken-standing z.lent z.right z.fewest r };
-          some = taken-some z.lent z.right z.fewest r (omega (arith, lt, as_many z.lent));
+          stands = record { masks = z.masks; may = z.may; letter = z.letter; events = z.events; standing = taken_standing z.lent z.right z.fewest r };
+          some = taken_some z.lent z.right z.fewest r (omega (arith, lt, as_many z.lent));
         }
 
     module _ (lt : i < length log) (room : length log ≤ length before) (o : Choice) (chosen : Chooses h moves t log starts places costs c S left o) where
-      pub walks-below : Known h moves t log starts places costs n → (o.letter < h.k) × (h.k ≤ most_letters) × (h.s ≤ most_states) × (o.cost ≤ left)
-      unfolding walks-lead
-      walks-below z =
-          let l = walks-lead z lt in
+      pub walks_below : Known h moves t log starts places costs n → (o.letter < h.k) × (h.k ≤ most_letters) × (h.s ≤ most_states) × (o.cost ≤ left)
+      unfolding walks_lead
+      walks_below z =
+          let l = walks_lead z lt in
           let d = chosen z.masks z.may z.letter z.events l.stands.standing l.some in
           (d.below, z.lent.profile.relation.most, z.lent.profile.states.1, omega (arith, d.cost, d.ends.5))
 
@@ -232,7 +232,7 @@ module _ (h : Shape) (moves t log starts places costs : List ℕ) (n : ℕ) (bef
       walks_next {c'} {S'} {left'} e₀ e₁ e₂ masks may letter w g right few =
           let r = k masks may letter w g right few in
           let less : i < length w = omega (arith, lt, as_many g) in
-          let d = chosen masks may letter w (taken-standing g right few r) (taken-some g right few r less) in
+          let d = chosen masks may letter w (taken_standing g right few r) (taken_some g right few r less) in
           let n₀ = (taken_next g right few r less (omega (arith, room, as_many g)) o d).1 in
           let l = set now i o.letter in
           let n₁ = subst (λ d. Taken g right few before (suc i) l d (forward_step h.k h.s moves S o.letter) (left - o.cost)) (sym e₀) n₀ in

@@ -16,7 +16,7 @@ use Rattle.theory.proofs.Fronts.{front_at}
 use Rattle.theory.proofs.Merge.{hits, hits_at, seek}
 use Rattle.records.specs.Drafts.{draft}
 use Rattle.records.specs.Records.{last_at, records_in}
-use Rattle.records.proofs.Drafts.{last-of-draft, records-of-drafts}
+use Rattle.records.proofs.Drafts.{last_of_draft, records_of_drafts}
 use Rattle.cursors.specs.Cursors.{advanced, moved_on, seek_from, started}
 
 -- two searches that agree at the first elements and behind them
@@ -30,12 +30,12 @@ module _ (f g : List ℕ → ℕ) (C : List (List ℕ)) (t : List ℕ) (drafts :
   level_whole = drafts ∙ sym (append-nil (flat_map (draft f g) C))
 
   pub level_records : records_in t ≡ length C
-  level_records = records-of-drafts f g C t [] level_whole (omega arith)
+  level_records = records_of_drafts f g C t [] level_whole (omega arith)
 
   -- ---- the search, where the last number of a record says which letters can be added
   module _ (k : ℕ) (add : ℕ → List ℕ → Bool) (bits : (c : List ℕ) (x : ℕ) → Mem c C → x < k → bit (g c) x ≡ add x c) where
-    pub level-seek : (j x : ℕ) → x < k → j ≤ length C → seek_from t j x ≡ seek (add x) C j
-    level-seek j x h le =
+    pub level_seek : (j x : ℕ) → x < k → j ≤ length C → seek_from t j x ≡ seek (add x) C j
+    level_seek j x h le =
         ap (λ n. j + first_place (λ i. bit (last_at t i) x) (range j (n - j))) level_records ∙ ap (λ n. j + n) (go (length C - j) j (omega arith))
       where
         go : (n j : ℕ) → j + n ≡ length C → first_place (λ i. bit (last_at t i) x) (range j n) ≡ first_place (add x) (drop j C)
@@ -43,20 +43,20 @@ module _ (f g : List ℕ → ℕ) (C : List (List ℕ)) (t : List ℕ) (drafts :
         go (suc n) j e =
             let lt : j < length C = omega arith in
             let d : bit (last_at t j) x ≡ add x (get_or C j []) =
-            ap (λ s. bit s x) (last-of-draft f g C t [] level_whole j lt) ∙ bits (get_or C j []) x (mem_getd C j [] lt) h in
+            ap (λ s. bit s x) (last_of_draft f g C t [] level_whole j lt) ∙ bits (get_or C j []) x (mem_getd C j [] lt) h in
             first_agree (λ i. bit (last_at t i) x) (add x) j (get_or C j []) (range (suc j) n) (drop (suc j) C) (add x (get_or C j [])) d refl (go n (suc j) (omega arith))
             ∙ ap (first_place (add x)) (sym (drop-cons C j [] lt))
 
-    pub level-started : (cs : List ℕ) → k ≤ length cs → (x : ℕ) → x < k → at (started k t cs) x ≡ seek (add x) C 0
-    level-started cs le x h = front_at (seek_from t 0) cs k le x h ∙ level-seek 0 x h (omega arith)
+    pub level_started : (cs : List ℕ) → k ≤ length cs → (x : ℕ) → x < k → at (started k t cs) x ≡ seek (add x) C 0
+    level_started cs le x h = front_at (seek_from t 0) cs k le x h ∙ level_seek 0 x h (omega arith)
 
     -- G has the letters whose cursors hit e: these cursors move on
-    pub level-advanced : (cs e : List ℕ) (G : ℕ) → ((x : ℕ) → x < k → bit G x ≡ hits C x e (at cs x)) → k ≤ length cs → (x : ℕ) → x < k
+    pub level_advanced : (cs e : List ℕ) (G : ℕ) → ((x : ℕ) → x < k → bit G x ≡ hits C x e (at cs x)) → k ≤ length cs → (x : ℕ) → x < k
         → at (advanced k t cs G) x ≡ cond (hits C x e (at cs x)) (seek (add x) C (suc (at cs x))) (at cs x)
-    level-advanced cs e G agree le x h =
+    level_advanced cs e G agree le x h =
         front_at (λ y. moved_on t (at cs y) y G) cs k le x h
         ∙ ap (λ b. cond b (seek_from t (suc (at cs x)) x) (at cs x)) (agree x h) ∙ go (hits C x e (at cs x)) refl
       where
         go : (b : Bool) → hits C x e (at cs x) ≡ b → cond b (seek_from t (suc (at cs x)) x) (at cs x) ≡ cond b (seek (add x) C (suc (at cs x))) (at cs x)
-        go true q = level-seek (suc (at cs x)) x h (hits_at C x e (at cs x) (subst T (sym q) tt)).0
+        go true q = level_seek (suc (at cs x)) x h (hits_at C x e (at cs x) (subst T (sym q) tt)).0
         go false q = refl

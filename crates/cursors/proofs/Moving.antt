@@ -50,11 +50,11 @@ module _ (t : List ℕ) (k : ℕ) (cs : List ℕ) (G : ℕ) where
     r = bit_and left (left - 1)
 
     -- the lowest letter is one of G, and its cursor has not moved
-    pub moving-in : T (bit G x)
-    moving-in = m.within x (rest_first left some m.small)
+    pub moving_in : T (bit G x)
+    moving_in = m.within x (rest_first left some m.small)
 
-    pub moving-from : at cursors x ≡ at cs x
-    moving-from = m.stand x (inl (rest_first left some m.small))
+    pub moving_from : at cursors x ≡ at cs x
+    moving_from = m.stand x (inl (rest_first left some m.small))
 
     less : r < 2 ^ 32
     less = omega (arith, and_le_r left (left - 1), m.small)
@@ -64,8 +64,8 @@ module _ (t : List ℕ) (k : ℕ) (cs : List ℕ) (G : ℕ) where
     others y n = ⊎_elim (λ a. ⊎_elim inl (λ b. absurd (T_not (bit r y) n b)) (rest_other left some m.small y a)) inr (test (bit left y))
 
     -- its cursor moves on
-    pub moving-next : x < k → k ≤ length cs → (v : ℕ) → v ≡ seek_from t (suc (at cs x)) x → Moving r (set cursors x v)
-    moving-next lt wide v e = record {
+    pub moving_next : x < k → k ≤ length cs → (v : ℕ) → v ≡ seek_from t (suc (at cs x)) x → Moving r (set cursors x v)
+    moving_next lt wide v e = record {
       small = less;
       long = length-set cursors x v ∙ m.long;
       within = λ y a. m.within y (rest_in left some m.small y a);
@@ -77,14 +77,14 @@ module _ (t : List ℕ) (k : ℕ) (cs : List ℕ) (G : ℕ) where
     }
       where
         own : v ≡ goes x
-        own = e ∙ sym (ap (λ b. cond b (seek_from t (suc (at cs x)) x) (at cs x)) (is_true (bit G x) moving-in))
+        own = e ∙ sym (ap (λ b. cond b (seek_from t (suc (at cs x)) x) (at cs x)) (is_true (bit G x) moving_in))
 
         apart : (y : ℕ) → T (bit r y) ⊎ (k ≤ y) → y ≡ x → ⊥
         apart y a q = ⊎_elim (λ b. rest_without 32 left some m.small (subst (λ z. T (bit r z)) q b)) (λ b. omega arith) a
 
     -- it is no letter below k
-    pub moving-skip : k ≤ x → Moving r cursors
-    moving-skip le = record {
+    pub moving_skip : k ≤ x → Moving r cursors
+    moving_skip le = record {
       small = less;
       long = m.long;
       within = λ y a. m.within y (rest_in left some m.small y a);

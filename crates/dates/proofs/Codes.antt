@@ -35,15 +35,15 @@ module _ (w days terms : List ℕ) where
   day_refused e = rw (e, lowest)
 
   module _ (e : bad_day w days ≡ false) where
-    pub term-refused : bad_term terms ≡ true → some BadTerm ≡ lowest (term_refusals w days terms)
-    term-refused q = rw (e, q, lowest)
+    pub term_refused : bad_term terms ≡ true → some BadTerm ≡ lowest (term_refusals w days terms)
+    term_refused q = rw (e, q, lowest)
 
     module _ (q : bad_term terms ≡ false) where
-      pub outside-refused : no_term days terms ≡ true → some NoTerm ≡ lowest (term_refusals w days terms)
-      outside-refused r = rw (e, q, r, lowest)
+      pub outside_refused : no_term days terms ≡ true → some NoTerm ≡ lowest (term_refusals w days terms)
+      outside_refused r = rw (e, q, r, lowest)
 
-      pub none-refused : no_term days terms ≡ false → none ≡ lowest (term_refusals w days terms)
-      none-refused r = rw (e, q, r, lowest)
+      pub none_refused : no_term days terms ≡ false → none ≡ lowest (term_refusals w days terms)
+      none_refused r = rw (e, q, r, lowest)
 
 -- ---- codes
 
@@ -80,8 +80,8 @@ module _ (terms : List ℕ) (i : ℕ) where
   turned_back h = sym (ap (λ t. t && (leb (term_count terms) (suc i) || ltb (last_day terms i) (first_day terms (suc i)))) (lt-leb (first_day terms i) (last_day terms i) h))
 
   module _ (h : first_day terms i ≤ last_day terms i) where
-    pub last-rises : term_count terms ≤ suc i → true ≡ rises? terms i
-    last-rises le = sym (ap₂ (λ s t. s && (t || ltb (last_day terms i) (first_day terms (suc i)))) (le-leb (first_day terms i) (last_day terms i) h) (le-leb (term_count terms) (suc i) le))
+    pub last_rises : term_count terms ≤ suc i → true ≡ rises? terms i
+    last_rises le = sym (ap₂ (λ s t. s && (t || ltb (last_day terms i) (first_day terms (suc i)))) (le-leb (first_day terms i) (last_day terms i) h) (le-leb (term_count terms) (suc i) le))
 
-    pub next-after : suc i < term_count terms → ltb (last_day terms i) (first_day terms (suc i)) ≡ rises? terms i
-    next-after lt = sym (ap₂ (λ s t. s && (t || ltb (last_day terms i) (first_day terms (suc i)))) (le-leb (first_day terms i) (last_day terms i) h) (lt-leb (term_count terms) (suc i) lt))
+    pub next_after : suc i < term_count terms → ltb (last_day terms i) (first_day terms (suc i)) ≡ rises? terms i
+    next_after lt = sym (ap₂ (λ s t. s && (t || ltb (last_day terms i) (first_day terms (suc i)))) (le-leb (first_day terms i) (last_day terms i) h) (lt-leb (term_count terms) (suc i) lt))

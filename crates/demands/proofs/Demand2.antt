@@ -23,7 +23,7 @@ use Rattle.profile.specs.Traces.{Symmetric, independent, orders}
 use Rattle.profile.specs.declared.Refusal.{Refusal}
 use Rattle.profile.specs.declared.Refusal.TheVariants.{FullTable, ShortBuffer}
 use Rattle.profile.proofs.Traces.{cong_of_reach, order_of_mem, reach_of_cong, reach_orders, takes_length}
-use Rattle.theory.proofs.Agreement.{Representatives, prefix-count-traces, representatives-length, same_congruent}
+use Rattle.theory.proofs.Agreement.{Representatives, prefix_count_traces, representatives_length, same_congruent}
 use Rattle.theory.proofs.Earliest.{earliest_at, first_of}
 use Rattle.theory.proofs.Profiles.{distinct}
 use Rattle.theory.proofs.Refusals.{GoodLog, GoodProfile, log_at, lowest_none, profile_at}
@@ -41,7 +41,7 @@ use Rattle.comparison.specs.declared.Compared.TheVariants.{Different, Equal}
 use Rattle.comparison.proofs.Answers.{compared_same}
 use Rattle.order.specs.Order.{first_letters, letters_or_none, ordered_buffer}
 use Rattle.order.proofs.Answers.{answers}
-use Rattle.order.proofs.NormalForm.{equal-same, equal-written, written}
+use Rattle.order.proofs.NormalForm.{equal_same, equal_written, written}
 use Rattle.demands.specs.Traces.{HoldsTraces}
 use Rattle.demands.proofs.Records.{holds_traces}
 
@@ -53,10 +53,10 @@ zero_one e = let q = some-injective 0 1 e in omega arith
 
 module _ (p : Profile) (symmetric : Symmetric (independent p.masks)) (w : List ℕ) (good : GoodProfile p) (log : GoodLog p.k w) where
   count_of : (l : List (List ℕ)) → Representatives (independent p.masks) w l → length l ≡ prefixes_by (plain p) w
-  count_of = representatives-length (independent p.masks) (λ a. a) symmetric (distinct p.masks good.relation.own) p.k w log.letters
+  count_of = representatives_length (independent p.masks) (λ a. a) symmetric (distinct p.masks good.relation.own) p.k w log.letters
 
   some_list : (l : List (List ℕ)) × Representatives (independent p.masks) w l × (length l ≡ prefixes_by (plain p) w)
-  some_list = prefix-count-traces (independent p.masks) (λ a. a) symmetric (distinct p.masks good.relation.own) p.k w log.letters
+  some_list = prefix_count_traces (independent p.masks) (λ a. a) symmetric (distinct p.masks good.relation.own) p.k w log.letters
 
 -- ---- the judge
 
@@ -170,7 +170,7 @@ module _ (k : ℕ) (masks : List ℕ) (symmetric : Symmetric (independent masks)
   -- `same` says yes exactly when the logs are congruent, no exactly when they are not
   pub same_trace : (comparison k masks v w ≡ Equal) ↔ Congruent (independent masks) v w
   same_trace =
-      let s = equal-same k masks good_relation v w good_first good_second in
+      let s = equal_same k masks good_relation v w good_first good_second in
       let c = same_congruent (independent masks) (λ a. a) symmetric v w in
       (λ e. c.0 (s.0 e), λ h. s.1 (c.1 h))
 
@@ -188,33 +188,33 @@ module _ (k : ℕ) (masks : List ℕ) (symmetric : Symmetric (independent masks)
 
 module _ (k : ℕ) (masks : List ℕ) (symmetric : Symmetric (independent masks)) where
   module _ (w before : List ℕ) (unrefused : first_order_refusal k masks w (length before) ≡ none) where
-    passes-first : (c : Bool × Refusal) → Mem c (first_order_refusals k masks w (length before)) → c.0 ≡ false
-    passes-first = (lowest_none (first_order_refusals k masks w (length before))).0 unrefused
+    passes_first : (c : Bool × Refusal) → Mem c (first_order_refusals k masks w (length before)) → c.0 ≡ false
+    passes_first = (lowest_none (first_order_refusals k masks w (length before))).0 unrefused
 
     ordered_relation : lowest (relation_refusals k masks) ≡ none
-    ordered_relation = (lowest_none (relation_refusals k masks)).1 (λ c m. passes-first c (Memᴰ.append_left (log_refusals k w ++ ((short_buffer (length before) w, ShortBuffer) ∷ [])) m))
+    ordered_relation = (lowest_none (relation_refusals k masks)).1 (λ c m. passes_first c (Memᴰ.append_left (log_refusals k w ++ ((short_buffer (length before) w, ShortBuffer) ∷ [])) m))
 
-    ordered-log : lowest (log_refusals k w) ≡ none
-    ordered-log = (lowest_none (log_refusals k w)).1
-        (λ c m. passes-first c (Memᴰ.append_right (relation_refusals k masks) (Memᴰ.append_left ((short_buffer (length before) w, ShortBuffer) ∷ []) m)))
+    ordered_log : lowest (log_refusals k w) ≡ none
+    ordered_log = (lowest_none (log_refusals k w)).1
+        (λ c m. passes_first c (Memᴰ.append_right (relation_refusals k masks) (Memᴰ.append_left ((short_buffer (length before) w, ShortBuffer) ∷ []) m)))
 
     room : length w ≤ length before
-    room = ltb-false (length before) (length w) (passes-first (short_buffer (length before) w, ShortBuffer) (Memᴰ.append_right (relation_refusals k masks) (Memᴰ.append_right (log_refusals k w) (Memᴰ.head refl))))
+    room = ltb-false (length before) (length w) (passes_first (short_buffer (length before) w, ShortBuffer) (Memᴰ.append_right (relation_refusals k masks) (Memᴰ.append_right (log_refusals k w) (Memᴰ.head refl))))
 
-    is-first : first_order (independent masks) w ≡ some (first_letters masks w)
-    is-first = let n = first_of (independent masks) w in n.1 ∙ ap some (sym (ap letters_or_none n.1))
+    is_first : first_order (independent masks) w ≡ some (first_letters masks w)
+    is_first = let n = first_of (independent masks) w in n.1 ∙ ap some (sym (ap letters_or_none n.1))
 
-    first-bytes : take (length w) (ordered_buffer k masks w before) ≡ first_letters masks w
-    first-bytes = written k masks ordered_relation w before ordered-log room
+    first_bytes : take (length w) (ordered_buffer k masks w before) ≡ first_letters masks w
+    first_bytes = written k masks ordered_relation w before ordered_log room
 
     -- what is written is the least word of [w]; the other bytes stay
-    pub first-trace : Congruent (independent masks) w (take (length w) (ordered_buffer k masks w before))
+    pub first_trace : Congruent (independent masks) w (take (length w) (ordered_buffer k masks w before))
         × ((u : List ℕ) → Congruent (independent masks) w u → NoLater (take (length w) (ordered_buffer k masks w before)) u)
         × (drop (length w) (ordered_buffer k masks w before) ≡ drop (length w) before)
-    first-trace =
-        let n = earliest_at (orders (independent masks) w) is-first in (
-          subst (Congruent (independent masks) w) (sym first-bytes) (cong_of_reach (independent masks) ((reach_orders (independent masks) w (first_letters masks w)).1 n.0)),
-          (λ u c. subst (λ v. NoLater v u) (sym first-bytes) (n.1 u ((reach_orders (independent masks) w u).0 (reach_of_cong (independent masks) symmetric c)))),
+    first_trace =
+        let n = earliest_at (orders (independent masks) w) is_first in (
+          subst (Congruent (independent masks) w) (sym first_bytes) (cong_of_reach (independent masks) ((reach_orders (independent masks) w (first_letters masks w)).1 n.0)),
+          (λ u c. subst (λ v. NoLater v u) (sym first_bytes) (n.1 u ((reach_orders (independent masks) w u).0 (reach_of_cong (independent masks) symmetric c)))),
           sym (ap (drop (length w)) (answers k masks w before unrefused).1) ∙ drop_at (first_letters masks w) (drop (length w) before) (length w)
               (omega (arith, takes_length (independent masks) (order_of_mem (independent masks) w n.0))),
         )
@@ -223,9 +223,9 @@ module _ (k : ℕ) (masks : List ℕ) (symmetric : Symmetric (independent masks)
   pub first_orders_trace : (v w before after : List ℕ) → first_order_refusal k masks v (length before) ≡ none → first_order_refusal k masks w (length after) ≡ none
       → (take (length v) (ordered_buffer k masks v before) ≡ take (length w) (ordered_buffer k masks w after)) ↔ Congruent (independent masks) v w
   first_orders_trace v w before after e f = (
-    λ q. cong_trans (subst (Congruent (independent masks) v) q (first-trace v before e).0) (cong_sym (first-trace w after f).0),
+    λ q. cong_trans (subst (Congruent (independent masks) v) q (first_trace v before e).0) (cong_sym (first_trace w after f).0),
     λ c.
         let r = ordered_relation v before e in
-        equal-written k masks r v w (ordered-log v before e) (ordered-log w after f) before after (room v before e) (room w after f)
-        ((equal-same k masks r v w (ordered-log v before e) (ordered-log w after f)).1 ((same_congruent (independent masks) (λ a. a) symmetric v w).1 c)),
+        equal_written k masks r v w (ordered_log v before e) (ordered_log w after f) before after (room v before e) (room w after f)
+        ((equal_same k masks r v w (ordered_log v before e) (ordered_log w after f)).1 ((same_congruent (independent masks) (λ a. a) symmetric v w).1 c)),
   )

@@ -103,17 +103,17 @@ module _ (p : Profile) (v w : List ℕ) (order₁ order₁' table₁ table₁' o
     judged_same = judge.judged-same p v w order₁ order₁' table₁ table₁' order₂ order₂' table₂ table₂' e₁ e₂ same i j g h
 
     -- Paper 5: "Logs reachable from each other in both directions must, where both get a verdict, leave equal count fields, record by record"
-    pub fields-same : (r n : ℕ) → r < prefixes_by (plain p) v → n < layout.numbers
+    pub fields_same : (r n : ℕ) → r < prefixes_by (plain p) v → n < layout.numbers
         → get_or table₁' (record_length layout * r + n) 0 ≡ get_or table₂' (record_length layout * r + n) 0
-    fields-same = judge.fields-same p v w order₁ order₁' table₁ table₁' order₂ order₂' table₂ table₂' e₁ e₂ same i j g h
+    fields_same = judge.fields-same p v w order₁ order₁' table₁ table₁' order₂ order₂' table₂ table₂' e₁ e₂ same i j g h
 
   -- Paper 4: "If log v is reachable from log w and v has an accepted order, then w has one that is no later in letter order". P of v is at most P of w
   module _ (reach : Reachable (independent p.masks) w v) where
     pub judged_reach : verdict_number i ≡ some 1 → (verdict_number j ≡ some 1) × NoLater (take (length w) order₂') (take (length v) order₁')
     judged_reach = judge.judged-reach p v w order₁ order₁' table₁ table₁' order₂ order₂' table₂ table₂' e₁ e₂ reach i j g h
 
-    pub counted-reach : (P Q : ℕ) → told_prefixes i ≡ some P → told_prefixes j ≡ some Q → P ≤ Q
-    counted-reach = judge.counted-reach p v w order₁ order₁' table₁ table₁' order₂ order₂' table₂ table₂' e₁ e₂ reach i j g h
+    pub counted_reach : (P Q : ℕ) → told_prefixes i ≡ some P → told_prefixes j ≡ some Q → P ≤ Q
+    counted_reach = judge.counted-reach p v w order₁ order₁' table₁ table₁' order₂ order₂' table₂ table₂' e₁ e₂ reach i j g h
 
 -- "This holds for one log judged twice, so a larger table changes none of these three."
 module _ (p : Profile) (w : List ℕ) (order₁ order₁' table₁ table₁' order₂ order₂' table₂ table₂' : List ℕ)

@@ -16,7 +16,7 @@ use Rattle.profile.specs.Source.{InTrace, TracePrefix}
 use Rattle.profile.specs.Tables.{count_field, layout, record_length}
 use Rattle.profile.specs.Traces.{Symmetric, bit, independent}
 use Rattle.profile.proofs.Lists.{lt_or_le}
-use Rattle.theory.proofs.Agreement.{counts-identify, forward-trace, marked-representatives, prefix-trace}
+use Rattle.theory.proofs.Agreement.{counts_identify, forward_trace, marked_representatives, prefix_trace}
 use Rattle.theory.proofs.Counting.{at_map, count_above, prefixes_at}
 use Rattle.theory.proofs.OldRecords.{count_is}
 use Rattle.theory.proofs.Prefixes.{count_of_prefix}
@@ -53,7 +53,7 @@ module _ (p : Profile) (w before t : List ℕ) (good : GoodProfile p) (log : Goo
   -- no letter from k on is in a prefix
   none_above : {x : List ℕ} → TracePrefix (independent p.masks) w x → (a : ℕ) → p.k ≤ a → count (λ b. b) x a ≡ 0
   none_above {x} t a le =
-      let c = (prefix-trace (independent p.masks) (λ b. b) symmetric apart w (count (λ b. b) x)).1 (x, t, refl) in
+      let c = (prefix_trace (independent p.masks) (λ b. b) symmetric apart w (count (λ b. b) x)).1 (x, t, refl) in
       omega (arith, c.fits a, count_above (λ b. b) p.k w a h.letters le)
 
   -- record r has all counts of x
@@ -69,25 +69,25 @@ module _ (p : Profile) (w before t : List ℕ) (good : GoodProfile p) (log : Goo
   -- the place of a prefix of [w]
   place : (x : List ℕ) → TracePrefix (independent p.masks) w x → (r : ℕ) × RecordOf p w t P r x
   place x q =
-      let all = marked-representatives (independent p.masks) (λ a. a) symmetric apart p.k w h.letters in
+      let all = marked_representatives (independent p.masks) (λ a. a) symmetric apart p.k w h.letters in
       let n = all.every x q in
       let f = Memᴰ.of_map (λ c. marked (λ a. a) w (at c)) (prefixes (independent p.masks) (λ a. a) p.k w) n.1 in
       let c = (prefixes_at (independent p.masks) (λ a. a) p.k w f.0 h.letters f.1).1 in
       let r = holds_find h f.0 f.1 in
-      let e = (counts-identify (independent p.masks) (λ a. a) symmetric apart q (all.prefix n.0 n.1)).1 n.2 in
+      let e = (counts_identify (independent p.masks) (λ a. a) symmetric apart q (all.prefix n.0 n.1)).1 n.2 in
       (r.0, record_is r.0 x r.1 q (e ∙ ap (count (λ a. a)) (sym f.2) ∙ count_of_prefix (independent p.masks) (λ a. a) c ∙ ap at (sym r.2)))
 
   pub holds_traces : HoldsTraces p w t P
   holds_traces = record {
-    has_prefix = λ r lt. let n = (prefix-trace (independent p.masks) (λ a. a) symmetric apart w (at (listed r))).0 (listed_prefix r lt).1 in (n.0, record_is r n.0 lt n.1 n.2);
-    one_prefix = λ r x y o q. (counts-identify (independent p.masks) (λ a. a) symmetric apart o.prefix q.prefix).0 (counts_are r x o ∙ sym (counts_are r y q));
+    has_prefix = λ r lt. let n = (prefix_trace (independent p.masks) (λ a. a) symmetric apart w (at (listed r))).0 (listed_prefix r lt).1 in (n.0, record_is r n.0 lt n.1 n.2);
+    one_prefix = λ r x y o q. (counts_identify (independent p.masks) (λ a. a) symmetric apart o.prefix q.prefix).0 (counts_are r x o ∙ sym (counts_are r y q));
     has_record = place;
     one_record = λ r r' x y o q c. holds_once h r r' o.placed q.placed
         (ext_get_or 0 (listed r) (listed r') ((listed_prefix r o.placed).0 ∙ sym (listed_prefix r' q.placed).0)
-        (λ i l. ap (λ f. f i) (sym (counts_are r x o) ∙ (counts-identify (independent p.masks) (λ a. a) symmetric apart o.prefix q.prefix).1 c ∙ counts_are r' y q)));
+        (λ i l. ap (λ f. f i) (sym (counts_are r x o) ∙ (counts_identify (independent p.masks) (λ a. a) symmetric apart o.prefix q.prefix).1 c ∙ counts_are r' y q)));
     forward = λ r x o q. subst (λ n. T (bit n q) ↔ InTrace (independent p.masks) (λ a. a) (automaton p) x q)
         (sym (holds_forward h r o.placed ∙ ap (forward (independent p.masks) (λ a. a) (automaton p) w) (sym (counts_are r x o))))
-        (forward-trace (independent p.masks) (λ a. a) symmetric apart (automaton p) (lawful p) q o.prefix);
+        (forward_trace (independent p.masks) (λ a. a) symmetric apart (automaton p) (lawful p) q o.prefix);
     backward = λ r x o q. subst (λ n. T (bit n q) ↔ LeadsToFinal (independent p.masks) (λ a. a) (automaton p) o.prefix.rest q)
         (sym (holds_backward h r o.placed ∙ ap (backward (independent p.masks) (λ a. a) (automaton p) w) (sym (counts_are r x o))))
         (backward_trace (independent p.masks) (λ a. a) symmetric apart (automaton p) (lawful p) q o.prefix);

@@ -10,8 +10,8 @@ use lib.ListN.{length, set}
 use Rattle.profile.specs.Traces.{independent}
 use Rattle.theory.proofs.Profiles.{distinct}
 use Rattle.grammars.specs.Grammars.{grammar_of}
-use Rattle.grammars.proofs.Spans.{Between, Spans, spans-join}
-use Rattle.grammars.proofs.Places.{counts_of, spans-total, total_of}
+use Rattle.grammars.proofs.Spans.{Between, Spans, spans_join}
+use Rattle.grammars.proofs.Places.{counts_of, spans_total, total_of}
 use Rattle.pairs.specs.Pairs.{Setting}
 use Rattle.parts.specs.Parts.{StepIs}
 use Rattle.deriving.specs.Deriving.{Written, splice}
@@ -42,7 +42,7 @@ module _ (k : ℕ) (masks w table : List ℕ) (records : ℕ) (s : Setting k mas
 
   long : (a b : ℕ) {n : ℕ} {u : List ℕ} → a < records → b < records → Word a b n u → (tot b ≡ tot a + length u) × (tot b ≤ length before)
   long a b ha hb x =
-      let e = spans-total (independent masks) differ k w s.log.letters (grammar_of rules) a b (omega (arith, s.whole)) (omega (arith, s.whole)) x in
+      let e = spans_total (independent masks) differ k w s.log.letters (grammar_of rules) a b (omega (arith, s.whole)) (omega (arith, s.whole)) x in
       let l = total_le k masks w table records s b hb in
       (e, omega arith)
 
@@ -59,13 +59,13 @@ module _ (k : ℕ) (masks w table : List ℕ) (records : ℕ) (s : Setting k mas
         lt_by : (at t u b m : ℕ) → at ≡ t → u ≡ t + 1 → u ≤ b → m ≡ b → at < m
         lt_by at t u b m e f h q = omega arith
 
-    pub going-leaf : (at a : ℕ) → StepIs k masks rules w from to n (Leaf at a) → Written k masks rules w i j name before (set now at a)
-    going-leaf at a x = subst (Written k masks rules w i j name before)
+    pub going_leaf : (at a : ℕ) → StepIs k masks rules w from to n (Leaf at a) → Written k masks rules w i j name before (set now at a)
+    going_leaf at a x = subst (Written k masks rules w i j name before)
         (sym (splice_one now at a (leaf_room at a x) ∙ ap (λ t. splice now t (a ∷ [])) x.0)) (g.rest (a ∷ []) x.1)
 
     module _ (p : Split) (left : Bool) (x : StepIs k masks rules w from to n (Parts p left)) (now' : List ℕ) where
-      pub going-left : Written k masks rules w from p.at p.first now now' → Going k masks rules w i j name before p.second p.at to now'
-      going-left y =
+      pub going_left : Written k masks rules w from p.at p.first now now' → Going k masks rules w i j name before p.second p.at to now'
+      going_left y =
           let u = y.word in
           let l = long from p.at (omega (arith, g.apart, g.high)) (omega (arith, x.1, g.high)) y.spans in
           let room' : tot from + length u ≤ length now = le-by (tot from) (length u) (tot p.at) (length before) (length now) l.0 l.1 g.same in
@@ -77,14 +77,14 @@ module _ (k : ℕ) (masks w table : List ℕ) (records : ℕ) (s : Setting k mas
             part = x.4;
             rest = λ v z. subst (Written k masks rules w i j name before)
                 (sym (ap₂ (λ m t. splice m t v) y.written l.0 ∙ splice_right now (tot from) u v room'))
-                (g.rest (u ++ v) (spans-join (independent masks) (grammar_of rules) w differ x.2 y.spans z));
+                (g.rest (u ++ v) (spans_join (independent masks) (grammar_of rules) w differ x.2 y.spans z));
           }
         where
           le-by : (t n u b m : ℕ) → u ≡ t + n → u ≤ b → m ≡ b → t + n ≤ m
           le-by t n u b m f h q = omega arith
 
-      pub going-right : Written k masks rules w p.at to p.second now now' → Going k masks rules w i j name before p.first from p.at now'
-      going-right y =
+      pub going_right : Written k masks rules w p.at to p.second now now' → Going k masks rules w i j name before p.first from p.at now'
+      going_right y =
           let v = y.word in
           let hm : p.at < records = omega (arith, x.1, g.high) in
           let l = long p.at to hm (omega (arith, g.high)) y.spans in
@@ -100,7 +100,7 @@ module _ (k : ℕ) (masks w table : List ℕ) (records : ℕ) (s : Setting k mas
                 subst (Written k masks rules w i j name before)
                 (sym (ap (λ m. splice m (tot from) u) (y.written ∙ ap (λ t. splice now t v) f.0)
                 ∙ splice_left now (tot from) u v (le-by (tot from) (length u) (tot p.at) (length before) (length now) f.0 f.1 g.same)))
-                (g.rest (u ++ v) (spans-join (independent masks) (grammar_of rules) w differ x.2 z y.spans));
+                (g.rest (u ++ v) (spans_join (independent masks) (grammar_of rules) w differ x.2 z y.spans));
           }
         where
           le-by : (t n u b m : ℕ) → u ≡ t + n → u ≤ b → m ≡ b → t + n ≤ m

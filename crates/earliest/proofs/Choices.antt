@@ -17,7 +17,7 @@ use Rattle.profile.proofs.Lists.{both, equal_test, fst_of, is_false, is_true, lt
 use Rattle.profile.proofs.Sets.{bit_none, meets_at}
 use Rattle.theory.proofs.LetterOrder.{earlier_irrefl, earlier_test}
 use Rattle.theory.proofs.Levels.{at_bump, bump}
-use Rattle.theory.proofs.Judgement.{choice, some-choice}
+use Rattle.theory.proofs.Judgement.{choice, some_choice}
 use Rattle.theory.proofs.Profiles.{lawful}
 use Rattle.counts.specs.Counts.{add_count, counts_in}
 use Rattle.records.specs.Drafts.{in_order}
@@ -26,7 +26,7 @@ use Rattle.search.specs.Search.{Ordered, found_in, has?, records_before, stands_
 use Rattle.search.proofs.Halves.{Between, before_record, between_end, found_record}
 use Rattle.successors.specs.Successors.{Stands}
 use Rattle.successors.proofs.Bounds.{behind, bound_later, later_before}
-use Rattle.successors.proofs.More.{find-more, more-at, more_packed, prefix_of}
+use Rattle.successors.proofs.More.{find_more, more_at, more_packed, prefix_of}
 use Rattle.earliest.specs.Earliest.{Enclosed, Smallest, Some, Table, Takes, led}
 use Rattle.earliest.proofs.Records.{ChosenFrom, backward_of, different, left_of, prefix_at, recorded, used, used_backward}
 
@@ -81,8 +81,8 @@ module _ (step : ℕ → ℕ → ℕ) (t : List ℕ) (j S k : ℕ) where
   Passed x = (y r : ℕ) → y < x → Takes step t j S y r → ⊥
 
   module _ (s : Stands t k j) where
-    pub bounded-first : (n : ℕ) → n ≡ records_in t → Bounded 0 n
-    bounded-first n e y l h = record {
+    pub bounded_first : (n : ℕ) → n ≡ records_in t → Bounded 0 n
+    bounded_first n e y l h = record {
       behind = omega (arith, e, s.inside);
       inside = omega (arith, e);
       between = subst (Between t (add_count layout (counts_at t j) y) (suc j)) (sym e) (behind s y h);
@@ -92,8 +92,8 @@ module _ (step : ℕ → ℕ → ℕ) (t : List ℕ) (j S k : ℕ) where
     -- the counts c are those with one x more; record r is the only one that can have them, and none from e on stands before them; R are the states led to
     module _ (x R r e : ℕ) (c : List ℕ) (h : x < k) (own : c ≡ add_count layout (counts_at t j) x) (after : j < e) (inside : e ≤ records_in t) (bound : Between t c (suc j) e)
         (only : (i : ℕ) → i < records_in t → T (has? t c i) → i ≡ r) (told : R ≡ led t c (step S x) r) where
-      pub bounded-next : Bounded (x + 1) e
-      bounded-next y l g =
+      pub bounded_next : Bounded (x + 1) e
+      bounded_next y l g =
           let z = add_count layout (counts_at t j) x in
           let d = add_count layout (counts_at t j) y in
           let b = subst (λ v. Between t v (suc j) e) own bound in record {
@@ -105,8 +105,8 @@ module _ (step : ℕ → ℕ → ℕ) (t : List ℕ) (j S k : ℕ) where
                 (subst (λ v. T (stands_before? v z)) (sym ((equal_test (counts_at t i) d).0 q)) (later_before s x y (omega arith) g)));
           }
 
-      pub passed-next : Passed x → R ≡ 0 → Passed (x + 1)
-      passed-next before n y i lt k = ⊎_elim (λ l. before y i l k)
+      pub passed_next : Passed x → R ≡ 0 → Passed (x + 1)
+      passed_next before n y i lt k = ⊎_elim (λ l. before y i l k)
           (λ l.
           let q : y ≡ x = omega arith in
           let now = subst (λ z. Takes step t j S z i) q k in
@@ -142,14 +142,14 @@ module _ {p : Rules} {w t : List ℕ} (tab : Table p w t) (j : ℕ) (h : j < len
       → T (addable? p.may p.letter w (at (prefix_at tab j)) x) × (r < length (in_order p w)) × (prefix_at tab r ≡ bump (prefix_at tab j) x) × T (leads_on x)
   takes_at x r l k =
       let same = (equal_test (counts_at (used tab) r) (add_count layout (counts_at (used tab) j) x)).0 k.has in
-      let q = more-at (recorded tab) (prefix_at tab j) here x l r
+      let q = more_at (recorded tab) (prefix_at tab j) here x l r
       (ap (found_in (used tab)) (sym (numbers x) ∙ sym same) ∙ found_record (used tab) (recorded tab).records.ordered r k.inside) in
       (q.0, q.1, q.2, subst (λ b. T (meets ((automaton p.profile).step S x) b)) (backward_more x r l q.1 q.2) k.leads)
 
   takes_of : (x : ℕ) → x < p.profile.k → T (addable? p.may p.letter w (at (prefix_at tab j)) x) → T (leads_on x)
       → (r : ℕ) × Takes (automaton p.profile).step (used tab) j S x r
   takes_of x l a y =
-      let q = find-more (recorded tab) (prefix_at tab j) here x l a in (
+      let q = find_more (recorded tab) (prefix_at tab j) here x l a in (
         q.0,
         record {
           inside = subst (λ n. q.0 < n) (sym (recorded tab).records.many) q.1;
@@ -162,7 +162,7 @@ module _ {p : Rules} {w t : List ℕ} (tab : Table p w t) (j : ℕ) (h : j < len
   -- where S meets the backward set of the prefix, and an event is left, some letter can be taken
   pub some_taken : T (meets S (backward_of p w (at (prefix_at tab j)))) → (left_of p w (at (prefix_at tab j)) ≡ [] → ⊥) → Some (automaton p.profile).step (used tab) j S p.profile.k
   some_taken live left =
-      let c = some-choice p.may p.letter (automaton p.profile) (lawful p.profile) (different tab) w p.profile.k tab.log.letters S
+      let c = some_choice p.may p.letter (automaton p.profile) (lawful p.profile) (different tab) w p.profile.k tab.log.letters S
       (prefix_of (recorded tab) (prefix_at tab j) here).1 left live in
       let k = takes_of c.0 c.1 c.2 c.3 in
       (c.0, k.0, c.1, k.1)

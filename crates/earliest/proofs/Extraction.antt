@@ -15,9 +15,9 @@ use Rattle.profile.specs.Rules.{Rules, order_by}
 use Rattle.profile.specs.Lists.{Mem, below}
 use Rattle.profile.specs.Automata.{Automaton, automaton, meets}
 use Rattle.profile.specs.Prefixes.{addable?, at}
-use Rattle.theory.proofs.Automata.{prefix-none, unmarked-none, verdict-at}
-use Rattle.theory.proofs.Earliest.{end, greedy-append}
-use Rattle.theory.proofs.Judgement.{accepted-order-none, accepted_order_not, accepted-order-some, live, live-start}
+use Rattle.theory.proofs.Automata.{prefix_none, unmarked_none, verdict_at}
+use Rattle.theory.proofs.Earliest.{end, greedy_append}
+use Rattle.theory.proofs.Judgement.{accepted_order_none, accepted_order_not, accepted_order_some, live, live_start}
 use Rattle.theory.proofs.Levels.{bump, level_next}
 use Rattle.profile.proofs.Lists.{test}
 use Rattle.theory.proofs.Merge.{at_prefix, level_left, level_unmarked}
@@ -43,21 +43,21 @@ module _ {p : Rules} {w t : List ℕ} (tab : Table p w t) where
   no_counts : at (map (λ x. 0) (below p.profile.k)) ≡ (λ x. 0)
   no_counts =
       let d = different tab in
-      at_prefix p.may p.letter d p.profile.k w tab.log.letters (prefix-none p.may p.letter (automaton p.profile) (lawful p.profile) w d)
+      at_prefix p.may p.letter d p.profile.k w tab.log.letters (prefix_none p.may p.letter (automaton p.profile) (lawful p.profile) w d)
 
   live_found : T (meets (automaton p.profile).start at_start) → T (found? (order_by p w))
   live_found h = go (order_by p w) refl
     where
       go : (o : Option (List ℕ)) → order_by p w ≡ o → T (found? (order_by p w))
       go none e =
-          let v = verdict-at p.may p.letter (automaton p.profile) (lawful p.profile) w (different tab) h in
+          let v = verdict_at p.may p.letter (automaton p.profile) (lawful p.profile) w (different tab) h in
           absurd (accepted_order_not p.may p.letter (automaton p.profile) (lawful p.profile) e v.1 v.2)
       go (some v) e = subst (λ o. T (found? o)) (sym e) tt
 
   found_live : T (found? (order_by p w)) → T (meets (automaton p.profile).start at_start)
   found_live f = ⊎_elim (λ s. s)
-      (λ s. absurd (subst (λ o. T (found? o)) (accepted-order-none p.may p.letter (automaton p.profile) (lawful p.profile) (different tab) w
-      (λ l. T_not (meets (automaton p.profile).start at_start) s (subst T (live-start p.may p.letter (automaton p.profile) (lawful p.profile) (different tab) w) l))) f))
+      (λ s. absurd (subst (λ o. T (found? o)) (accepted_order_none p.may p.letter (automaton p.profile) (lawful p.profile) (different tab) w
+      (λ l. T_not (meets (automaton p.profile).start at_start) s (subst T (live_start p.may p.letter (automaton p.profile) (lawful p.profile) (different tab) w) l))) f))
       (test (meets (automaton p.profile).start at_start))
 
   -- some order is accepted exactly when the start state is in the backward set of the first record
@@ -90,7 +90,7 @@ module _ {p : Rules} {w t : List ℕ} (tab : Table p w t) where
         inside = omega (arith, z.0, as_many tab);
         of_n = z.1;
         chosen = subst (ChosenFrom p M.start w [] M.start)
-            (sym (ap (left_of p w) none ∙ unmarked-none p.may p.letter M (lawful p.profile) w (different tab))) end;
+            (sym (ap (left_of p w) none ∙ unmarked_none p.may p.letter M (lawful p.profile) w (different tab))) end;
         leads = subst (λ g. T (meets M.start (backward_of p w g))) (sym none) (found_live (subst T (sym f) tt));
         long = refl;
         there = refl;
@@ -102,8 +102,8 @@ module _ {p : Rules} {w t : List ℕ} (tab : Table p w t) where
     written_length h = ap length r.there ∙ omega (arith, length-append (map p.letter r.events) (drop n before), length-map r.events p.letter, length-drop n before, r.long)
 
     -- what the next letter asks for
-    pub written-some : n < length w → Some (automaton p.profile).step (used tab) j S p.profile.k
-    written-some h = some_taken tab j r.inside S r.leads (level_unmarked p.may p.letter p.profile.k w n (prefix_at tab j) tab.log.letters r.of_n h)
+    pub written_some : n < length w → Some (automaton p.profile).step (used tab) j S p.profile.k
+    written_some h = some_taken tab j r.inside S r.leads (level_unmarked p.may p.letter p.profile.k w n (prefix_at tab j) tab.log.letters r.of_n h)
 
     -- one letter more
     pub written_next : n < length w → length w ≤ length before → {x i R : ℕ} → Smallest (automaton p.profile).step (used tab) j S p.profile.k x i R
@@ -113,7 +113,7 @@ module _ {p : Rules} {w t : List ℕ} (tab : Table p w t) where
       inside = q.1;
       of_n = subst (λ c. Mem c (of_total p w (suc n))) (sym q.2)
           (level_next p.may p.letter (different tab) p.profile.k w tab.log.letters n x (prefix_at tab j) r.of_n s.below q.0);
-      chosen = greedy-append p.may p.letter M.step (λ S. meets S M.final) (live p.may p.letter M (lawful p.profile)) r.chosen q.4.2;
+      chosen = greedy_append p.may p.letter M.step (λ S. meets S M.final) (live p.may p.letter M (lawful p.profile)) r.chosen q.4.2;
       leads = q.3;
       long = omega (arith, length-append r.events (a ∷ []), r.long);
       there =
@@ -141,10 +141,10 @@ module _ {p : Rules} {w t : List ℕ} (tab : Table p w t) where
   written_all {before} {now} {S} {j} f r =
       let M = automaton p.profile in
       let may = p.may in
-      let start = subst T (sym (live-start may p.letter M (lawful p.profile) (different tab) w)) (found_live (subst T (sym f) tt)) in
+      let start = subst T (sym (live_start may p.letter M (lawful p.profile) (different tab) w)) (found_live (subst T (sym f) tt)) in
       let rest = left_of p w (at (prefix_at tab j)) in
       let whole : rest ≡ [] = drop_of_length-le rest {i = 0} (omega (arith, level_left may p.letter p.profile.k w (length w) (prefix_at tab j) tab.log.letters r.of_n)) in
-      let all = accepted-order-some may p.letter M (lawful p.profile) (different tab) start (subst (ChosenFrom p M.start w r.events S) whole r.chosen) in
+      let all = accepted_order_some may p.letter M (lawful p.profile) (different tab) start (subst (ChosenFrom p M.start w r.events S) whole r.chosen) in
       let letters = map p.letter r.events in
       let long : length w ≡ length letters = sym (length-map r.events p.letter ∙ r.long) in
       r.there ∙ ap (λ n. letters ++ drop n before) long ∙ sym (ap (λ o. with_order o before) all)

@@ -23,7 +23,7 @@ use Rattle.theory.proofs.Judgement.{Chosen}
 use Rattle.theory.proofs.Tables.{Holds, holds_backward, holds_find, holds_prefix, holds_rises}
 use Rattle.records.specs.Drafts.{backward_set, filled, forward_set, in_order, of_total}
 use Rattle.records.specs.Records.{last_at}
-use Rattle.records.proofs.Drafts.{last-of-draft}
+use Rattle.records.proofs.Drafts.{last_of_draft}
 use Rattle.search.proofs.Prefixes.{counts_are, records_many, records_ordered, whole_inside, whole_part, whole_sorted}
 use Rattle.costcursors.specs.Cursors.{Lists}
 use Rattle.successors.specs.Successors.{Recorded}
@@ -105,7 +105,7 @@ module _ {p : Rules} {w t : List ℕ} (tab : Table p w t) where
   as_many = by_total_length p.may p.letter p.profile.k w tab.log.letters
 
   pub used_backward : (j : ℕ) → j < length (in_order p w) → last_at used j ≡ backward_of p w (at (prefix_at j))
-  used_backward j h = ap (λ l. last_at l j) used_is ∙ last-of-draft (forward_set p w) (backward_set p w) (in_order p w) (filled p w (in_order p w)) [] (sym (append-nil (filled p w (in_order p w)))) j h
+  used_backward j h = ap (λ l. last_at l j) used_is ∙ last_of_draft (forward_set p w) (backward_set p w) (in_order p w) (filled p w (in_order p w)) [] (sym (append-nil (filled p w (in_order p w)))) j h
 
   pub recorded : Recorded p.may p.letter p.profile.k w used
   recorded = record {

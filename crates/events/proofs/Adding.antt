@@ -13,7 +13,7 @@ use Rattle.profile.specs.Lists.{Mem, all, below}
 use Rattle.profile.specs.Prefixes.{IsPrefix, addable?, at, count, less, more, unmarked}
 use Rattle.profile.specs.Traces.{letters_below}
 use Rattle.profile.proofs.Lists.{all_at, all_of, below_at, below_of, both, either, fst_of, is_false, is_true, or_left, or_right, snd_of, test}
-use Rattle.theory.proofs.Prefixes.{addable-at, addable-of, more-of-pick, one_cases}
+use Rattle.theory.proofs.Prefixes.{addable_at, addable_of, more_of_pick, one_cases}
 use Rattle.theory.proofs.Scan.{scan_at, scan_of, scan?}
 use Rattle.profile.proofs.Traces.{Pick}
 use Rattle.places.specs.Places.{next_places}
@@ -35,9 +35,9 @@ all_agree p q (a ∷ l) f = ap₂ ◌&&◌ (f a (Memᴰ.head refl)) (all_agree p
 scan_addable : (may : ℕ → ℕ → Bool) (distinct : (a b : ℕ) → T (may a b) → a ≢ b) (w : List ℕ) (c : ℕ → ℕ) → IsPrefix may (λ a. a) w c → (x : ℕ)
     → scan? may w c x ≡ addable? may (λ a. a) w c x
 scan_addable may distinct w c p x = same_test (scan? may w c x) (addable? may (λ a. a) w c x)
-    (λ t. let n = scan_at may w c x t in addable-of may (λ a. a) distinct {w = w} c x (more-of-pick may (λ a. a) distinct {w = w} {c = c} p n.1).0)
+    (λ t. let n = scan_at may w c x t in addable_of may (λ a. a) distinct {w = w} c x (more_of_pick may (λ a. a) distinct {w = w} {c = c} p n.1).0)
     (λ t.
-    let n = addable-at may (λ a. a) distinct {w = w} {c = c} {x = x} p t in
+    let n = addable_at may (λ a. a) distinct {w = w} {c = c} {x = x} p t in
     scan_of may w c (subst (λ a. Pick may (unmarked (λ a. a) w c) a (unmarked (λ a. a) w (more c x))) n.2 n.3))
 
 -- ---- the test, with the places as a function

@@ -36,8 +36,8 @@ module _ (may : ℕ → ℕ → Bool) (k x : ℕ) where
       pub keep : (y : ℕ) → T (bit rest y) → (y < k) × T (keeps? may x y)
       pub others : (y : ℕ) → y < k → T (bit rest y) ⊎ T (lets_by? may next x y)
 
-    pub left-first : k ≤ most_letters → Left (keepers may k x)
-    left-first h = record {
+    pub left_first : k ≤ most_letters → Left (keepers may k x)
+    left_first h = record {
       small = omega (arith, passing_below (keeps? may x) k, pow_mono h);
       keep = keeper_at;
       others = λ y l. ⊎_elim
@@ -53,8 +53,8 @@ module _ (may : ℕ → ℕ → Bool) (k x : ℕ) where
       lowest = count_trailing_zeros 32 rest
 
       -- the lowest letter that is left has no later event
-      pub left-stops : next lowest ≤ next x → T (all (lets_by? may next x) (below k)) → ⊥
-      left-stops h t =
+      pub left_stops : next lowest ≤ next x → T (all (lets_by? may next x) (below k)) → ⊥
+      left_stops h t =
           let n = left.keep lowest (rest_first rest some left.small) in
           let u = all_at (lets_by? may next x) t (below_of k lowest n.0) in
           ⊎_elim (λ e. T_not (eqb lowest x || may lowest x) n.1 (or_left (eqb lowest x) (may lowest x) e))
@@ -64,8 +64,8 @@ module _ (may : ℕ → ℕ → Bool) (k x : ℕ) where
           (either (eqb lowest x) (may lowest x || ltb (next x) (next lowest)) u)
 
       -- it has a later event, and is taken out
-      pub left-next : next x < next lowest → Left (bit_and rest (rest - 1))
-      left-next h = record {
+      pub left_next : next x < next lowest → Left (bit_and rest (rest - 1))
+      left_next h = record {
         small = omega (arith, and_le_r rest (rest - 1), left.small);
         keep = λ y m. left.keep y (rest_in rest some left.small y m);
         others = λ y l. ⊎_elim

@@ -19,7 +19,7 @@ use Rattle.expressions.specs.Expressions.{Expr, size}
 use Rattle.expressions.specs.Positions.{finals_of}
 use Rattle.expressions.specs.Texts.{Right as Right-typed, Typed, expression}
 use Rattle.expressions.specs.Passes.{fault, letters_of}
-use Rattle.expressions.proofs.Letters.{letters-typed}
+use Rattle.expressions.proofs.Letters.{letters_typed}
 use Rattle.expressions.proofs.Numbers.{length_leaves}
 use Rattle.expressions.proofs.Passes.{right_is}
 use Rattle.expressions.proofs.Trees.{tree_of}
@@ -83,7 +83,7 @@ good_text k u n h =
       few = few;
       tree = right.tree;
       typed = right.typed;
-      short = omega (arith, letters, ap length (letters-typed k few right.typed), length_leaves right.tree);
+      short = omega (arith, letters, ap length (letters_typed k few right.typed), length_leaves right.tree);
     }
 
 pub refused_is : (r : Made) (x : Refusal) → refused_by r ≡ some x → r ≡ Refused x
@@ -118,39 +118,39 @@ module _ (k : ℕ) (u before : List ℕ) where
   makes_high a b = refused_makes OutOfRange (ap (λ a. rest_of a (fault k u)) (k_high k a b))
 
   module _ (some_letter : 1 ≤ k) (few : k ≤ most_letters) where
-    pub makes-broken : (i : ℕ) → scanned k u ≡ Broken i → Makes k u before (Refused (BadText i)) before
-    makes-broken i e = refused_makes (BadText i) (ap₂ rest_of (k_good k some_letter few) (scanned_broken k u e))
+    pub makes_broken : (i : ℕ) → scanned k u ≡ Broken i → Makes k u before (Refused (BadText i)) before
+    makes_broken i e = refused_makes (BadText i) (ap₂ rest_of (k_good k some_letter few) (scanned_broken k u e))
 
     -- a right text whose brackets go d deep and that types n letters
     module _ (d n : ℕ) (right : scanned k u ≡ Right d n) where
       abbrev short : Bool
       short = ltb (length before) ((n + 1) * k)
 
-      right-refusal : make_refusal k u (length before) ≡ five false none (ltb deepest_brackets d) (ltb most_typed n) short
-      right-refusal =
+      right_refusal : make_refusal k u (length before) ≡ five false none (ltb deepest_brackets d) (ltb most_typed n) short
+      right_refusal =
           let r = scanned_right k u right in
           ap₂ rest_of (k_good k some_letter few) r.0 ∙ ap₂ (λ d n. five false none (ltb deepest_brackets d) (ltb most_typed n) (ltb (length before) ((n + 1) * k))) (sym r.1) (sym r.2)
 
-      pub makes-deep : deepest_brackets < d → Makes k u before (Refused DeepText) before
-      makes-deep h = refused_makes DeepText (right-refusal ∙ ap (λ c. five false none c (ltb most_typed n) short) (lt-ltb deepest_brackets d h))
+      pub makes_deep : deepest_brackets < d → Makes k u before (Refused DeepText) before
+      makes_deep h = refused_makes DeepText (right_refusal ∙ ap (λ c. five false none c (ltb most_typed n) short) (lt-ltb deepest_brackets d h))
 
       module _ (shallow : d ≤ deepest_brackets) where
-        pub makes-long : most_typed < n → Makes k u before (Refused LongText) before
-        makes-long h = refused_makes LongText (right-refusal ∙ ap₂ (λ c l. five false none c l short) (le-ltb deepest_brackets d shallow) (lt-ltb most_typed n h))
+        pub makes_long : most_typed < n → Makes k u before (Refused LongText) before
+        makes_long h = refused_makes LongText (right_refusal ∙ ap₂ (λ c l. five false none c l short) (le-ltb deepest_brackets d shallow) (lt-ltb most_typed n h))
 
         module _ (few_letters : n ≤ most_typed) where
-          lengths-fine : make_refusal k u (length before) ≡ five false none false false short
-          lengths-fine = right-refusal ∙ ap₂ (λ c l. five false none c l short) (le-ltb deepest_brackets d shallow) (le-ltb most_typed n few_letters)
+          lengths_fine : make_refusal k u (length before) ≡ five false none false false short
+          lengths_fine = right_refusal ∙ ap₂ (λ c l. five false none c l short) (le-ltb deepest_brackets d shallow) (le-ltb most_typed n few_letters)
 
-          pub makes-short : length before < (n + 1) * k → Makes k u before (Refused ShortBuffer) before
-          makes-short h = refused_makes ShortBuffer (lengths-fine ∙ ap (five false none false false) (lt-ltb (length before) ((n + 1) * k) h))
+          pub makes_short : length before < (n + 1) * k → Makes k u before (Refused ShortBuffer) before
+          makes_short h = refused_makes ShortBuffer (lengths_fine ∙ ap (five false none false false) (lt-ltb (length before) ((n + 1) * k) h))
 
           module _ (fits : (n + 1) * k ≤ length before) where
             sized : (e : Expr) → Typed k expression u e → n ≡ size e
-            sized e t = (scanned_right k u right).2 ∙ (ap length (letters-typed k few t) ∙ length_leaves e)
+            sized e t = (scanned_right k u right).2 ∙ (ap length (letters_typed k few t) ∙ length_leaves e)
 
-            abbrev typed-text : (e : Expr) → Typed k expression u e → RightText k (n + 1) u before
-            typed-text e t = record {
+            abbrev typed_text : (e : Expr) → Typed k expression u e → RightText k (n + 1) u before
+            typed_text e t = record {
               tree = e;
               typed = t;
               some_letter = some_letter;
@@ -160,17 +160,17 @@ module _ (k : ℕ) (u before : List ℕ) where
               fits = fits;
             }
 
-            pub right-text : RightText k (n + 1) u before
-            right-text = let r = (right_is k few u).0 (scanned_right k u right).0 in typed-text r.tree r.typed
+            pub right_text : RightText k (n + 1) u before
+            right_text = let r = (right_is k few u).0 (scanned_right k u right).0 in typed_text r.tree r.typed
 
-            pub makes-profile : (x : ℕ) (after : List ℕ)
+            pub makes_profile : (x : ℕ) (after : List ℕ)
                 → ((t : RightText k (n + 1) u before) → (x ≡ finals_of t.tree) × (after ≡ moves_put k t.tree before))
                 → Makes k u before (Profile (record { k = k; s = n + 1; start = 0; finals = x })) after
-            makes-profile x after w = record {
-              refused = sym (lengths-fine ∙ ap (five false none false false) (le-ltb (length before) ((n + 1) * k) fits));
+            makes_profile x after w = record {
+              refused = sym (lengths_fine ∙ ap (five false none false false) (le-ltb (length before) ((n + 1) * k) fits));
               kept = λ y q. absurd (none-ne-some _ (ap refused_by q));
               made = λ e t h.
-                  let m = w (typed-text e t) in
+                  let m = w (typed_text e t) in
                   let shape : ℕ → ℕ → Shape = λ s f. record { k = k; s = s; start = 0; finals = f } in
                   (ap Profile (ap₂ shape (add-one n ∙ ap suc (sized e t)) m.0), m.1);
             }

@@ -15,7 +15,7 @@ use Rattle.expressions.specs.Expressions.{Expr, leaves, numbered, size}
 use Rattle.expressions.specs.Positions.{firsts, follows, moves_of, successors, typed_as}
 use Rattle.expressions.specs.Texts.{expression}
 use Rattle.expressions.specs.Passes.{letters_of}
-use Rattle.expressions.proofs.Letters.{letters-typed}
+use Rattle.expressions.proofs.Letters.{letters_typed}
 use Rattle.expressions.proofs.Made.{row_is}
 use Rattle.expressions.proofs.Numbers.{length_leaves}
 use Rattle.expressions.proofs.Profiles.{moves_length}
@@ -36,7 +36,7 @@ abbrev pub text_comes : (k s : ℕ) (u moves : List ℕ) → RightText k s u mov
 text_comes k s u moves t = record { k = k; few = t.few; part = u; rest = []; tree = t.tree; typed = t.typed; here = sym (append-nil u); stop = tt; room = omega (arith, t.short) }
 
 pub letters_few : (k s : ℕ) (u moves : List ℕ) → RightText k s u moves → length (letters_of k u) ≤ most_typed
-letters_few k s u moves t = omega (arith, ap length (letters-typed k t.few t.typed), length_leaves t.tree, t.short)
+letters_few k s u moves t = omega (arith, ap length (letters_typed k t.few t.typed), length_leaves t.tree, t.short)
 
 -- row q of the walk, with the first numbers in row 0
 row_made : (p : Expr) (q : ℕ) → q < most_states → get_or (set (add_rows (replicate most_states 0) (follows p)) 0 (firsts p)) q 0 ≡ successors p q
@@ -49,7 +49,7 @@ module _ (k s : ℕ) (u moves : List ℕ) (t : RightText k s u moves) where
   set_made : (a : ℕ) → a < most_letters → get_or (sets_of k u) a 0 ≡ typed_as a 1 (leaves t.tree)
   set_made a h =
       let z : 0 + a ≡ a = omega arith in
-      at_map (λ a. typed_as a 1 (letters_of k u)) most_letters 0 a h ∙ (ap (λ a. typed_as a 1 (letters_of k u)) z ∙ ap (typed_as a 1) (letters-typed k t.few t.typed))
+      at_map (λ a. typed_as a 1 (letters_of k u)) most_letters 0 a h ∙ (ap (λ a. typed_as a 1 (letters_of k u)) z ∙ ap (typed_as a 1) (letters_typed k t.few t.typed))
 
   pub moves_made : filled k s (set (add_rows (replicate most_states 0) (follows (numbered 1 t.tree))) 0 (firsts (numbered 1 t.tree))) (sets_of k u) moves ≡ moves_put k t.tree moves
   moves_made =

@@ -28,14 +28,14 @@ module _ (k : ℕ) where
   letters_bar h u = letters_no 124 u (subst (λ b. T (not b)) (sym (le-ltb 124 (97 + k) (omega arith))) tt)
 
   module _ (few : k ≤ most_letters) where
-    pub letters-typed : {l : Level} {u : List ℕ} {e : Expr} → Typed k l u e → letters_of k u ≡ leaves e
-    letters-typed (t_letter {c = c} t) = letters_yes c [] t
-    letters-typed (t_bracket {u = u} t) = letters_append u (41 ∷ []) ∙ (append-nil (letters_of k u) ∙ letters-typed t)
-    letters-typed (t_star {u = u} t) = letters_append u (42 ∷ []) ∙ (append-nil (letters_of k u) ∙ letters-typed t)
-    letters-typed (t_factor t) = letters-typed t
-    letters-typed (t_follow {u = u} {v = v} s t) = letters_append u v ∙ ap₂ (λ x y. x ++ y) (letters-typed s) (letters-typed t)
-    letters-typed (t_sequence t) = letters-typed t
-    letters-typed (t_choice {u = u} {v = v} s t) = letters_append u (124 ∷ v) ∙ ap₂ (λ x y. x ++ y) (letters-typed s) (letters_bar few v ∙ letters-typed t)
+    pub letters_typed : {l : Level} {u : List ℕ} {e : Expr} → Typed k l u e → letters_of k u ≡ leaves e
+    letters_typed (t_letter {c = c} t) = letters_yes c [] t
+    letters_typed (t_bracket {u = u} t) = letters_append u (41 ∷ []) ∙ (append-nil (letters_of k u) ∙ letters_typed t)
+    letters_typed (t_star {u = u} t) = letters_append u (42 ∷ []) ∙ (append-nil (letters_of k u) ∙ letters_typed t)
+    letters_typed (t_factor t) = letters_typed t
+    letters_typed (t_follow {u = u} {v = v} s t) = letters_append u v ∙ ap₂ (λ x y. x ++ y) (letters_typed s) (letters_typed t)
+    letters_typed (t_sequence t) = letters_typed t
+    letters_typed (t_choice {u = u} {v = v} s t) = letters_append u (124 ∷ v) ∙ ap₂ (λ x y. x ++ y) (letters_typed s) (letters_bar few v ∙ letters_typed t)
 
   pub leaves_below : {l : Level} {u : List ℕ} {e : Expr} → Typed k l u e → T (letters_below (λ a. a) k (leaves e))
   leaves_below (t_letter {c = c} t) =

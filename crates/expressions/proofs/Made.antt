@@ -147,25 +147,25 @@ module _ (k : ℕ) (masks : List ℕ) (e : Expr) where
         all_there (a ∷ l) zero h t = fst_of (ltb a k) (letters_below (λ a. a) k l) t
         all_there (a ∷ l) (suc j) h t = all_there l j (omega arith) (snd_of (ltb a k) (letters_below (λ a. a) k l) t)
 
-    path-of : {q r : ℕ} {ps : List ℕ} → In p q → Chain (Follows p) q ps r → PathOf M (λ a. a) q (map (letter_at e) ps) r
-    path-of h at_end = stop
-    path-of {q = zero} h (step_on {j = j} f c) = absurd (no_zero h)
-    path-of {q = suc q} h (step_on {j = j} f c) =
+    path_of : {q r : ℕ} {ps : List ℕ} → In p q → Chain (Follows p) q ps r → PathOf M (λ a. a) q (map (letter_at e) ps) r
+    path_of h at_end = stop
+    path_of {q = zero} h (step_on {j = j} f c) = absurd (no_zero h)
+    path_of {q = suc q} h (step_on {j = j} f c) =
         let b = (follows_in p (suc q) j f).1 in
         let n = numbers_at 1 e (suc q) h in
         let m = numbers_at 1 e j b in
-        goes (move_of (suc q) j (omega arith) (omega arith) (omega arith) (letter_below j b) (follows_of p (suc q) j f)) (path-of b c)
+        goes (move_of (suc q) j (omega arith) (omega arith) (omega arith) (letter_below j b) (follows_of p (suc q) j f)) (path_of b c)
 
-    walk-accepted : (ps : List ℕ) → Walks p ps → Accepted M (λ a. a) (map (letter_at e) ps)
-    walk-accepted [] h = record { from = 0; to = 0; starts = bit_self 0; leads = stop; ends = final_none.1 (empty_of p h) }
-    walk-accepted (i ∷ ps) h =
+    walk_accepted : (ps : List ℕ) → Walks p ps → Accepted M (λ a. a) (map (letter_at e) ps)
+    walk_accepted [] h = record { from = 0; to = 0; starts = bit_self 0; leads = stop; ends = final_none.1 (empty_of p h) }
+    walk_accepted (i ∷ ps) h =
         let b = starts_in p i h.0 in
         let m = numbers_at 1 e i b in
         record {
           from = 0;
           to = h.1;
           starts = bit_self 0;
-          leads = goes (move_of 0 i (omega arith) (omega arith) (omega arith) (letter_below i b) (firsts_of p i h.0)) (path-of b h.2);
+          leads = goes (move_of 0 i (omega arith) (omega arith) (omega arith) (letter_below i b) (firsts_of p i h.0)) (path_of b h.2);
           ends = final_of h.1 h.3;
         }
 
@@ -181,7 +181,7 @@ module _ (k : ℕ) (masks : List ℕ) (e : Expr) where
   pub accepts_described : T (letters_below (λ a. a) k (leaves e)) → (w : List ℕ) → T (letters_below (λ a. a) k w) → Accepted M (λ a. a) w ↔ Describes e w
   accepts_described typed w t = (
     λ a. path_described t (subst (λ q. PathOf M (λ a. a) q w a.to) (sym (bit_single 0 a.from a.starts)) a.leads) a.ends,
-    λ d. let n = spelt_of e w d in subst (Accepted M (λ a. a)) n.2 (walk-accepted typed n.0 (walks_of n.1)),
+    λ d. let n = spelt_of e w d in subst (Accepted M (λ a. a)) n.2 (walk_accepted typed n.0 (walks_of n.1)),
   )
 
 -- ---- the paper's words on moves and final states

@@ -97,8 +97,8 @@ module _ (k : ℕ) where
     passes (t_choice {u = u} {v = v} s t) w d rest = passes_append u (124 ∷ v) (λ w d rest. passes s w d rest) (λ d rest.
         fault_bar d (v ++ rest) few ∙ (ap later (passes t true d rest) ∙ shift_later (length v) (fault_from k false d rest))) w d rest
 
-    pub right-passes : {u : List ℕ} → Right k u → fault k u ≡ none
-    right-passes {u} r = subst (λ x. fault_from k true 0 x ≡ none) (append-nil u) (passes r.typed true 0 [])
+    pub right_passes : {u : List ℕ} → Right k u → fault k u ≡ none
+    right_passes {u} r = subst (λ x. fault_from k true 0 x ≡ none) (append-nil u) (passes r.typed true 0 [])
 
 -- ---- what stands before the factor that is read: brackets that are open, choices and factors before it
 
@@ -185,4 +185,4 @@ passed_right k (c ∷ u) w d r a e = go (next (sign k c) w d) refl (passed_right
 
 -- "right text": exactly where the pass finds no place
 pub right_is : (k : ℕ) → k ≤ most_letters → (u : List ℕ) → (fault k u ≡ none) ↔ Right k u
-right_is k few u = (passed_right k u true 0 [] a_start, right-passes k few)
+right_is k few u = (passed_right k u true 0 [] a_start, right_passes k few)

@@ -13,7 +13,7 @@ use Rattle.profile.specs.Limits.{most_letters}
 use Rattle.profile.proofs.Lists.{lt_or_le}
 use Rattle.expressions.specs.Texts.{Begins, Breaks, Right, at_byte, at_end}
 use Rattle.expressions.specs.Passes.{Place, closes, ended, fault, fault_from, later, letter, next, sign}
-use Rattle.expressions.proofs.Passes.{Stands, a_start, fault_goes, fault_stops, right_is, right-passes, stands_next, stands_right, stepped}
+use Rattle.expressions.proofs.Passes.{Stands, a_start, fault_goes, fault_stops, right_is, right_passes, stands_next, stands_right, stepped}
 
 -- ---- every beginning that the pass goes through is that of a right text
 
@@ -77,8 +77,8 @@ module _ (k : ℕ) (some_letter : 1 ≤ k) (few : k ≤ most_letters) where
   fault_breaks u i e = go (known k u true 0 [] i e) (lt_or_le i (length u))
     where
       go : Known k true 0 [] u i → (i < length u) ⊎ (length u ≤ i) → Breaks k u i
-      go n (inl h) = at_byte h (n.begins some_letter a_start) (λ b. none-ne-some _ (sym (right-passes k few b.right) ∙ n.fixed h b.rest))
-      go n (inr h) = at_end (omega (arith, n.inside)) (subst (Begins k) (take_all i u h) (n.begins some_letter a_start)) (λ r. none-ne-some _ (sym (right-passes k few r) ∙ e))
+      go n (inl h) = at_byte h (n.begins some_letter a_start) (λ b. none-ne-some _ (sym (right_passes k few b.right) ∙ n.fixed h b.rest))
+      go n (inr h) = at_end (omega (arith, n.inside)) (subst (Begins k) (take_all i u h) (n.begins some_letter a_start)) (λ r. none-ne-some _ (sym (right_passes k few r) ∙ e))
 
 -- ---- there is one such place
 

@@ -12,7 +12,7 @@ use native.Mathlib.Omega.{arith}
 use lib.Dec.{eqb, nleb→lt}
 use lib.ListN.{length, get_or, take, drop, length-append}
 use lib.Pow.{pow_mono}
-use lib.Seq.{drop-append-add, drop_at, drop_drop, ext_get_or, get_or-drop, take_at}
+use lib.Seq.{drop-append-add, drop_at, drop-drop, ext_get_or, get_or-drop, take_at}
 use Rattle.profile.specs.Limits.{finals_byte, letters_byte, log_byte, masks_byte, most_letters, most_moves, moves_byte, start_byte, states_byte, trailer_length}
 use Rattle.profile.specs.Automata.{Profile, profile_of}
 use Rattle.profile.specs.Lists.{Mem, any, below, flat_map}
@@ -75,7 +75,7 @@ module _ (m v w t : List ℕ) (sixteen : length t ≡ trailer_length) where
   number_eq : (b i : ℕ) → number b (m ++ (v ++ (w ++ t))) (trailer (m ++ (v ++ (w ++ t))) + i) ≡ number b t i
   number_eq b i =
       let f = m ++ (v ++ (w ++ t)) in
-      ap (λ r. pack 8 (take b r)) (sym (drop_drop i (trailer f) f) ∙ ap (drop i) drop_trailer)
+      ap (λ r. pack 8 (take b r)) (sym (drop-drop i (trailer f) f) ∙ ap (drop i) drop_trailer)
 
 -- ---- what refusals 4 and 6 bound
 

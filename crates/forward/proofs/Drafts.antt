@@ -2,17 +2,17 @@
 use mathlib.Core.Path.{◌≡◌, refl, sym, ◌∙◌, ap, ap₂, subst}
 use mathlib.Core.List.{List, [], ◌∷◌, ◌++◌, append_assoc, append-nil}
 use Prim.Native.Nat.{ℕ, zero, suc, ◌+◌, ◌-◌, ◌*◌, ◌≤◌}
-use native.Mathlib.Nat.{add_zero}
+use native.Mathlib.Nat.{add-zero}
 use native.Mathlib.Omega.{arith}
 use borrow.Rule.Slice.PartMut.{mid_of, post_of, put_mid}
 use lib.ListN.{length, take, drop, length-append, length-drop, drop_of_length-le}
-use lib.Seq.{drop-append-add, drop_at, drop_drop, take-add, take_all, take_at}
+use lib.Seq.{drop-append-add, drop_at, drop-drop, take-add, take_all, take_at}
 use Rattle.profile.specs.Rules.{Rules}
 use Rattle.profile.specs.Lists.{below, flat_map}
 use Rattle.profile.specs.Tables.{layout, record_length}
 use Rattle.profile.proofs.Lists.{below_suc, flat_map_append, flat_map_length}
 use Rattle.records.specs.Records.{put_record}
-use Rattle.records.proofs.Drafts.{put-draft}
+use Rattle.records.proofs.Drafts.{put_draft}
 use Rattle.forward.specs.Merging.{begun, totals}
 use Rattle.records.specs.Drafts.{draft, drafted, forward_set, letters_set, of_total}
 
@@ -29,7 +29,7 @@ module _ (p : Rules) (w : List ℕ) where
       subst (λ m. (D : List (List ℕ)) × (totals p w m ≡ totals p w t ++ D)) e (go (n - t))
     where
       go : (d : ℕ) → (D : List (List ℕ)) × (totals p w (t + d) ≡ totals p w t ++ D)
-      go zero = ([], ap (totals p w) (add_zero t) ∙ sym (append-nil (totals p w t)))
+      go zero = ([], ap (totals p w) (add-zero t) ∙ sym (append-nil (totals p w t)))
       go (suc d) =
           let r = go d in
           let e : t + suc d ≡ suc (t + d) = omega arith in (
@@ -54,7 +54,7 @@ module _ (p : Rules) (w : List ℕ) where
       let e : record_length layout * length (C ++ D) ≡ n + m = omega (arith, length-append C D) in
       ap (λ l. drafted p w (C ++ D) ++ l)
       (ap (λ i. drop i (begun p w C t)) (e ∙ ap (λ i. i + m) (sym (drafted_length C)))
-      ∙ drop-append-add (drafted p w C) (drop n t) m ∙ drop_drop m n t ∙ ap (λ i. drop i t) (sym e))
+      ∙ drop-append-add (drafted p w C) (drop n t) m ∙ drop-drop m n t ∙ ap (λ i. drop i t) (sym e))
 
   pub begun_same : (C : List (List ℕ)) (t : List ℕ) → begun p w C (begun p w C t) ≡ begun p w C t
   begun_same C t = ap (λ D. begun p w D (begun p w C t)) (sym (append-nil C)) ∙ begun_again C [] t ∙ ap (λ D. begun p w D t) (append-nil C)
@@ -65,8 +65,8 @@ module _ (p : Rules) (w : List ℕ) where
   begun_put C c t h =
       let n = record_length layout * length C in
       let e : n + record_length layout ≡ record_length layout * length (C ++ (c ∷ [])) = omega (arith, length-append C (c ∷ [])) in
-      put-draft (forward_set p w) (letters_set p w) C t (drop n t) h c
-      ∙ ap (λ l. drafted p w (C ++ (c ∷ [])) ++ l) (drop_drop (record_length layout) n t ∙ ap (λ i. drop i t) e)
+      put_draft (forward_set p w) (letters_set p w) C t (drop n t) h c
+      ∙ ap (λ l. drafted p w (C ++ (c ∷ [])) ++ l) (drop-drop (record_length layout) n t ∙ ap (λ i. drop i t) e)
 
   -- the part with the records of C, between those of B and of D
   pub begun_part : (B C D : List (List ℕ)) (t : List ℕ) (start end : ℕ) → t ≡ begun p w ((B ++ C) ++ D) t
@@ -93,4 +93,4 @@ put_part t v first j =
     ap₂ (λ l r. take a t ++ (put_record l j v ++ r)) part none
     ∙ ap (λ l. take a t ++ l) (append-nil (put_record (drop a t) j v))
     ∙ sym (append_assoc (take a t) (take b (drop a t)) (v ++ drop (b + record_length layout) (drop a t)))
-    ∙ ap₂ (λ l r. l ++ (v ++ r)) (sym (take-add a b t) ∙ ap (λ i. take i t) m) (drop_drop (b + record_length layout) a t ∙ ap (λ i. drop i t) n)
+    ∙ ap₂ (λ l r. l ++ (v ++ r)) (sym (take-add a b t) ∙ ap (λ i. take i t) m) (drop-drop (b + record_length layout) a t ∙ ap (λ i. drop i t) n)

@@ -16,7 +16,7 @@ use Rattle.profile.specs.Tables.{layout, record_length}
 use Rattle.theory.proofs.Counting.{length_range}
 use Rattle.theory.proofs.Levels.{by_total_length}
 use Rattle.profile.proofs.Lists.{filter_no, filter_yes, test}
-use Rattle.theory.proofs.Looks.{looks-by-total, pairs_append, pairs_cons}
+use Rattle.theory.proofs.Looks.{looks_by_total, pairs_append, pairs_cons}
 use Rattle.cursors.specs.Cursors.{seek_from, started}
 use Rattle.theory.proofs.Fronts.{front_whole}
 use Rattle.forward.specs.Forward.{Forward, Ready}
@@ -89,8 +89,8 @@ module _ {p : Rules} {w : List ℕ} {m room : ℕ} {starts places turns : List �
     abbrev E : List (List ℕ)
     E = of_total p w (suc t)
 
-    pub filling-merging : Merging p w table room t from first j cursors
-    filling-merging = record {
+    pub filling_merging : Merging p w table room t from first j cursors
+    filling_merging = record {
       before = b.before;
       behind = b.behind;
       inside = f.inside;
@@ -100,9 +100,9 @@ module _ {p : Rules} {w : List ℕ} {m room : ℕ} {starts places turns : List �
       placed = f.placed;
     }
 
-    pub filling-next : (m : ℕ) (after next : List ℕ) → Steps p w room t first j table after next (merged.Put m) → length after ≡ length table → length next ≡ length cursors
+    pub filling_next : (m : ℕ) (after next : List ℕ) → Steps p w room t first j table after next (merged.Put m) → length after ≡ length table → length next ≡ length cursors
         → Filling p w before after room t first (j + 1) (n + m) next
-    filling-next m after next s l e = subst (λ i. Filling p w before after room t first i (n + m) next) (sym (add-one j)) (record {
+    filling_next m after next s l e = subst (λ i. Filling p w before after room t first i (n + m) next) (sym (add-one j)) (record {
       kept = l ∙ f.kept;
       inside = omega (arith, s.0);
       come = omega (arith, s.1);
@@ -129,11 +129,11 @@ module _ {p : Rules} {w : List ℕ} {m room : ℕ} {starts places turns : List �
         more = ap (λ C. totals p w (suc t) ++ C) (take-suc E j [] s.1) ∙ sym (append_assoc (totals p w (suc t)) (take j E) (c ∷ []))
 
     -- so the number of pairs fits its type
-    pub filling-few : n ≤ most_letters * room
-    filling-few = omega (arith, f.paired, f.inside, pairs_few p w r.profile.relation.most (take j E), length-take-le j E f.come)
+    pub filling_few : n ≤ most_letters * room
+    filling_few = omega (arith, f.paired, f.inside, pairs_few p w r.profile.relation.most (take j E), length-take-le j E f.come)
 
-    pub filling-done : (after next : List ℕ) → Steps p w room t first j table after next merged.Nothing → Grows p w room t first before after (total.Put j n)
-    filling-done after next s =
+    pub filling_done : (after next : List ℕ) → Steps p w room t first j table after next merged.Nothing → Grows p w room t first before after (total.Put j n)
+    filling_done after next s =
         let all : take j E ≡ E = take_all j E (omega (arith, s.0)) in (
           s.0,
           f.inside,
@@ -164,31 +164,31 @@ module _ {p : Rules} {w : List ℕ} {m room : ℕ} {starts places turns : List �
   some_prefix = omega (arith, order_count, totals_le p w 1 (suc (length w)) (omega arith), first_length r)
 
   module _ {before table : List ℕ} {t from first n : ℕ} (f : Reaching p w before table room t from first n) where
-    next-first : first ≡ length (totals p w (suc t))
-    next-first = omega (arith, f.begins.before, f.begins.behind, ap length (totals_suc p w t), length-append (totals p w t) (of_total p w t))
+    next_first : first ≡ length (totals p w (suc t))
+    next_first = omega (arith, f.begins.before, f.begins.behind, ap length (totals_suc p w t), length-append (totals p w t) (of_total p w t))
 
     -- so the number of pairs fits its type
-    pub reaching-few : n ≤ most_letters * room
-    reaching-few = omega (arith, f.paired, f.begins.inside, next-first, pairs_few p w r.profile.relation.most (totals p w (suc t)))
+    pub reaching_few : n ≤ most_letters * room
+    reaching_few = omega (arith, f.paired, f.begins.inside, next_first, pairs_few p w r.profile.relation.most (totals p w (suc t)))
 
-    pub reaching-full : t < length w → (after : List ℕ) → Grows p w room t first table after total.Full → room < prefix_count p.may p.letter p.profile.k w
-    reaching-full lt after g = omega (
+    pub reaching_full : t < length w → (after : List ℕ) → Grows p w room t first table after total.Full → room < prefix_count p.may p.letter p.profile.k w
+    reaching_full lt after g = omega (
       arith,
       g,
       order_count,
-      next-first,
+      next_first,
       ap length (totals_suc p w (suc t)),
       length-append (totals p w (suc t)) (of_total p w (suc t)),
       totals_le p w (suc (suc t)) (suc (length w)) (omega arith),
     )
 
-    pub reaching-next : t < length w → (i l : ℕ) (after : List ℕ) → Grows p w room t first table after (total.Put i l) → length after ≡ length table
+    pub reaching_next : t < length w → (i l : ℕ) (after : List ℕ) → Grows p w room t first table after (total.Put i l) → length after ≡ length table
         → Reaching p w before after room (t + 1) first (first + i) (n + l)
-    reaching-next lt i l after g q = subst (λ z. Reaching p w before after room z first (first + i) (n + l)) (sym (add-one t)) (record {
+    reaching_next lt i l after g q = subst (λ z. Reaching p w before after room z first (first + i) (n + l)) (sym (add-one t)) (record {
       kept = q ∙ f.kept;
       up_to = omega arith;
       begins = record {
-        before = next-first;
+        before = next_first;
         behind = ap (λ z. first + z) g.0;
         inside = g.1;
         written = put ∙ sym (ap (begun p w (totals p w (suc (suc t)))) put ∙ begun_same p w (totals p w (suc (suc t))) before);
@@ -209,14 +209,14 @@ module _ {p : Rules} {w : List ℕ} {m room : ℕ} {starts places turns : List �
         put : after ≡ begun p w (totals p w (suc (suc t))) before
         put = g.3 ∙ ap₂ (begun p w) more f.written ∙ begun_again p w (totals p w (suc t)) (of_total p w (suc t)) before ∙ ap (λ C. begun p w C before) (sym more)
 
-    pub reaching-end : length w ≤ t → Forward p w room before table (filled.Done first n)
-    reaching-end le =
+    pub reaching_end : length w ≤ t → Forward p w room before table (filled.Done first n)
+    reaching_end le =
         let e : t ≡ length w = omega (arith, f.up_to) in
         let whole : totals p w (suc t) ≡ in_order p w = ap (λ i. totals p w (suc i)) e in
-        let P : first ≡ length (in_order p w) = next-first ∙ ap length whole in (
+        let P : first ≡ length (in_order p w) = next_first ∙ ap length whole in (
           P ∙ order_count,
           f.begins.inside,
-          f.paired ∙ ap (pairs p w) whole ∙ sym (looks-by-total p.may p.letter p.profile.k w r.log.letters),
+          f.paired ∙ ap (pairs p w) whole ∙ sym (looks_by_total p.may p.letter p.profile.k w r.log.letters),
           f.written ∙ ap (λ C. begun p w C before) whole ∙ ap (λ i. drafted p w (in_order p w) ++ drop (record_length layout * i) before) (sym P),
         )
 

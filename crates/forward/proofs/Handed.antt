@@ -24,17 +24,17 @@ use Rattle.theory.proofs.Profiles.{distinct}
 use Rattle.theory.proofs.SetLoops.{passing_below, passing_bit}
 use Rattle.terms.specs.Coded.{event_letter, may_of}
 use Rattle.parents.proofs.Complements.{bits_below, complement_bit}
-use Rattle.parents.proofs.Parents.{hits_less, hits_removable, inherited as handed-on, passed-before}
+use Rattle.parents.proofs.Parents.{hits_less, hits_removable, inherited as handed-on, passed_before}
 use Rattle.cursors.proofs.Levels.{level_whole}
 use Rattle.events.specs.Events.{comes_next?}
 use Rattle.letters.specs.Letters.{letter_by, neither, next_by, tested_by}
 use Rattle.letters.proofs.Tests.{letter_at, letter_of}
 use Rattle.merge.specs.Merge.{givers, inherited, other_letters, passing}
 use Rattle.records.specs.Records.{last_at}
-use Rattle.records.proofs.Drafts.{last-of-draft}
+use Rattle.records.proofs.Drafts.{last_of_draft}
 use Rattle.forward.specs.Forward.{Finds, Ready}
 use Rattle.forward.specs.Merging.{Placed}
-use Rattle.forward.proofs.Steps.{cursor-at, next-givers, next-letters}
+use Rattle.forward.proofs.Steps.{cursor_at, next_givers, next_letters}
 use Rattle.forward.proofs.Totals.{apart, counted}
 use Rattle.records.proofs.Halves.{lower_half}
 use Rattle.records.specs.Drafts.{addable_set, drafted, forward_set, letters_set, of_total, removable_set}
@@ -86,26 +86,26 @@ module _ {p : Rules} {w : List ℕ} {m room : ℕ} {starts places turns : List �
     inside = below_at k x (filter_at (bit G) (below k) i).0
 
     hit : T (hits C x e (at cursors x))
-    hit = subst T (next-letters r n t written cursors long j placed lt x inside) (filter_at (bit G) (below k) i).1
+    hit = subst T (next_letters r n t written cursors long j placed lt x inside) (filter_at (bit G) (below k) i).1
 
     removable : T (removable? p.may p.letter w (at e) x)
     removable = subst T (hits_removable p.may p.letter (apart r) k w r.log.letters n (take j E) e (drop (suc j) E) (split_at E j [] lt) x (at cursors x) inside
-        (cursor-at r n t written cursors long j placed lt x inside)) hit
+        (cursor_at r n t written cursors long j placed lt x inside)) hit
 
     one_less : less (at e) x ≡ at (own x)
     one_less = hits_less p.may p.letter (apart r) k w r.log.letters n (take j E) e (drop (suc j) E) (split_at E j [] lt) x (at cursors x) inside
-        (cursor-at r n t written cursors long j placed lt x inside) hit
+        (cursor_at r n t written cursors long j placed lt x inside) hit
 
-    last-own : bit_and (last_at t (at cursors x)) 65535 ≡ addable_set p w (own x)
-    last-own = and_mask (last_at t (at cursors x)) 16
-        ∙ ap (λ n. n % 65536) (last-of-draft (forward_set p w) (letters_set p w) C t [] (level_whole (forward_set p w) (letters_set p w) C t written) (at cursors x) (hits_at C x e (at cursors x) hit).0)
+    last_own : bit_and (last_at t (at cursors x)) 65535 ≡ addable_set p w (own x)
+    last_own = and_mask (last_at t (at cursors x)) 16
+        ∙ ap (λ n. n % 65536) (last_of_draft (forward_set p w) (letters_set p w) C t [] (level_whole (forward_set p w) (letters_set p w) C t written) (at cursors x) (hits_at C x e (at cursors x) hit).0)
         ∙ lower_half p w (own x) r.profile.relation.most
 
     -- its bits are the letters that can be added there, x aside
-    others-at : (q : ℕ) → T (bit (other_letters t (at cursors x) x) q) → (q < k) × (x ≢ q) × T (addable? p.may p.letter w (less (at e) x) q)
-    others-at q b =
+    others_at : (q : ℕ) → T (bit (other_letters t (at cursors x) x) q) → (q < k) × (x ≢ q) × T (addable? p.may p.letter w (less (at e) x) q)
+    others_at q b =
         let s = subst T (bit_of_and (bit_and (last_at t (at cursors x)) 65535) (2 ^ 32 - 1 - 2 ^ x) q) b in
-        let f = subst (λ S. T (bit S q)) last-own (fst_of (bit (bit_and (last_at t (at cursors x)) 65535) q) (bit (2 ^ 32 - 1 - 2 ^ x) q) s) in
+        let f = subst (λ S. T (bit S q)) last_own (fst_of (bit (bit_and (last_at t (at cursors x)) 65535) q) (bit (2 ^ 32 - 1 - 2 ^ x) q) s) in
         let h : q < k = bit_below k (addable_set p w (own x)) q (passing_below (addable? p.may p.letter w (at (own x))) k) f in
         let most = r.profile.relation.most in
         let c = subst T (complement_bit 32 (2 ^ x) q (pow-lt {j = 32} (omega (arith, inside))) (omega arith)) (snd_of (bit (bit_and (last_at t (at cursors x)) 65535) q) (bit (2 ^ 32 - 1 - 2 ^ x) q) s) in (
@@ -114,10 +114,10 @@ module _ {p : Rules} {w : List ℕ} {m room : ℕ} {starts places turns : List �
           subst (λ d. T (addable? p.may p.letter w d q)) (sym one_less) (subst T (passing_bit (addable? p.may p.letter w (at (own x))) k q h) f),
         )
 
-    others-of : (q : ℕ) → q < k → x ≢ q → T (addable? p.may p.letter w (less (at e) x) q) → T (bit (other_letters t (at cursors x) x) q)
-    others-of q h ne a =
+    others_of : (q : ℕ) → q < k → x ≢ q → T (addable? p.may p.letter w (less (at e) x) q) → T (bit (other_letters t (at cursors x) x) q)
+    others_of q h ne a =
         let most = r.profile.relation.most in
-        let b : T (bit (bit_and (last_at t (at cursors x)) 65535) q) = subst (λ S. T (bit S q)) (sym last-own)
+        let b : T (bit (bit_and (last_at t (at cursors x)) 65535) q) = subst (λ S. T (bit S q)) (sym last_own)
         (subst T (sym (passing_bit (addable? p.may p.letter w (at (own x))) k q h)) (subst (λ d. T (addable? p.may p.letter w d q)) one_less a)) in
         let c : T (bit (2 ^ 32 - 1 - 2 ^ x) q) = subst T (sym (complement_bit 32 (2 ^ x) q (pow-lt {j = 32} (omega (arith, inside))) (omega arith)))
         (not_T (bit (2 ^ x) q) (λ z. ne (bit_single x q z))) in
@@ -127,22 +127,22 @@ module _ {p : Rules} {w : List ℕ} {m room : ℕ} {starts places turns : List �
   given_at : (q : ℕ) → T (bit I q) → (q < k) × T (add q)
   given_at q b =
       let u = union_at (λ x. other_letters t (at cursors x) x) (filter (bit G) (below k)) q b in
-      let o = others-at u.0 u.1 q u.2 in
+      let o = others_at u.0 u.1 q u.2 in
       (o.0, handed-on p.may p.letter (apart r) prefix u.0 q (removable u.0 u.1) o.1 o.2)
 
   -- letters that the masks let pass may pass
   module _ (free : (a b : ℕ) → T (independent masks (p.letter a) (p.letter b)) → T (p.may a b)) where
     -- what can be added and may pass one of the letters of G is handed on
-    passed-at : (q : ℕ) → q < k → T (bit P q) → T (add q) → T (bit I q)
-    passed-at q h b a =
+    passed_at : (q : ℕ) → q < k → T (bit P q) → T (add q) → T (bit I q)
+    passed_at q h b a =
         let u = union_at (λ x. get_or masks x 0) (filter (bit G) (below k)) q b in
         let x = u.0 in
-        let before = passed-before p.may p.letter (apart r) prefix x q (removable x u.1)
+        let before = passed_before p.may p.letter (apart r) prefix x q (removable x u.1)
         (λ a b l m. free a b (subst (λ y. T (independent masks y (p.letter b))) (sym l) (subst (λ y. T (independent masks x y)) (sym m) u.2))) a in
-        union_of (λ x. other_letters t (at cursors x) x) q u.1 (others-of x u.1 q h (distinct masks r.profile.relation.own x q u.2) before)
+        union_of (λ x. other_letters t (at cursors x) x) q u.1 (others_of x u.1 q h (distinct masks r.profile.relation.own x q u.2) before)
 
-    both-few : bit_or I P < 2 ^ 32
-    both-few = bits_below 32 (bit_or I P) (λ q b.
+    both_few : bit_or I P < 2 ^ 32
+    both_few = bits_below 32 (bit_or I P) (λ q b.
         let most = r.profile.relation.most in
         ⊎_elim (λ i. omega (arith, (given_at q i).0))
         (λ i. let u = union_at (λ x. get_or masks x 0) (filter (bit G) (below k)) q i in omega (arith, (r.profile.relation.inside u.0 q u.2).1))
@@ -154,7 +154,7 @@ module _ {p : Rules} {w : List ℕ} {m room : ℕ} {starts places turns : List �
         let most = r.profile.relation.most in
         let z : 2 ^ k - 1 - 0 ≡ 2 ^ k - 1 = omega arith in
         let a : T (bit (2 ^ k - 1) q) = subst (λ S. T (bit S q)) z (subst T (sym (complement_bit k 0 q (pow_pos k) h ∙ ap not (bit_none q))) tt) in
-        let b : T (bit (2 ^ 32 - 1 - bit_or I P) q) = subst T (sym (complement_bit 32 (bit_or I P) q both-few (omega arith) ∙ ap not (bit_of_or I P q ∙ nor (bit I q) (bit P q) i j))) tt in
+        let b : T (bit (2 ^ 32 - 1 - bit_or I P) q) = subst T (sym (complement_bit 32 (bit_or I P) q both_few (omega arith) ∙ ap not (bit_of_or I P q ∙ nor (bit I q) (bit P q) i j))) tt in
         subst T (sym (bit_of_and (2 ^ k - 1) (2 ^ 32 - 1 - bit_or I P) q)) (both (bit (2 ^ k - 1) q) (bit (2 ^ 32 - 1 - bit_or I P) q) a b)
       where
         nor : (x y : Bool) → T (not x) → T (not y) → (x || y) ≡ false
@@ -170,9 +170,9 @@ module _ {p : Rules} {w : List ℕ} {m room : ℕ} {starts places turns : List �
         ∙ ap (λ l. bit (union (λ x. 2 ^ x) l) x) (f e prefix) ∙ passing_bit add k x h
 
     -- so they are what is handed on and what passes the test
-    pub handed-letters : termed ≡ false
+    pub handed_letters : termed ≡ false
         → bit_or I (tested_by (independent masks) k (length w) starts places (packed layout e) (neither k I P)) ≡ addable_set p w e
-    handed-letters plain = sets_eq (bit_or I S) (addable_set p w e) into from
+    handed_letters plain = sets_eq (bit_or I S) (addable_set p w e) into from
       where
         f : ℕ → ℕ
         f = letter_by (independent masks) k (length w) starts places (packed layout e)
@@ -195,7 +195,7 @@ module _ {p : Rules} {w : List ℕ} {m room : ℕ} {starts places turns : List �
             let h : q < k = bit_below k (addable_set p w e) q (passing_below add k) b in
             let a = subst T (passing_bit add k q h) b in
             subst T (sym (bit_of_or I S q)) (⊎_elim (or_left (bit I q) (bit S q))
-            (λ i. ⊎_elim (λ g. or_left (bit I q) (bit S q) (passed-at q h g a))
+            (λ i. ⊎_elim (λ g. or_left (bit I q) (bit S q) (passed_at q h g a))
             (λ g. or_right (bit I q) (bit S q) (union_of f q (filter_of (bit (neither k I P)) (below_of k q h) (open_of q h i g))
             (letter_of q (comes_next? (independent masks) k (length w) (next_by k starts places (packed layout e)) q) (subst T (sym (comes plain q h)) a))))
             (test (bit P q)))
@@ -203,8 +203,8 @@ module _ {p : Rules} {w : List ℕ} {m room : ℕ} {starts places turns : List �
 
   -- the letters whose cursors give it are those of which it can have one less
   pub handed_removable : G ≡ removable_set p w e
-  handed_removable = next-givers r n t written cursors long j placed lt
+  handed_removable = next_givers r n t written cursors long j placed lt
       ∙ ap (union (λ x. 2 ^ x)) (filter_agree (λ x. hits C x e (at cursors x)) (removable? p.may p.letter w (at e)) (below k) (λ x m.
       let h = below_at k x m in
       hits_removable p.may p.letter (apart r) k w r.log.letters n (take j E) e (drop (suc j) E) (split_at E j [] lt) x (at cursors x) h
-      (cursor-at r n t written cursors long j placed lt x h)))
+      (cursor_at r n t written cursors long j placed lt x h)))

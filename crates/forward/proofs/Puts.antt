@@ -27,9 +27,9 @@ use Rattle.forward.specs.Forward.{Ready}
 use Rattle.forward.specs.Merging.{Merging, Placed, Steps, begun, records_between, totals}
 use Rattle.forward.specs.declared.Merged.TheVariants.{Put}
 use Rattle.forward.proofs.Drafts.{begun_part, begun_put, totals_suc}
-use Rattle.forward.proofs.Handed.{handed-letters, handed_removable}
-use Rattle.forward.proofs.Steps.{next-forward, next-none, next_placed, next-some}
-use Rattle.forward.proofs.Totals.{found-letters}
+use Rattle.forward.proofs.Handed.{handed_letters, handed_removable}
+use Rattle.forward.proofs.Steps.{next_forward, next_none, next_placed, next_some}
+use Rattle.forward.proofs.Totals.{found_letters}
 use Rattle.records.proofs.Halves.{addable_few, removable_few}
 use Rattle.records.specs.Drafts.{addable_set, drafted, letters_set, of_total, removable_set}
 
@@ -61,11 +61,11 @@ module _ {p : Rules} {w : List ℕ} {room : ℕ} {starts places turns : List ℕ
   long = omega (arith, h.long, r.profile.relation.most)
 
   pub merge_none : least_of part p.profile.k cursors ≡ none → j ≡ length E
-  merge_none = next-none r t part part_drafted cursors long j h.placed h.come
+  merge_none = next_none r t part part_drafted cursors long j h.placed h.come
 
   module _ (v : List ℕ) (least : least_of part p.profile.k cursors ≡ some v) where
-    pub merge-full : room ≤ first + j → room < first + length E
-    merge-full le = omega (arith, (next-some r t part part_drafted cursors long j h.placed v least).0)
+    pub merge_full : room ≤ first + j → room < first + length E
+    merge_full le = omega (arith, (next_some r t part part_drafted cursors long j h.placed v least).0)
 
     -- as many records as stand before the new one
     written_length : length (totals p w (suc t) ++ take j E) ≡ first + j
@@ -80,37 +80,37 @@ module _ {p : Rules} {w : List ℕ} {room : ℕ} {starts places turns : List ℕ
     )
 
     -- the letters that can be added to it, where all are tested, and where the log has no terms
-    pub merge-found : (L : ℕ) → L ≡ union (λ x. 2 ^ x) (letters_found termed (independent p.profile.masks) p.profile.k (length w) starts places turns v)
+    pub merge_found : (L : ℕ) → L ≡ union (λ x. 2 ^ x) (letters_found termed (independent p.profile.masks) p.profile.k (length w) starts places turns v)
         → L ≡ addable_set p w (get_or E j [])
-    merge-found L l =
-        let q = next-some r t part part_drafted cursors long j h.placed v least in
-        l ∙ ap (union (λ x. 2 ^ x)) (found-letters r (suc t) (get_or E j []) (mem_getd E j [] q.0) v q.1)
+    merge_found L l =
+        let q = next_some r t part part_drafted cursors long j h.placed v least in
+        l ∙ ap (union (λ x. 2 ^ x)) (found_letters r (suc t) (get_or E j []) (mem_getd E j [] q.0) v q.1)
 
-    pub merge-handed : termed ≡ false → ((a b : ℕ) → T (independent p.profile.masks (p.letter a) (p.letter b)) → T (p.may a b)) → (I P L : ℕ)
+    pub merge_handed : termed ≡ false → ((a b : ℕ) → T (independent p.profile.masks (p.letter a) (p.letter b)) → T (p.may a b)) → (I P L : ℕ)
         → I ≡ inherited p.profile.k part cursors (givers part p.profile.k cursors)
         → P ≡ passing p.profile.k p.profile.masks (givers part p.profile.k cursors)
         → L ≡ bit_or I (tested_by (independent p.profile.masks) p.profile.k (length w) starts places v (neither p.profile.k I P))
         → L ≡ addable_set p w (get_or E j [])
-    merge-handed plain free I P L i s l =
-        let q = next-some r t part part_drafted cursors long j h.placed v least in
+    merge_handed plain free I P L i s l =
+        let q = next_some r t part part_drafted cursors long j h.placed v least in
         l ∙ ap (λ u. bit_or I (tested u (neither p.profile.k I P))) q.1
         ∙ ap₂ (λ x y. bit_or x (tested (packed layout (get_or E j [])) (neither p.profile.k x y))) i s
-        ∙ handed-letters r t part part_drafted cursors long j h.placed q.0 free plain
+        ∙ handed_letters r t part part_drafted cursors long j h.placed q.0 free plain
       where
         tested : List ℕ → ℕ → ℕ
         tested = tested_by (independent p.profile.masks) p.profile.k (length w) starts places
 
-    pub merge-put : (S L F n : ℕ) (after next : List ℕ) → first + j < room
+    pub merge_put : (S L F n : ℕ) (after next : List ℕ) → first + j < room
         → S ≡ united p.profile.k p.profile.s p.profile.moves part cursors (givers part p.profile.k cursors) → next ≡ advanced p.profile.k part cursors (givers part p.profile.k cursors)
         → L ≡ addable_set p w (get_or E j [])
         → F ≡ givers part p.profile.k cursors
         → n ≡ ones L
         → after ≡ put_record table (first + j) (v ++ (S ∷ bit_or L (F * 2 ^ 16 % 2 ^ 32) ∷ []))
         → Steps p w room t first j table after next (Put n)
-    merge-put S L F n after next lt s a l g m put =
-        let q = next-some r t part part_drafted cursors long j h.placed v least in
+    merge_put S L F n after next lt s a l g m put =
+        let q = next_some r t part part_drafted cursors long j h.placed v least in
         let e = get_or E j [] in
-        let f = s ∙ next-forward r t part part_drafted cursors long j h.placed q.0 in
+        let f = s ∙ next_forward r t part part_drafted cursors long j h.placed q.0 in
         let most = r.profile.relation.most in
         let last : bit_or L (F * 2 ^ 16 % 2 ^ 32) ≡ letters_set p w e =
         ap₂ (λ x y. bit_or x (y * 2 ^ 16 % 2 ^ 32)) l (g ∙ handed_removable r t part part_drafted cursors long j h.placed q.0)

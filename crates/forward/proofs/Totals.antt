@@ -18,9 +18,9 @@ use Rattle.profile.specs.Tables.{layout, packed}
 use Rattle.profile.specs.Traces.{independent}
 use Rattle.profile.proofs.Lists.{all_of, fst_of}
 use Rattle.theory.proofs.Looks.{pairs_cons}
-use Rattle.theory.proofs.Merge.{at_prefix, forward-first, level_at, level_first, level_left}
+use Rattle.theory.proofs.Merge.{at_prefix, forward_first, level_at, level_first, level_left}
 use Rattle.theory.proofs.Packing.{packed_zero}
-use Rattle.theory.proofs.Prefixes.{front_none, prefix-of-front, removable?}
+use Rattle.theory.proofs.Prefixes.{front_none, prefix_of_front, removable?}
 use Rattle.theory.proofs.Profiles.{lawful}
 use Rattle.theory.proofs.Unions.{union_none}
 use Rattle.counts.proofs.Packed.{Small}
@@ -48,16 +48,16 @@ module _ {p : Rules} {w : List ℕ} {m room : ℕ} {starts places turns : List �
     found = letters_found termed (independent p.profile.masks) p.profile.k (length w) starts places turns v
 
     -- the letters found by the places of the log's events
-    pub found-letters : found ≡ letters_of p w c
-    found-letters =
+    pub found_letters : found ≡ letters_of p w c
+    found_letters =
         ap (letters_found termed (independent p.profile.masks) p.profile.k (length w) starts places turns) e
         ∙ r.finds c (counted n c i).2
 
     -- the record of c, of which no letter can be taken away
-    pub record-found : (S L : ℕ) → S ≡ forward_set p w c → L ≡ union (λ x. 2 ^ x) found → removable_set p w c ≡ 0
+    pub record_found : (S L : ℕ) → S ≡ forward_set p w c → L ≡ union (λ x. 2 ^ x) found → removable_set p w c ≡ 0
         → v ++ (S ∷ L ∷ []) ≡ draft (forward_set p w) (letters_set p w) c
-    record-found S L f l none =
-        let last : L ≡ letters_set p w c = l ∙ ap (union (λ x. 2 ^ x)) found-letters ∙ omega (arith, none) in
+    record_found S L f l none =
+        let last : L ≡ letters_set p w c = l ∙ ap (union (λ x. 2 ^ x)) found_letters ∙ omega (arith, none) in
         ap₂ ◌++◌ e (ap₂ (λ x y. x ∷ y ∷ []) f last)
 
   -- ---- the empty prefix
@@ -72,27 +72,27 @@ module _ {p : Rules} {w : List ℕ} {m room : ℕ} {starts places turns : List �
   first_length = ap length first_total
 
   module _ (v : List ℕ) (e : v ≡ packed layout []) where
-    empty-packed : v ≡ packed layout empty
-    empty-packed = e ∙ sym (packed_zero layout p.profile.k)
+    empty_packed : v ≡ packed layout empty
+    empty_packed = e ∙ sym (packed_zero layout p.profile.k)
 
-    empty-in : Mem empty (of_total p w 0)
-    empty-in = subst (Mem empty) (sym (sym (append-nil (of_total p w 0)) ∙ first_total)) (Memᴰ.head refl)
+    empty_in : Mem empty (of_total p w 0)
+    empty_in = subst (Mem empty) (sym (sym (append-nil (of_total p w 0)) ∙ first_total)) (Memᴰ.head refl)
 
-    none-removable : removable_set p w empty ≡ 0
-    none-removable = union_none (λ x. 2 ^ x) (removable? p.may p.letter w (at empty)) (below p.profile.k) (λ q s.
-        let z = ap (λ h. h q) (at_prefix p.may p.letter apart p.profile.k w r.log.letters (prefix-of-front p.may p.letter apart (front_none p.may w))) in
+    none_removable : removable_set p w empty ≡ 0
+    none_removable = union_none (λ x. 2 ^ x) (removable? p.may p.letter w (at empty)) (below p.profile.k) (λ q s.
+        let z = ap (λ h. h q) (at_prefix p.may p.letter apart p.profile.k w r.log.letters (prefix_of_front p.may p.letter apart (front_none p.may w))) in
         T_not (eqb (at empty q) 0) (fst_of (not (eqb (at empty q) 0)) (closed? p.may p.letter w (less (at empty) q)) s) (subst (λ n. T (eqb n 0)) (sym z) tt))
 
     pub first_record : (t : List ℕ) (S L : ℕ) → S ≡ 1 * 2 ^ p.profile.start % 2 ^ 32 → L ≡ union (λ x. 2 ^ x) (letters_found termed (independent p.profile.masks) p.profile.k (length w) starts places turns v)
         → put_record t 0 (v ++ (S ∷ L ∷ [])) ≡ begun p w (totals p w 1) t
     first_record t S L s l =
         let f : S ≡ forward_set p w empty = s ∙ (shl_exact {a = 1} 1 p.profile.start 32 (omega arith) (omega (arith, r.profile.starts, r.profile.states.1)) ∙ one-mul (2 ^ p.profile.start))
-        ∙ sym (forward-first p.may p.letter apart p.profile.k w r.log.letters (automaton p.profile) (lawful p.profile)) in
-        ap (put_record t 0) (record-found 0 empty empty-in v empty-packed S L f l none-removable)
+        ∙ sym (forward_first p.may p.letter apart p.profile.k w r.log.letters (automaton p.profile) (lawful p.profile)) in
+        ap (put_record t 0) (record_found 0 empty empty_in v empty_packed S L f l none_removable)
         ∙ begun_put p w [] empty t refl
         ∙ ap (λ C. begun p w C t) (sym first_total)
 
-    pub first-pairs : (n : ℕ) → n ≡ length (letters_found termed (independent p.profile.masks) p.profile.k (length w) starts places turns v) → n ≡ pairs p w (totals p w 1)
-    first-pairs n h =
-        h ∙ ap length (found-letters 0 empty empty-in v empty-packed)
+    pub first_pairs : (n : ℕ) → n ≡ length (letters_found termed (independent p.profile.masks) p.profile.k (length w) starts places turns v) → n ≡ pairs p w (totals p w 1)
+    first_pairs n h =
+        h ∙ ap length (found_letters 0 empty empty_in v empty_packed)
         ∙ omega (arith, pairs_cons p.may p.letter p.profile.k w empty [], ap (pairs p w) first_total)

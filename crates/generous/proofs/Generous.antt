@@ -16,7 +16,7 @@ use Rattle.profile.specs.Prefixes.{looks, prefix_count, prefixes}
 use Rattle.profile.specs.Rules.{Rules, looks_by, order_by, prefixes_by}
 use Rattle.profile.proofs.Lists.{nodup_length}
 use Rattle.theory.proofs.Calls.{order_by_length}
-use Rattle.theory.proofs.Comparison.{accepted-order-grows, reach-more}
+use Rattle.theory.proofs.Comparison.{accepted_order_grows, reach_more}
 use Rattle.theory.proofs.Counting.{prefixes_nodup}
 use Rattle.theory.proofs.Demands.{Witness}
 use Rattle.verdict.specs.Verdict.{Promise, judged, verdict_number}
@@ -32,7 +32,7 @@ module _ (may may' : ℕ → ℕ → Bool) (sub : (a b : ℕ) → T (may a b) �
   -- "verdict 1 stays 1, the new order is no later in letter order"
   pub order_more_events : (M : Automaton) (w : List ℕ) {u : List ℕ} → accepted_order may letter M w ≡ some u
       → (x : List ℕ) × (accepted_order may' letter M w ≡ some x) × NoLater x u
-  order_more_events M w e = accepted-order-grows letter M may may' sub w e
+  order_more_events M w e = accepted_order_grows letter M may may' sub w e
 
   -- "P does not shrink"
   pub count_more_events : (k : ℕ) (w : List ℕ) → prefix_count may letter k w ≤ prefix_count may' letter k w
@@ -45,7 +45,7 @@ module _ (may may' : ℕ → ℕ → Bool) (sub : (a b : ℕ) → T (may a b) �
 -- of a profile with more pairs: an accepted log that is reachable stays so
 pub witness_more : (p : Profile) (more : List ℕ) → HoldsEveryBit more p.masks → (w : List ℕ) {v : List ℕ} → Witness p w v → Witness (with_masks p more) w v
 witness_more p more holds w h =
-    record { reached = reach-more (λ a. a) (automaton p) (independent p.masks) (independent more) holds h.reached; accepted = h.accepted }
+    record { reached = reach_more (λ a. a) (automaton p) (independent p.masks) (independent more) holds h.reached; accepted = h.accepted }
 
 -- ---- what one call tells
 
@@ -91,25 +91,25 @@ module _ (p : Profile) (more : List ℕ) (may may' : ℕ → ℕ → Bool) (sub 
     found : verdict_number i ≡ some 1 → (x : List ℕ) × (order_by many w ≡ some x) × NoLater x (take (length w) order₁')
     found e = order_more_events may may' sub letter (automaton p) w (told_order few w order₁ order₁' table₁ table₁' i g e)
 
-    pub verdict-stays-by : verdict_number i ≡ some 1 → verdict_number j ≡ some 1
-    verdict-stays-by e = told_one many w order₂ order₂' table₂ table₂' j h verdict (found e).1
+    pub verdict_stays_by : verdict_number i ≡ some 1 → verdict_number j ≡ some 1
+    verdict_stays_by e = told_one many w order₂ order₂' table₂ table₂' j h verdict (found e).1
 
-    pub order-no-later-by : verdict_number i ≡ some 1 → NoLater (take (length w) order₂') (take (length w) order₁')
-    order-no-later-by e =
+    pub order_no_later_by : verdict_number i ≡ some 1 → NoLater (take (length w) order₂') (take (length w) order₁')
+    order_no_later_by e =
         let x = found e in
-        let q = some-injective _ _ (sym x.1 ∙ told_order many w order₂ order₂' table₂ table₂' j h (verdict-stays-by e)) in
+        let q = some-injective _ _ (sym x.1 ∙ told_order many w order₂ order₂' table₂ table₂' j h (verdict_stays_by e)) in
         subst (λ z. NoLater z (take (length w) order₁')) q x.2
 
-    pub prefixes-no-fewer-by : (P Q : ℕ) → told_prefixes i ≡ some P → told_prefixes j ≡ some Q → P ≤ Q
-    prefixes-no-fewer-by P Q d e = omega (
+    pub prefixes_no_fewer_by : (P Q : ℕ) → told_prefixes i ≡ some P → told_prefixes j ≡ some Q → P ≤ Q
+    prefixes_no_fewer_by P Q d e = omega (
       arith,
       told_count few w order₁ order₁' table₁ table₁' i g P d,
       told_count many w order₂ order₂' table₂ table₂' j h Q e,
       count_more_events may may' sub letter p.k w,
     )
 
-    pub looks-no-fewer-by : (n m : ℕ) → told_looks i ≡ some n → told_looks j ≡ some m → n ≤ m
-    looks-no-fewer-by n m d e = omega (
+    pub looks_no_fewer_by : (n m : ℕ) → told_looks i ≡ some n → told_looks j ≡ some m → n ≤ m
+    looks_no_fewer_by n m d e = omega (
       arith,
       told_pairs few w order₁ order₁' table₁ table₁' i g n d,
       told_pairs many w order₂ order₂' table₂ table₂' j h m e,
@@ -126,19 +126,19 @@ module _ (p : Profile) (more : List ℕ) (holds : HoldsEveryBit more p.masks) (w
   -- "then verdict 1 stays 1"
   pub verdict_stays : verdict_number i ≡ some 1 → verdict_number j ≡ some 1
   verdict_stays =
-      verdict-stays-by p more (independent p.masks) (independent more) holds (λ a. a) w order₁ order₁' table₁ table₁' order₂ order₂' table₂ table₂' i j g.told h.told second
+      verdict_stays_by p more (independent p.masks) (independent more) holds (λ a. a) w order₁ order₁' table₁ table₁' order₂ order₂' table₂ table₂' i j g.told h.told second
 
   -- "the new order is no later in letter order"
   pub order_no_later : verdict_number i ≡ some 1 → NoLater (take (length w) order₂') (take (length w) order₁')
   order_no_later =
-      order-no-later-by p more (independent p.masks) (independent more) holds (λ a. a) w order₁ order₁' table₁ table₁' order₂ order₂' table₂ table₂' i j g.told h.told second
+      order_no_later_by p more (independent p.masks) (independent more) holds (λ a. a) w order₁ order₁' table₁ table₁' order₂ order₂' table₂ table₂' i j g.told h.told second
 
   -- "and P does not shrink"
   pub prefixes_no_fewer : (P Q : ℕ) → told_prefixes i ≡ some P → told_prefixes j ≡ some Q → P ≤ Q
   prefixes_no_fewer =
-      prefixes-no-fewer-by p more (independent p.masks) (independent more) holds (λ a. a) w order₁ order₁' table₁ table₁' order₂ order₂' table₂ table₂' i j g.told h.told second
+      prefixes_no_fewer_by p more (independent p.masks) (independent more) holds (λ a. a) w order₁ order₁' table₁ table₁' order₂ order₂' table₂ table₂' i j g.told h.told second
 
   -- nor does looks
   pub looks_no_fewer : (n m : ℕ) → told_looks i ≡ some n → told_looks j ≡ some m → n ≤ m
   looks_no_fewer =
-      looks-no-fewer-by p more (independent p.masks) (independent more) holds (λ a. a) w order₁ order₁' table₁ table₁' order₂ order₂' table₂ table₂' i j g.told h.told second
+      looks_no_fewer_by p more (independent p.masks) (independent more) holds (λ a. a) w order₁ order₁' table₁ table₁' order₂ order₂' table₂ table₂' i j g.told h.told second

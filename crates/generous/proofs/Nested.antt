@@ -1,5 +1,5 @@
 -- A relation that allows more, of any events and letters (so with terms or without): what is reachable stays reachable, a prefix stays a prefix, a letter
--- that can be added still can, and forward and backward sets lose no state. `reach-more`, `prefix-more`, `accepted-order-grows` and `prefix-count-grows`
+-- that can be added still can, and forward and backward sets lose no state. `reach_more`, `prefix_more`, `accepted_order_grows` and `prefix_count_grows`
 -- of `theory` are the other half.
 use mathlib.Core.Path.{◌≡◌}
 use mathlib.Core.Bool.{Bool, true, false, not, ◌&&◌}
@@ -15,7 +15,7 @@ use Rattle.profile.specs.Prefixes.{addable?, additions, at, backward, by_total, 
 use Rattle.profile.proofs.Lists.{all_at, all_of, both, filter_at, filter_nodup, filter_of, fst_of, nodup_length, range_nodup, snd_of}
 use Rattle.profile.proofs.Sets.{union_at, union_of}
 use Rattle.profile.proofs.Traces.{mem_of_order, order_of_mem, order_of_reach, reach_of_order}
-use Rattle.theory.proofs.Comparison.{reach-more}
+use Rattle.theory.proofs.Comparison.{reach_more}
 use Rattle.theory.proofs.Levels.{by_total_at, by_total_of}
 
 -- lists one after the other: no fewer where no element is lost and no list is shorter
@@ -71,16 +71,16 @@ module _ (may may' : ℕ → ℕ → Bool) (sub : (a b : ℕ) → T (may a b) �
 
   module _ (M : Automaton) where
     -- every order of w is one still
-    pub orders-more : (w : List ℕ) {v : List ℕ} → Mem v (orders may w) → Mem v (orders may' w)
-    orders-more w m = mem_of_order may' w (order_of_reach may' (reach-more letter M may may' sub (reach_of_order may (order_of_mem may w m))))
+    pub orders_more : (w : List ℕ) {v : List ℕ} → Mem v (orders may w) → Mem v (orders may' w)
+    orders_more w m = mem_of_order may' w (order_of_reach may' (reach_more letter M may may' sub (reach_of_order may (order_of_mem may w m))))
 
     -- forward and backward of any counts lose no state
-    pub forward-more : (w : List ℕ) (c : ℕ → ℕ) (q : ℕ) → T (bit (forward may letter M w c) q) → T (bit (forward may' letter M w c) q)
-    forward-more w c q t =
+    pub forward_more : (w : List ℕ) (c : ℕ → ℕ) (q : ℕ) → T (bit (forward may letter M w c) q) → T (bit (forward may' letter M w c) q)
+    forward_more w c q t =
         let n = union_at (run M letter M.start) (orders may (marked letter w c)) q t in
-        union_of (run M letter M.start) q (orders-more (marked letter w c) n.1) n.2
+        union_of (run M letter M.start) q (orders_more (marked letter w c) n.1) n.2
 
     pub backward_more : (w : List ℕ) (c : ℕ → ℕ) (q : ℕ) → T (bit (backward may letter M w c) q) → T (bit (backward may' letter M w c) q)
     backward_more w c q t =
         let n = union_at (run_back M letter M.final) (orders may (unmarked letter w c)) q t in
-        union_of (run_back M letter M.final) q (orders-more (unmarked letter w c) n.1) n.2
+        union_of (run_back M letter M.final) q (orders_more (unmarked letter w c) n.1) n.2

@@ -16,7 +16,7 @@ use Rattle.terms.specs.Terms.{day_of, events, letter_of, may_in, term_of}
 use Rattle.terms.proofs.Logs.{events_length}
 use Rattle.termed.specs.Termed.{Promise}
 use Rattle.generous.specs.Generous.{HasVerdict, HoldsEveryBit, with_masks}
-use Rattle.generous.proofs.Generous.{looks-no-fewer-by, order-no-later-by, prefixes-no-fewer-by, verdict-stays-by}
+use Rattle.generous.proofs.Generous.{looks_no_fewer_by, order_no_later_by, prefixes_no_fewer_by, verdict_stays_by}
 
 -- more pairs, and in each term more exchanges
 in_terms : (masks more terms : List ℕ) → HoldsEveryBit more masks → (e f : ℕ) → T (may_in masks terms e f) → T (may_in more terms e f)
@@ -31,23 +31,23 @@ module _ (p : Profile) (more : List ℕ) (holds : HoldsEveryBit more p.masks) (w
   -- "then verdict 1 stays 1"
   pub verdict_stays : verdict_number i ≡ some 1 → verdict_number j ≡ some 1
   verdict_stays =
-      verdict-stays-by p more (may_in p.masks terms) (may_in more terms) (in_terms p.masks more terms holds) letter_of (events w days)
+      verdict_stays_by p more (may_in p.masks terms) (may_in more terms) (in_terms p.masks more terms holds) letter_of (events w days)
       order₁ order₁' table₁ table₁' order₂ order₂' table₂ table₂' i j g.told h.told second
 
   -- "the new order is no later in letter order"
   pub order_no_later : verdict_number i ≡ some 1 → NoLater (take (length w) order₂') (take (length w) order₁')
   order_no_later e = subst₂ (λ n m. NoLater (take n order₂') (take m order₁')) (events_length w days) (events_length w days)
-      (order-no-later-by p more (may_in p.masks terms) (may_in more terms) (in_terms p.masks more terms holds) letter_of (events w days)
+      (order_no_later_by p more (may_in p.masks terms) (may_in more terms) (in_terms p.masks more terms holds) letter_of (events w days)
       order₁ order₁' table₁ table₁' order₂ order₂' table₂ table₂' i j g.told h.told second e)
 
   -- "and P does not shrink"
   pub prefixes_no_fewer : (P Q : ℕ) → told_prefixes i ≡ some P → told_prefixes j ≡ some Q → P ≤ Q
   prefixes_no_fewer =
-      prefixes-no-fewer-by p more (may_in p.masks terms) (may_in more terms) (in_terms p.masks more terms holds) letter_of (events w days)
+      prefixes_no_fewer_by p more (may_in p.masks terms) (may_in more terms) (in_terms p.masks more terms holds) letter_of (events w days)
       order₁ order₁' table₁ table₁' order₂ order₂' table₂ table₂' i j g.told h.told second
 
   -- nor does looks
   pub looks_no_fewer : (n m : ℕ) → told_looks i ≡ some n → told_looks j ≡ some m → n ≤ m
   looks_no_fewer =
-      looks-no-fewer-by p more (may_in p.masks terms) (may_in more terms) (in_terms p.masks more terms holds) letter_of (events w days)
+      looks_no_fewer_by p more (may_in p.masks terms) (may_in more terms) (in_terms p.masks more terms holds) letter_of (events w days)
       order₁ order₁' table₁ table₁' order₂ order₂' table₂ table₂' i j g.told h.told second

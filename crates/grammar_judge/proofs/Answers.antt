@@ -60,28 +60,28 @@ module _ (k : ℕ) (masks : List ℕ) (names : ℕ) (rules w order table sets : 
   answer_relation r e = same r (lowest_first (admission k masks names rules w (length order)) ends (lowest_first (relation_refusals k masks) ((bad_rules k names rules, BadRule) ∷ logs) e))
 
   module _ (good : lowest (relation_refusals k masks) ≡ none) where
-    pub answer-rules : bad_rules k names rules ≡ true → Same BadRule
-    answer-rules e = same BadRule (lowest_first (admission k masks names rules w (length order)) ends (lowest_append (relation_refusals k masks) ((bad_rules k names rules, BadRule) ∷ logs) good ∙ rw (e, lowest)))
+    pub answer_rules : bad_rules k names rules ≡ true → Same BadRule
+    answer_rules e = same BadRule (lowest_first (admission k masks names rules w (length order)) ends (lowest_append (relation_refusals k masks) ((bad_rules k names rules, BadRule) ∷ logs) good ∙ rw (e, lowest)))
 
     module _ (right : bad_rules k names rules ≡ false) where
-      behind-rules : lowest (admission k masks names rules w (length order)) ≡ lowest logs
-      behind-rules = lowest_append (relation_refusals k masks) ((bad_rules k names rules, BadRule) ∷ logs) good ∙ rw (right, lowest)
+      behind_rules : lowest (admission k masks names rules w (length order)) ≡ lowest logs
+      behind_rules = lowest_append (relation_refusals k masks) ((bad_rules k names rules, BadRule) ∷ logs) good ∙ rw (right, lowest)
 
-      pub answer-log : (r : Refusal) → lowest (log_refusals k w) ≡ some r → Same r
-      answer-log r e = same r (lowest_first (admission k masks names rules w (length order)) ends (behind-rules ∙ lowest_first (log_refusals k w) ((short_buffer (length order) w, ShortBuffer) ∷ []) e))
+      pub answer_log : (r : Refusal) → lowest (log_refusals k w) ≡ some r → Same r
+      answer_log r e = same r (lowest_first (admission k masks names rules w (length order)) ends (behind_rules ∙ lowest_first (log_refusals k w) ((short_buffer (length order) w, ShortBuffer) ∷ []) e))
 
       module _ (log : lowest (log_refusals k w) ≡ none) where
         pub answer_short : length order < length w → Same ShortBuffer
         answer_short h = same ShortBuffer (lowest_first (admission k masks names rules w (length order)) ends
-            (behind-rules ∙ lowest_append (log_refusals k w) ((short_buffer (length order) w, ShortBuffer) ∷ []) log ∙ rw (lt-ltb (length order) (length w) h, lowest)))
+            (behind_rules ∙ lowest_append (log_refusals k w) ((short_buffer (length order) w, ShortBuffer) ∷ []) log ∙ rw (lt-ltb (length order) (length w) h, lowest)))
 
         module _ (long : length w ≤ length order) where
           admitted : grammar_refusal k masks names rules w (length order) (length table) (length sets) ≡ lowest ends
           admitted = lowest_append (admission k masks names rules w (length order)) ends
-              (behind-rules ∙ lowest_append (log_refusals k w) ((short_buffer (length order) w, ShortBuffer) ∷ []) log ∙ rw (le-ltb (length order) (length w) long, lowest))
+              (behind_rules ∙ lowest_append (log_refusals k w) ((short_buffer (length order) w, ShortBuffer) ∷ []) log ∙ rw (le-ltb (length order) (length w) long, lowest))
 
-          pub answer-full : (table' : List ℕ) → Spared table table' → capacity layout (length table) < P → Promise k masks names rules w order order table table' sets sets (Refused FullTable)
-          answer-full table' s h = record { refused = sym (admitted ∙ rw (lt-ltb (capacity layout (length table)) P h, lowest)); told = (refl, refl, λ x y. absurd (x refl), s) }
+          pub answer_full : (table' : List ℕ) → Spared table table' → capacity layout (length table) < P → Promise k masks names rules w order order table table' sets sets (Refused FullTable)
+          answer_full table' s h = record { refused = sym (admitted ∙ rw (lt-ltb (capacity layout (length table)) P h, lowest)); told = (refl, refl, λ x y. absurd (x refl), s) }
 
           module _ (fits : P ≤ capacity layout (length table)) where
             abbrev records : List ℕ
@@ -92,8 +92,8 @@ module _ (k : ℕ) (masks : List ℕ) (names : ℕ) (rules w order table sets : 
                 ∙ ap (λ n. record_length layout * n) (by_total_length (independent masks) (λ a. a) k w (log_at k w log).letters)
 
             -- after 22 the table holds the prefixes
-            pub answer-sets : (table' : List ℕ) {Q n : ℕ} → Counted k masks w table table' Q n → length sets < P * P → Promise k masks names rules w order order table table' sets sets (Refused ShortSets)
-            answer-sets table' c h = record {
+            pub answer_sets : (table' : List ℕ) {Q n : ℕ} → Counted k masks w table table' Q n → length sets < P * P → Promise k masks names rules w order order table table' sets sets (Refused ShortSets)
+            answer_sets table' c h = record {
               refused = sym (admitted ∙ rw (le-ltb (capacity layout (length table)) P fits, lt-ltb (length sets) (P * P) h, lowest));
               told = (refl, refl, (λ x y. absurd (y refl)), subst (Spared table) (sym c.table) (spared_front records table (record_length layout * P) many (omega (arith, fits))));
             }
@@ -102,8 +102,8 @@ module _ (k : ℕ) (masks : List ℕ) (names : ℕ) (rules w order table sets : 
               unrefused : grammar_refusal k masks names rules w (length order) (length table) (length sets) ≡ none
               unrefused = admitted ∙ rw (le-ltb (capacity layout (length table)) P fits, le-ltb (length sets) (P * P) room, lowest)
 
-              pub answer-order : VerdictIs masks rules w order order' true → Promise k masks names rules w order order' table table' sets sets' (Order Q n)
-              answer-order v = record { refused = sym unrefused; told = (v.0, v.1, v.2, c) }
+              pub answer_order : VerdictIs masks rules w order order' true → Promise k masks names rules w order order' table table' sets sets' (Order Q n)
+              answer_order v = record { refused = sym unrefused; told = (v.0, v.1, v.2, c) }
 
-              pub answer-none : VerdictIs masks rules w order order' false → Promise k masks names rules w order order' table table' sets sets' (NoOrder Q n)
-              answer-none v = record { refused = sym unrefused; told = (v.0, v.1, c) }
+              pub answer_none : VerdictIs masks rules w order order' false → Promise k masks names rules w order order' table table' sets sets' (NoOrder Q n)
+              answer_none v = record { refused = sym unrefused; told = (v.0, v.1, c) }

@@ -17,7 +17,7 @@ use Rattle.profile.specs.declared.Refusal.{Refusal}
 use Rattle.profile.specs.declared.Refusal.TheVariants.{FullTable, ShortSets}
 use Rattle.profile.proofs.Cases.{free}
 use Rattle.profile.proofs.Traces.{order_of_reach, takes_length}
-use Rattle.theory.proofs.Comparison.{prefix-count-same}
+use Rattle.theory.proofs.Comparison.{prefix_count_same}
 use Rattle.theory.proofs.Looks.{looks_same}
 use Rattle.theory.proofs.Profiles.{distinct}
 use Rattle.theory.proofs.Refusals.{GoodLog, Relation, log_at, relation_at}
@@ -130,7 +130,7 @@ module _ (k : ℕ) (masks : List ℕ) (names : ℕ) (rules v w : List ℕ) (orde
       let y = told_counts k masks names rules w second j h in (
         verdicts (verdict_cases k masks names rules v order₁ order₁' table₁ table₁' sets₁ sets₁' first i g) (verdict_cases k masks names rules w order₂ order₂' table₂ table₂' sets₂ sets₂' second j h)
             (judged_reach i j g h s.1) back,
-        x.2 ∙ ap some (x.4.prefixes ∙ prefix-count-same (λ a. a) (automaton (free 1 [])) (independent masks) s.0 s.1 differ k a b ∙ sym y.4.prefixes) ∙ sym y.2,
+        x.2 ∙ ap some (x.4.prefixes ∙ prefix_count_same (λ a. a) (automaton (free 1 [])) (independent masks) s.0 s.1 differ k a b ∙ sym y.4.prefixes) ∙ sym y.2,
         x.3 ∙ ap some (x.4.looks ∙ looks_same (λ a. a) (automaton (free 1 [])) (independent masks) s.0 s.1 differ k a b ∙ sym y.4.looks) ∙ sym y.3,
       )
     where

@@ -15,7 +15,7 @@ use Rattle.profile.specs.Tables.{capacity, layout, record_length}
 use Rattle.profile.specs.Refusals.{log_refusals, lowest, relation_refusals}
 use Rattle.theory.proofs.Levels.{by_total_length}
 use Rattle.theory.proofs.Refusals.{log_at, relation_at}
-use Rattle.records.proofs.Drafts.{counts-of-draft, drafts_length}
+use Rattle.records.proofs.Drafts.{counts_of_draft, drafts_length}
 use Rattle.pairs.specs.Pairs.{Setting}
 use Rattle.pairs.proofs.Squares.{small_square}
 use Rattle.bare.specs.Bare.{Counted, bare_record, prefixes_of}
@@ -38,7 +38,7 @@ setting_of k masks w before after P n good log c h =
       whole = many;
       few = room_few (length before) P h;
       fits = omega (arith, many, ap length c.table, length-append (flat_map bare_record C) rest, drafts_length (λ x. 0) (λ x. 0) C);
-      held = λ j lt. counts-of-draft (λ x. 0) (λ x. 0) C after rest c.table j (omega (arith, many));
+      held = λ j lt. counts_of_draft (λ x. 0) (λ x. 0) C after rest c.table j (omega (arith, many));
     }
 
 pub fits_of : (m : ℕ) → m ≤ most_records * most_records → Fits w64 m

@@ -11,11 +11,11 @@ use lib.ListN.{get_or, length, drop}
 use Rattle.profile.specs.Traces.{bit, independent}
 use Rattle.profile.specs.Prefixes.{count, marked}
 use Rattle.profile.proofs.Traces.{order_of_reach, takes_length}
-use Rattle.theory.proofs.Prefixes.{front-marked, front_none, prefix-of-front}
+use Rattle.theory.proofs.Prefixes.{front_marked, front_none, prefix_of_front}
 use Rattle.theory.proofs.Profiles.{distinct}
 use Rattle.grammars.specs.Grammars.{Derivable, grammar_of}
-use Rattle.grammars.proofs.Spans.{Between, Spans, spans-whole, whole-spans}
-use Rattle.grammars.proofs.Places.{between-places, counts_of, first_place_none, last_place_all, place_of, total_marked, total_of}
+use Rattle.grammars.proofs.Spans.{Between, Spans, spans_whole, whole_spans}
+use Rattle.grammars.proofs.Places.{between_places, counts_of, first_place_none, last_place_all, place_of, total_marked, total_of}
 use Rattle.pairs.specs.Pairs.{AllKnown, Setting}
 use Rattle.deriving.specs.Deriving.{Written, splice}
 use Rattle.grammar_judge.specs.GrammarJudge.{VerdictIs}
@@ -25,7 +25,7 @@ module _ (k : ℕ) (masks w table : List ℕ) (records : ℕ) (s : Setting k mas
   differ = distinct masks s.relation.own
 
   some_record : 0 < records
-  some_record = let m = place_of (independent masks) differ k w s.log.letters (prefix-of-front (independent masks) (λ a. a) differ (front_none (independent masks) w)) in omega (arith, m.1, s.whole)
+  some_record = let m = place_of (independent masks) differ k w s.log.letters (prefix_of_front (independent masks) (λ a. a) differ (front_none (independent masks) w)) in omega (arith, m.1, s.whole)
 
   first_is : counts_of (independent masks) k w 0 ≡ (λ x. 0)
   first_is = first_place_none (independent masks) differ k w s.log.letters (omega (arith, some_record, s.whole))
@@ -41,13 +41,13 @@ module _ (k : ℕ) (masks w table : List ℕ) (records : ℕ) (s : Setting k mas
   whole_of v d = (
     v,
     subst₂ (λ c e. Spans (independent masks) (grammar_of rules) w c e 0 v) (sym first_is) (sym last_is)
-        (whole-spans (independent masks) (grammar_of rules) w differ d.reached d.derived),
+        (whole_spans (independent masks) (grammar_of rules) w differ d.reached d.derived),
   )
 
   -- one record alone: "An empty log gets 0"
   pub none_short : records < 2 → (v : List ℕ) → Derivable (grammar_of rules) (independent masks) w v → ⊥
   none_short h v d =
-      let lt = between-places (independent masks) differ k w s.log.letters (grammar_of rules) 0 (records - 1) (omega (arith, some_record, s.whole)) (omega (arith, some_record, s.whole)) (whole_of v d) in
+      let lt = between_places (independent masks) differ k w s.log.letters (grammar_of rules) 0 (records - 1) (omega (arith, some_record, s.whole)) (omega (arith, some_record, s.whole)) (whole_of v d) in
       omega arith
 
   module _ (sets : List ℕ) (known : AllKnown k masks rules w records sets) (many : 2 ≤ records) where
@@ -65,14 +65,14 @@ module _ (k : ℕ) (masks w table : List ℕ) (records : ℕ) (s : Setting k mas
   pub order_told : (before after : List ℕ) → Written k masks rules w 0 (records - 1) 0 before after → VerdictIs masks rules w before after true
   order_told before after y =
       let v = y.word in
-      let r = spans-whole (independent masks) (grammar_of rules) w differ (subst₂ (λ c e. Spans (independent masks) (grammar_of rules) w c e 0 v) first_is last_is y.spans) in
+      let r = spans_whole (independent masks) (grammar_of rules) w differ (subst₂ (λ c e. Spans (independent masks) (grammar_of rules) w c e 0 v) first_is last_is y.spans) in
       let n : length w ≡ length v + 0 = takes_length (independent masks) (order_of_reach (independent masks) r.0) in
       let m : 0 + length v ≡ length w = omega arith in
       (v, record { reached = r.0; derived = r.1 }, y.written ∙ ap (λ t. splice before t v) none-marked ∙ ap (λ n. v ++ drop n before) m)
     where
       none-marked : total_of (independent masks) k w 0 ≡ 0
       none-marked = (total_marked (independent masks) differ k w s.log.letters 0 (omega (arith, some_record, s.whole))).0 ∙ ap (λ f. length (marked (λ a. a) w f)) first_is
-          ∙ ap length (front-marked (independent masks) (λ a. a) differ (front_none (independent masks) w)).0
+          ∙ ap length (front_marked (independent masks) (λ a. a) differ (front_none (independent masks) w)).0
 
 -- the first row is inside the table
 pub row_inside : (n l : ℕ) → 2 ≤ n → n * n ≤ l → n - 1 < l

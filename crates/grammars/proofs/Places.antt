@@ -14,10 +14,10 @@ use Rattle.profile.proofs.Lists.{lt_or_le, mem_getd, mem_place}
 use Rattle.profile.proofs.Traces.{pick_length, takes_length}
 use Rattle.theory.proofs.Counting.{at_map, count_above, length_range, prefixes_at, prefixes_of}
 use Rattle.theory.proofs.Levels.{by_total_at, by_total_of, le_total, total_prefix}
-use Rattle.theory.proofs.Prefixes.{count_front, count_of_prefix, front_all, front_length, front-marked, front_none, front_of_prefix, one_cases, one_same, pick-of-more, prefix-of-front}
+use Rattle.theory.proofs.Prefixes.{count_front, count_of_prefix, front_all, front_length, front_marked, front_none, front_of_prefix, one_cases, one_same, pick_of_more, prefix_of_front}
 use Rattle.theory.proofs.RecordOrder.{by_total_sorted, ranked_getd, ranked_total}
 use Rattle.grammars.specs.Grammars.{Grammar}
-use Rattle.grammars.proofs.Spans.{Between, Spans, between_split, derived_some, spans-join, spans-letter}
+use Rattle.grammars.proofs.Spans.{Between, Spans, between_split, derived_some, spans_join, spans_letter}
 
 -- counts of total 0 are all 0
 none_at : (c : List ℕ) → total c ≡ 0 → (x : ℕ) → at c x ≡ 0
@@ -75,7 +75,7 @@ module _ (may : ℕ → ℕ → Bool) (distinct : (a b : ℕ) → T (may a b) �
   pub letter_total : (i j a : ℕ) → i < length (listed may k w) → j < length (listed may k w) → counts_of may k w j ≡ more (counts_of may k w i) a
       → total_of may k w j ≡ suc (total_of may k w i)
   letter_total i j a hi hj e =
-      let p = pick-of-more may (λ a. a) distinct (prefix_mem i hi).1 (subst (IsPrefix may (λ a. a) w) e (prefix_mem j hj).1) in
+      let p = pick_of_more may (λ a. a) distinct (prefix_mem i hi).1 (subst (IsPrefix may (λ a. a) w) e (prefix_mem j hj).1) in
       let l = pick_length may p.2 in
       let r = ap (λ f. length (unmarked (λ a. a) w f)) e in
       omega (arith, l, r, (total_marked i hi).0, (total_marked i hi).1, (total_marked j hj).0, (total_marked j hj).1)
@@ -83,20 +83,20 @@ module _ (may : ℕ → ℕ → Bool) (distinct : (a b : ℕ) → T (may a b) �
   -- the first place has the empty prefix
   pub first_place_none : 0 < length (listed may k w) → counts_of may k w 0 ≡ (λ x. 0)
   first_place_none h =
-      let m = place_of (prefix-of-front may (λ a. a) distinct (front_none may w)) in
+      let m = place_of (prefix_of_front may (λ a. a) distinct (front_none may w)) in
       let z : total_of may k w m.0 ≡ 0 = total-zero m.0 m.1 m.2 in
       fun_ext (none_at (get_or (listed may k w) 0 []) (omega (arith, z, totals_rise 0 m.0 (omega arith) m.1)))
     where
       total-zero : (i : ℕ) → i < length (listed may k w) → counts_of may k w i ≡ count (λ a. a) [] → total_of may k w i ≡ 0
       total-zero i h e =
-          let q = front-marked may (λ a. a) distinct (front_none may w) in
+          let q = front_marked may (λ a. a) distinct (front_none may w) in
           (total_marked i h).0 ∙ ap (λ f. length (marked (λ a. a) w f)) e ∙ ap length q.0
 
   -- and the last the whole log
   pub last_place_all : (i : ℕ) → suc i ≡ length (listed may k w) → counts_of may k w i ≡ count (λ a. a) w
   last_place_all i h =
-      let m = place_of (prefix-of-front may (λ a. a) distinct (front_all may w)) in
-      let q = front-marked may (λ a. a) distinct (front_all may w) in
+      let m = place_of (prefix_of_front may (λ a. a) distinct (front_all may w)) in
+      let q = front_marked may (λ a. a) distinct (front_all may w) in
       let t : total_of may k w m.0 ≡ length w = (total_marked m.0 m.1).0 ∙ ap (λ f. length (marked (λ a. a) w f)) m.2 ∙ ap length q.0 in
       let hi : i < length (listed may k w) = omega arith in
       let r = totals_rise m.0 i (omega (arith, m.1)) hi in
@@ -114,22 +114,22 @@ module _ (may : ℕ → ℕ → Bool) (distinct : (a b : ℕ) → T (may a b) �
     Joins i j n = Between may G w (counts_of may k w i) (counts_of may k w j) n
 
     -- so many letters lie between
-    pub spans-total : (i j : ℕ) {n : ℕ} {u : List ℕ} → i < length (listed may k w) → j < length (listed may k w)
+    pub spans_total : (i j : ℕ) {n : ℕ} {u : List ℕ} → i < length (listed may k w) → j < length (listed may k w)
         → Spans may G w (counts_of may k w i) (counts_of may k w j) n u → total_of may k w j ≡ total_of may k w i + length u
-    spans-total i j hi hj s =
+    spans_total i j hi hj s =
         omega (arith, (total_marked i hi).0, (total_marked i hi).1, (total_marked j hj).0, (total_marked j hj).1, takes_length may s.takes)
 
-    pub between-places : (i j : ℕ) {n : ℕ} → i < length (listed may k w) → j < length (listed may k w) → Joins i j n → i < j
-    between-places i j hi hj s = total_places i j hi hj (omega (arith, spans-total i j hi hj s.1, derived_some s.1.derives))
+    pub between_places : (i j : ℕ) {n : ℕ} → i < length (listed may k w) → j < length (listed may k w) → Joins i j n → i < j
+    between_places i j hi hj s = total_places i j hi hj (omega (arith, spans_total i j hi hj s.1, derived_some s.1.derives))
 
     -- where a prefix is not inside the other, nothing is derived
-    pub between-outside : (i j x n : ℕ) → counts_of may k w j x < counts_of may k w i x → Joins i j n → ⊥
-    between-outside i j x n h s = omega (arith, s.1.adds x)
+    pub between_outside : (i j x n : ℕ) → counts_of may k w j x < counts_of may k w i x → Joins i j n → ⊥
+    between_outside i j x n h s = omega (arith, s.1.adds x)
 
     -- one letter between
-    pub between-letter : (i j a n : ℕ) → i < length (listed may k w) → j < length (listed may k w) → counts_of may k w j ≡ more (counts_of may k w i) a
+    pub between_letter : (i j a n : ℕ) → i < length (listed may k w) → j < length (listed may k w) → counts_of may k w j ≡ more (counts_of may k w i) a
         → Joins i j n ↔ T (G.one n a)
-    between-letter i j a n hi hj e = (
+    between_letter i j a n hi hj e = (
       λ s. ⊎_elim
           (λ l. subst (λ x. T (G.one n x)) (same_letter (counts_of may k w i) l.0 a (sym l.2 ∙ e)) l.1)
           (λ t.
@@ -139,29 +139,29 @@ module _ (may : ℕ → ℕ → Bool) (distinct : (a b : ℕ) → T (may a b) �
           absurd (omega (
             arith,
             letter_total i j a hi hj e,
-            spans-total i m.0 hi m.1 f.1,
-            spans-total m.0 j m.1 hj g.1,
+            spans_total i m.0 hi m.1 f.1,
+            spans_total m.0 j m.1 hj g.1,
             derived_some f.1.derives,
             derived_some g.1.derives,
           )))
           (between_split may G w distinct (prefix_mem i hi).1 s),
-      λ t. (a ∷ [], spans-letter may G w distinct (prefix_mem i hi).1 (prefix_mem j hj).1 e t),
+      λ t. (a ∷ [], spans_letter may G w distinct (prefix_mem i hi).1 (prefix_mem j hj).1 e t),
     )
       where
         same_letter : (c : ℕ → ℕ) (x y : ℕ) → more c x ≡ more c y → x ≡ y
         same_letter c x y q = ⊎_elim (λ z. sym z) (λ z. absurd (omega (arith, ap (λ f. f x) q, one_same x, z))) (one_cases y x)
 
     -- more than one: two parts that meet at a place between
-    pub between-parts : (i j n : ℕ) → i < length (listed may k w) → j < length (listed may k w)
+    pub between_parts : (i j n : ℕ) → i < length (listed may k w) → j < length (listed may k w)
         → ((a : ℕ) → counts_of may k w j ≡ more (counts_of may k w i) a → ⊥)
         → Joins i j n ↔ ((m l r : ℕ) × (i < m) × (m < j) × T (G.two n l r) × Joins i m l × Joins m j r)
-    between-parts i j n hi hj apart = (
+    between_parts i j n hi hj apart = (
       λ s. ⊎_elim (λ l. absurd (apart l.0 l.2))
           (λ t.
           let m = place_of t.4 in
           let f : Joins i m.0 t.1 = subst (λ c. Between may G w (counts_of may k w i) c t.1) (sym m.2) t.5 in
           let g : Joins m.0 j t.2 = subst (λ c. Between may G w c (counts_of may k w j) t.2) (sym m.2) t.6 in
-          (m.0, t.1, t.2, between-places i m.0 hi m.1 f, between-places m.0 j m.1 hj g, t.3, f, g))
+          (m.0, t.1, t.2, between_places i m.0 hi m.1 f, between_places m.0 j m.1 hj g, t.3, f, g))
           (between_split may G w distinct (prefix_mem i hi).1 s),
-      λ t. (t.6.0 ++ t.7.0, spans-join may G w distinct t.5 t.6.1 t.7.1),
+      λ t. (t.6.0 ++ t.7.0, spans_join may G w distinct t.5 t.6.1 t.7.1),
     )

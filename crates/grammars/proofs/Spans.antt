@@ -11,7 +11,7 @@ use lib.ListN.{length, length-append}
 use Rattle.profile.specs.Traces.{Reachable}
 use Rattle.profile.specs.Prefixes.{IsPrefix, count, marked, more, unmarked}
 use Rattle.profile.proofs.Traces.{Takes, done, next, order_of_reach, reach_of_order, takes_refl, takes_split, takes_trans}
-use Rattle.theory.proofs.Prefixes.{count_append, count_marked, count_order, front_all, front-marked, front_none, pick-of-more, prefix-of-takes, takes_of_prefix}
+use Rattle.theory.proofs.Prefixes.{count_append, count_marked, count_order, front_all, front_marked, front_none, pick_of_more, prefix_of_takes, takes_of_prefix}
 use Rattle.grammars.specs.Grammars.{Derives, Grammar, leaf, node}
 
 -- no log without letters can be derived
@@ -44,7 +44,7 @@ module _ (may : ℕ → ℕ → Bool) (G : Grammar) (w : List ℕ) where
         go (node {l = l} {r = r} {u = u} {v = v} m f g) t h =
             let k = takes_split may u t in
             let o = takes_trans may (takes_of_prefix may (λ a. a) p (takes_refl may (marked (λ a. a) w c))) k.1 in
-            let q = prefix-of-takes may (λ a. a) distinct o in
+            let q = prefix_of_takes may (λ a. a) distinct o in
             let e = count (λ a. a) (marked (λ a. a) w c ++ u) in
             let ce : (x : ℕ) → e x ≡ count (λ a. a) u x + c x = λ x. omega (arith, count_append may (λ a. a) (marked (λ a. a) w c) u x, count_marked may (λ a. a) w c p.fits x) in
             inr (
@@ -65,9 +65,9 @@ module _ (may : ℕ → ℕ → Bool) (G : Grammar) (w : List ℕ) where
             )
 
     -- the other way: one letter more
-    pub spans-letter : {c d : ℕ → ℕ} {n x : ℕ} → IsPrefix may (λ a. a) w c → IsPrefix may (λ a. a) w d → d ≡ more c x → T (G.one n x) → Spans c d n (x ∷ [])
-    spans-letter {c} {d} {n} {x} p q e t =
-        let k = pick-of-more may (λ a. a) distinct p (subst (IsPrefix may (λ a. a) w) e q) in record {
+    pub spans_letter : {c d : ℕ → ℕ} {n x : ℕ} → IsPrefix may (λ a. a) w c → IsPrefix may (λ a. a) w d → d ≡ more c x → T (G.one n x) → Spans c d n (x ∷ [])
+    spans_letter {c} {d} {n} {x} p q e t =
+        let k = pick_of_more may (λ a. a) distinct p (subst (IsPrefix may (λ a. a) w) e q) in record {
           takes = subst (λ f. Takes may (unmarked (λ a. a) w c) (x ∷ []) (unmarked (λ a. a) w f)) (sym e)
               (subst (λ a. Takes may (unmarked (λ a. a) w c) (a ∷ []) (unmarked (λ a. a) w (more c x))) k.1 (next k.2 done));
           adds = λ y. omega (arith, ap (λ f. f y) e);
@@ -75,8 +75,8 @@ module _ (may : ℕ → ℕ → Bool) (G : Grammar) (w : List ℕ) where
         }
 
     -- and two parts
-    pub spans-join : {c e d : ℕ → ℕ} {n l r : ℕ} {u v : List ℕ} → T (G.two n l r) → Spans c e l u → Spans e d r v → Spans c d n (u ++ v)
-    spans-join {u = u} {v = v} m f g = record {
+    pub spans_join : {c e d : ℕ → ℕ} {n l r : ℕ} {u v : List ℕ} → T (G.two n l r) → Spans c e l u → Spans e d r v → Spans c d n (u ++ v)
+    spans_join {u = u} {v = v} m f g = record {
       takes = takes_trans may f.takes g.takes;
       adds = λ x. omega (arith, f.adds x, g.adds x, count_append may (λ a. a) u v x);
       derives = node m f.derives g.derives;
@@ -84,19 +84,19 @@ module _ (may : ℕ → ℕ → Bool) (G : Grammar) (w : List ℕ) where
 
     -- some reachable log can be derived exactly when the name does so between the empty prefix and the whole log
     pub start : unmarked (λ a. a) w (λ x. 0) ≡ w
-    start = (front-marked may (λ a. a) distinct (front_none may w)).1
+    start = (front_marked may (λ a. a) distinct (front_none may w)).1
 
     pub end : unmarked (λ a. a) w (count (λ a. a) w) ≡ []
-    end = (front-marked may (λ a. a) distinct (front_all may w)).1
+    end = (front_marked may (λ a. a) distinct (front_all may w)).1
 
-    pub spans-whole : {n : ℕ} {v : List ℕ} → Spans (λ x. 0) (count (λ a. a) w) n v → Reachable may w v × Derives G n v
-    spans-whole {n} {v} s = (
+    pub spans_whole : {n : ℕ} {v : List ℕ} → Spans (λ x. 0) (count (λ a. a) w) n v → Reachable may w v × Derives G n v
+    spans_whole {n} {v} s = (
       reach_of_order may (subst (λ z. Takes may z v []) start (subst (Takes may (unmarked (λ a. a) w (λ x. 0)) v) end s.takes)),
       s.derives,
     )
 
-    pub whole-spans : {n : ℕ} {v : List ℕ} → Reachable may w v → Derives G n v → Spans (λ x. 0) (count (λ a. a) w) n v
-    whole-spans {n} {v} r d = record {
+    pub whole_spans : {n : ℕ} {v : List ℕ} → Reachable may w v → Derives G n v → Spans (λ x. 0) (count (λ a. a) w) n v
+    whole_spans {n} {v} r d = record {
       takes = subst (Takes may (unmarked (λ a. a) w (λ x. 0)) v) (sym end) (subst (λ z. Takes may z v []) (sym start) (order_of_reach may r));
       adds = λ x. omega (arith, ap (λ f. f x) (count_order may (λ a. a) (order_of_reach may r)));
       derives = d;

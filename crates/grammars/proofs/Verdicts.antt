@@ -12,7 +12,7 @@ use Rattle.profile.specs.Orders.{Same}
 use Rattle.profile.proofs.Sets.{t_eq}
 use Rattle.profile.proofs.Cases.{free}
 use Rattle.profile.proofs.Traces.{order_of_reach, reach_trans, takes_length}
-use Rattle.theory.proofs.Comparison.{prefix-count-grows, reach-more}
+use Rattle.theory.proofs.Comparison.{prefix_count_grows, reach_more}
 use Rattle.grammars.specs.Grammars.{Derivable, Grammar}
 use Rattle.grammars.specs.Sets.{derivable?}
 use Rattle.grammars.proofs.Names.{derivable_is}
@@ -38,11 +38,11 @@ verdict_same rules may v w s = t_eq (derivable? rules may v) (derivable? rules m
 -- Paper 9: more pairs keep what is derivable
 module _ (may may' : ℕ → ℕ → Bool) (sub : (a b : ℕ) → T (may a b) → T (may' a b)) where
   pub derivable_grows : {G : Grammar} {w v : List ℕ} → Derivable G may w v → Derivable G may' w v
-  derivable_grows d = record { reached = reach-more (λ a. a) (automaton (free 1 [])) may may' sub d.reached; derived = d.derived }
+  derivable_grows d = record { reached = reach_more (λ a. a) (automaton (free 1 [])) may may' sub d.reached; derived = d.derived }
 
   pub verdict_grows : (rules : List ℕ) (w : List ℕ) → T (derivable? rules may w) → T (derivable? rules may' w)
   verdict_grows rules w t = let d = (derivable_is rules may w).0 t in (derivable_is rules may' w).1 (d.0, derivable_grows d.1)
 
   -- "and P does not shrink"
   pub prefixes_grow : (k : ℕ) (w : List ℕ) → T (letters_below (λ a. a) k w) → prefix_count may (λ a. a) k w ≤ prefix_count may' (λ a. a) k w
-  prefixes_grow k w h = prefix-count-grows (λ a. a) (automaton (free 1 [])) may may' sub k w h
+  prefixes_grow k w h = prefix_count_grows (λ a. a) (automaton (free 1 [])) may may' sub k w h

@@ -5,7 +5,7 @@ use Prim.Native.Nat.{ℕ, zero, suc, ◌+◌, ◌*◌, ◌≤◌, ◌<◌}
 use native.Mathlib.Omega.{arith}
 use lib.Dec.{T}
 use lib.ListN.{length, get_or, take, drop, set, length-append}
-use lib.Seq.{drop-cons, drop_length, get_or-append-add, length-take-le, set_at, take-length, take-suc}
+use lib.Seq.{drop-cons, drop-length, get_or-append-add, length-take-le, set_at, take-length, take-suc}
 use Rattle.profile.specs.Lists.{below, filter, flat_map}
 use Rattle.profile.specs.Traces.{bit, independent, letters_below}
 use Rattle.profile.specs.Automata.{Profile, automaton, forward_step, row}
@@ -18,7 +18,7 @@ use Rattle.theory.proofs.Refusals.{GoodProfile}
 use Rattle.records.specs.Drafts.{draft}
 use Rattle.records.proofs.Drafts.{drafts_length}
 use Rattle.views.specs.Views.{hull, late, reach, view}
-use Rattle.views.proofs.Late.{late-backward, late-forward}
+use Rattle.views.proofs.Late.{late_backward, late_forward}
 use Rattle.hulls.specs.Hulls.{hulled}
 
 -- a forward number put in place of that of the record behind those of C
@@ -73,7 +73,7 @@ module _ (s : ℕ) (R : List ℕ) (f g : List ℕ → ℕ) (C : List (List ℕ))
   pub hulled_all : hulled s R (length C) (flat_map (draft f g) C ++ rest) ≡ flat_map (draft wide g) C ++ rest
   hulled_all =
       let le : length C ≤ length C = omega arith in
-      hulled_first (length C) le ∙ ap₂ (λ x y. flat_map (draft wide g) x ++ (flat_map (draft f g) y ++ rest)) (take-length C) (drop_length C)
+      hulled_first (length C) le ∙ ap₂ (λ x y. flat_map (draft wide g) x ++ (flat_map (draft f g) y ++ rest)) (take-length C) (drop-length C)
 
 -- ---- the table of the view
 
@@ -94,4 +94,4 @@ module _ (p : Profile) (good : GoodProfile p) (visible : ℕ) (R : List ℕ) (he
       ap (λ n. hulled p.s R n (flat_map (draft f g) C ++ rest)) (sym (by_total_length may (λ a. a) p.k u letters))
       ∙ hulled_all p.s R f g C rest
       ∙ ap (λ x. x ++ rest) (flat_map_agree (draft (λ c. forward_step 1 p.s R (f c) 0) g) (record_of layout may (λ a. a) (view p visible) u) C
-      (λ c m. ap₂ (λ a b. packed layout c ++ (a ∷ b ∷ [])) (hull_is (f c) ∙ sym (late-forward p good visible u letters (at c))) (sym (late-backward p good visible u letters (at c)))))
+      (λ c m. ap₂ (λ a b. packed layout c ++ (a ∷ b ∷ [])) (hull_is (f c) ∙ sym (late_forward p good visible u letters (at c))) (sym (late_backward p good visible u letters (at c)))))

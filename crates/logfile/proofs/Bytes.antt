@@ -7,7 +7,7 @@ use native.Mathlib.Nat.{zero-add}
 use native.Mathlib.Numerals.{add-one}
 use native.Mathlib.Omega.{arith}
 use lib.ListN.{length, get_or, take, drop, set, drop_of_length-le, length-take, get_or-eq_default}
-use lib.Seq.{sets, drop-cons, sets_eq, take-nil, take-suc}
+use lib.Seq.{sets, drop-cons, sets-eq, take-nil, take-suc}
 use Rattle.profile.specs.Lists.{below, flat_map}
 use Rattle.profile.specs.Tables.{pack}
 use Rattle.theory.proofs.Counting.{length_range}
@@ -49,7 +49,7 @@ module _ {A : Type 0} where
 
   -- from the start on
   pub sets_start : (l v : List A) (n : ℕ) → length v ≡ n → n ≤ length l → sets l 0 v ≡ v ++ drop n l
-  sets_start l v n e h = sets_eq v l 0 (omega arith) ∙ ap (λ m. v ++ drop m l) (zero-add (length v) ∙ e)
+  sets_start l v n e h = sets-eq v l 0 (omega arith) ∙ ap (λ m. v ++ drop m l) (zero-add (length v) ∙ e)
 
 -- with one element more, for loops: of l, of f of the numbers from 0 on, of the lists f a
 pub sets_more : (l v : List ℕ) (at i : ℕ) → i < length v → set (sets l at (take i v)) (at + i) (get_or v i 0) ≡ sets l at (take (i + 1) v)

@@ -7,7 +7,7 @@ use mathlib.Core.List.{List, [], ◌∷◌, ◌++◌}
 use mathlib.Core.Option.{Option, none}
 use Prim.Native.Nat.{ℕ, ◌+◌, ◌*◌, ◌≤◌, ◌<◌}
 use native.Mathlib.Omega.{arith}
-use borrow.Author.Tests.{eqb-true, le-ltb, not_false}
+use borrow.Author.Tests.{eqb-true, le-ltb, not-false}
 use lib.Dec.{eqb, ltb}
 use lib.ListN.{length, drop, get_or, take, length-take}
 use Rattle.profile.specs.Automata.{Profile}
@@ -89,7 +89,7 @@ pub still_read : (f : List ℕ) (a b : ℕ) → field f 3 < 256 → old_read_ref
 still_read f a b byte e =
     let h = (lowest_none (old_refusals f ++ ((short_buffers f a b, ShortBuffer) ∷ []))).0 e in
     let r = (neither (profile_out_of_range (file_profile f)) (not (eqb (half f (trailer f + 10)) 0)) (h _ (Memᴰ.tail (Memᴰ.head refl)))).1 in
-    let zero = eqb-true (half f (trailer f + 10)) 0 (not_false (eqb (half f (trailer f + 10)) 0) r) in
+    let zero = eqb-true (half f (trailer f + 10)) 0 (not-false (eqb (half f (trailer f + 10)) 0) r) in
     let fine = (lowest_none (old_refusals f)).1 (λ c i. h c (Memᴰ.append_left ((short_buffers f a b, ShortBuffer) ∷ []) i)) in
     let same = old_reads f zero byte in
     (same.0 a b ∙ e, same.1 ∙ ap (λ o. unless o (old_log f) []) fine)

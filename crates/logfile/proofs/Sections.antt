@@ -1,7 +1,7 @@
 -- The sections of a file that 2 and 3 do not refuse stand before its trailer; its masks, moves and log are found there.
 use borrow.Author.Tests.{eq-eqb, ltb-false}
 use mathlib.Core.Path.{◌≡◌, refl, sym, ◌∙◌, ap, ap₂}
-use mathlib.Core.Bool.{Bool, true, false, not, ◌||◌, or_assoc, or_false, true≢false}
+use mathlib.Core.Bool.{Bool, true, false, not, ◌||◌, or_assoc, or-false, true≢false}
 use mathlib.Core.List.Memᴰ
 use mathlib.Core.List.{List, [], ◌∷◌, ◌++◌}
 use mathlib.Core.Option.{none, some}
@@ -29,7 +29,7 @@ range_eq f =
     let start = field f start_byte in
     ap₂ (λ a b. (ltb k 1 || (ltb most_letters k || not a)) || (ltb s 1 || (ltb most_states s || (leb s start || not b))))
     (eq-eqb (length (file_masks f)) k (numbers_length 2 f (section f masks_byte) k)) (eq-eqb (length (file_moves f)) (s * k) (numbers_length 4 f (section f moves_byte) (s * k)))
-    ∙ simp (or_false, or_assoc)
+    ∙ simp (or-false, or_assoc)
 
 -- neither test holds
 pub neither : (a b : Bool) → (a || b) ≡ false → (a ≡ false) × (b ≡ false)

@@ -26,7 +26,7 @@ use Rattle.theory.proofs.Merge.{hits, hits_at}
 use Rattle.counts.specs.Counts.{add_count, before?}
 use Rattle.counts.proofs.Packed.{Small, add_packed, before_packed, same_packed}
 use Rattle.records.specs.Records.{forward_at, records_in}
-use Rattle.records.proofs.Drafts.{counts-of-draft, forward_of_draft}
+use Rattle.records.proofs.Drafts.{counts_of_draft, forward_of_draft}
 use Rattle.cursors.proofs.Levels.{level_records, level_whole}
 use Rattle.merge.specs.Merge.{better, candidate, givers, grown, joined, least_of, united}
 use Rattle.merge.proofs.Givers.{better_none}
@@ -37,23 +37,23 @@ use Rattle.records.specs.Drafts.{draft}
 module _ (f g : List ℕ → ℕ) (C : List (List ℕ)) (t : List ℕ) (drafts : t ≡ flat_map (draft f g) C) where
   -- ---- what a cursor that is not at the end gives
   module _ (cs : List ℕ) (x : ℕ) where
-    candidate-end : length C ≤ at cs x → candidate t (at cs x) x ≡ none
-    candidate-end le = ap (λ b. cond b (some (grown t (at cs x) x)) none) (le-ltb (at cs x) (records_in t) (omega (arith, level_records f g C t drafts)))
+    candidate_end : length C ≤ at cs x → candidate t (at cs x) x ≡ none
+    candidate_end le = ap (λ b. cond b (some (grown t (at cs x) x)) none) (le-ltb (at cs x) (records_in t) (omega (arith, level_records f g C t drafts)))
 
     -- the counts at the cursor have a letter x, and one more keeps each count in its bits
     module _ (lt : at cs x < length C) (h : x < length (get_or C (at cs x) [])) (few : length (get_or C (at cs x) []) ≤ most_letters)
         (small : Small layout (bump (get_or C (at cs x) []) x)) where
       given : grown t (at cs x) x ≡ packed layout (bump (get_or C (at cs x) []) x)
       given =
-          ap (λ w. add_count layout w x) (counts-of-draft f g C t [] (level_whole f g C t drafts) (at cs x) lt) ∙ add_packed layout (get_or C (at cs x) []) x refl h few small
+          ap (λ w. add_count layout w x) (counts_of_draft f g C t [] (level_whole f g C t drafts) (at cs x) lt) ∙ add_packed layout (get_or C (at cs x) []) x refl h few small
 
-      candidate-given : candidate t (at cs x) x ≡ some (packed layout (bump (get_or C (at cs x) []) x))
-      candidate-given =
+      candidate_given : candidate t (at cs x) x ≡ some (packed layout (bump (get_or C (at cs x) []) x))
+      candidate_given =
           ap (λ b. cond b (some (grown t (at cs x) x)) none) (lt-ltb (at cs x) (records_in t) (omega (arith, level_records f g C t drafts))) ∙ ap (λ w. some w) given
 
-      same-given : (e : List ℕ) → length e ≡ length (get_or C (at cs x) []) → Small layout e
+      same_given : (e : List ℕ) → length e ≡ length (get_or C (at cs x) []) → Small layout e
           → equal? (packed layout (bump (get_or C (at cs x) []) x)) (packed layout e) ≡ hits C x e (at cs x)
-      same-given e n k =
+      same_given e n k =
           let d = bump (get_or C (at cs x) []) x in
           let l : length d ≡ length (get_or C (at cs x) []) = length-set (get_or C (at cs x) []) x (suc (at (get_or C (at cs x) []) x)) in
           same_packed layout d e (omega arith) (omega arith) small k ∙ sym (ap (λ b. b && equal? d e) (lt-ltb (at cs x) (length C) lt))
@@ -62,19 +62,19 @@ module _ (f g : List ℕ → ℕ) (C : List (List ℕ)) (t : List ℕ) (drafts :
   pub level_least_none : (cs : List ℕ) (k : ℕ) → ((x : ℕ) → x < k → length C ≤ at cs x) → least_of t k cs ≡ none
   level_least_none cs zero over = refl
   level_least_none cs (suc k) over =
-      ap₂ better (level_least_none cs k (λ x lt. over x (omega arith))) (candidate-end cs k (over k (omega arith)))
+      ap₂ better (level_least_none cs k (λ x lt. over x (omega arith))) (candidate_end cs k (over k (omega arith)))
 
   -- ---- the counts of C have k letters, and so have the counts e
   module _ (k : ℕ) (few : k ≤ most_letters) (sizes : (c : List ℕ) → Mem c C → length c ≡ k) (cs : List ℕ)
       (stands : (x : ℕ) → x < k → at cs x < length C → Small layout (bump (get_or C (at cs x) []) x)) (e : List ℕ) (size : length e ≡ k)
       (small : Small layout e) where
-    size-at : (x : ℕ) → at cs x < length C → length (get_or C (at cs x) []) ≡ k
-    size-at x lt = sizes (get_or C (at cs x) []) (mem_getd C (at cs x) [] lt)
+    size_at : (x : ℕ) → at cs x < length C → length (get_or C (at cs x) []) ≡ k
+    size_at x lt = sizes (get_or C (at cs x) []) (mem_getd C (at cs x) [] lt)
 
     -- G has the letters whose cursors hit e: the union over them
-    pub level-united : (G : ℕ) → ((x : ℕ) → x < k → bit G x ≡ hits C x e (at cs x)) → (s : ℕ) (moves : List ℕ) → united k s moves t cs G
+    pub level_united : (G : ℕ) → ((x : ℕ) → x < k → bit G x ≡ hits C x e (at cs x)) → (s : ℕ) (moves : List ℕ) → united k s moves t cs G
         ≡ union (λ x. forward_step k s moves (f (get_or C (at cs x) [])) x) (filter (λ x. hits C x e (at cs x)) (below k))
-    level-united G agree s moves =
+    level_united G agree s moves =
         ap (union (λ x. forward_step k s moves (forward_at t (at cs x)) x))
         (filter_agree (bit G) (λ x. hits C x e (at cs x)) (below k) (λ x m. agree x (below_at k x m)))
         ∙ union_agree (λ x. forward_step k s moves (forward_at t (at cs x)) x) (λ x. forward_step k s moves (f (get_or C (at cs x) [])) x)
@@ -95,12 +95,12 @@ module _ (f g : List ℕ → ℕ) (C : List (List ℕ)) (t : List ℕ) (drafts :
       step_end : (n : ℕ) (o : Option (List ℕ)) → length C ≤ at cs n → Reached n o → Reached (suc n) (better o (candidate t (at cs n) n))
       unfolding Reached
       step_end n o le (inl r) = inl (
-        ap₂ better r.0 (candidate-end cs n le),
+        ap₂ better r.0 (candidate_end cs n le),
         λ y lt. ⊎_elim (λ l. r.1 y l) (λ g. let q : n ≡ y = omega arith in subst (λ z. length C ≤ at cs z) q le) (lt_or_le y n),
       )
       step_end n o le (inr r) = inr (
         r.0,
-        ap₂ better r.1 (candidate-end cs n le),
+        ap₂ better r.1 (candidate_end cs n le),
         r.2,
         r.3,
         r.4,
@@ -116,10 +116,10 @@ module _ (f g : List ℕ → ℕ) (C : List (List ℕ)) (t : List ℕ) (drafts :
           d = bump (get_or C (at cs n) []) n
 
           counts : candidate t (at cs n) n ≡ some (packed layout d)
-          counts = candidate-given cs n lt (omega (arith, size-at n lt)) (omega (arith, size-at n lt)) (stands n h lt)
+          counts = candidate_given cs n lt (omega (arith, size_at n lt)) (omega (arith, size_at n lt)) (stands n h lt)
 
           long : length d ≡ k
-          long = length-set (get_or C (at cs n) []) n (suc (at (get_or C (at cs n) []) n)) ∙ size-at n lt
+          long = length-set (get_or C (at cs n) []) n (suc (at (get_or C (at cs n) []) n)) ∙ size_at n lt
 
           own : (y : ℕ) → n ≤ y → y < suc n → T (hits C y e (at cs y)) → d ≡ e
           own y g l q = let z : y ≡ n = omega arith in (hits_at C n e (at cs n) (subst (λ z. T (hits C z e (at cs z))) z q)).1
@@ -164,9 +164,9 @@ module _ (f g : List ℕ → ℕ) (C : List (List ℕ)) (t : List ℕ) (drafts :
           (λ end. step_end n (least_of t n cs) end (reached n (omega arith))) (lt_or_le (at cs n) (length C))
 
       -- where a cursor hits e, the least is e
-      pub level-least : (x : ℕ) → x < k → T (hits C x e (at cs x)) → least_of t k cs ≡ some (packed layout e)
+      pub level_least : (x : ℕ) → x < k → T (hits C x e (at cs x)) → least_of t k cs ≡ some (packed layout e)
       unfolding Reached
-      level-least x h q = go (reached k (omega arith))
+      level_least x h q = go (reached k (omega arith))
         where
           go : Reached k (least_of t k cs) → least_of t k cs ≡ some (packed layout e)
           go (inl r) = absurd (omega (arith, (hits_at C x e (at cs x) q).0, r.1 x h))
@@ -179,11 +179,11 @@ module _ (f g : List ℕ → ℕ) (C : List (List ℕ)) (t : List ℕ) (drafts :
       abbrev letters : ℕ → ℕ
       letters n = union (λ y. 2 ^ y) (filter hit (below n))
 
-      letters-next : (n : ℕ) (c : Bool) → hit n ≡ c → letters (suc n) ≡ cond c (bit_or (letters n) (2 ^ n)) (letters n)
-      letters-next n c q = ap letters (sym (add-one n)) ∙ union_next (λ y. 2 ^ y) hit n c q
+      letters_next : (n : ℕ) (c : Bool) → hit n ≡ c → letters (suc n) ≡ cond c (bit_or (letters n) (2 ^ n)) (letters n)
+      letters_next n c q = ap letters (sym (add-one n)) ∙ union_next (λ y. 2 ^ y) hit n c q
 
       letters_one : (n : ℕ) → hit n ≡ true → ((y : ℕ) → y < n → T (hit y) → ⊥) → 2 ^ n ≡ letters (suc n)
-      letters_one n q away = sym (letters-next n true q
+      letters_one n q away = sym (letters_next n true q
           ∙ ap (λ S. bit_or S (2 ^ n)) (ap (union (λ y. 2 ^ y)) (filter_none hit (below n) (λ y m. away y (below_at n y m)))) ∙ or_zero_l (2 ^ n))
 
       -- a letter with the counts c comes to S, those for the least v
@@ -193,7 +193,7 @@ module _ (f g : List ℕ → ℕ) (C : List (List ℕ)) (t : List ℕ) (drafts :
       settled n S c v true before q o l h ih away =
           let z = (equal_test c v).0 (subst T (sym q) tt) in
           let u : v ≡ packed layout e = either before (some-injective (cond before c v) (packed layout e) l) z in
-          ap (λ S. bit_or S (2 ^ n)) (ih u) ∙ sym (letters-next n true (sym h ∙ is_true (equal? c (packed layout e)) ((equal_test c (packed layout e)).1 (z ∙ u))))
+          ap (λ S. bit_or S (2 ^ n)) (ih u) ∙ sym (letters_next n true (sym h ∙ is_true (equal? c (packed layout e)) ((equal_test c (packed layout e)).1 (z ∙ u))))
         where
           either : (b : Bool) → cond b c v ≡ packed layout e → c ≡ v → v ≡ packed layout e
           either true r z = sym z ∙ r
@@ -204,18 +204,18 @@ module _ (f g : List ℕ → ℕ) (C : List (List ℕ)) (t : List ℕ) (drafts :
           (λ y lt t. subst T q ((equal_test c v).1 (z ∙ sym (away y lt t))))
       settled n S c v false false q o l h ih away =
           let z = some-injective v (packed layout e) l in
-          ih z ∙ sym (letters-next n false (sym h ∙ ap (equal? c) (sym z) ∙ q))
+          ih z ∙ sym (letters_next n false (sym h ∙ ap (equal? c) (sym z) ∙ q))
 
-      step-givers : (n : ℕ) → n < k → (least_of t n cs ≡ some (packed layout e) → givers t n cs ≡ letters n) → least_of t (suc n) cs ≡ some (packed layout e)
+      step_givers : (n : ℕ) → n < k → (least_of t n cs ≡ some (packed layout e) → givers t n cs ≡ letters n) → least_of t (suc n) cs ≡ some (packed layout e)
           → givers t (suc n) cs ≡ letters (suc n)
       unfolding Reached
-      step-givers n h ih l = ⊎_elim inside end (lt_or_le (at cs n) (length C))
+      step_givers n h ih l = ⊎_elim inside end (lt_or_le (at cs n) (length C))
         where
           end : length C ≤ at cs n → givers t (suc n) cs ≡ letters (suc n)
           end g =
-              ap (λ o. joined o (least_of t n cs) (givers t n cs) n) (candidate-end cs n g)
-              ∙ ih (sym (better_none (least_of t n cs)) ∙ sym (ap (better (least_of t n cs)) (candidate-end cs n g)) ∙ l)
-              ∙ sym (letters-next n false (is_false (hit n) (not_T (hit n) (λ h. omega (arith, (hits_at C n e (at cs n) h).0)))))
+              ap (λ o. joined o (least_of t n cs) (givers t n cs) n) (candidate_end cs n g)
+              ∙ ih (sym (better_none (least_of t n cs)) ∙ sym (ap (better (least_of t n cs)) (candidate_end cs n g)) ∙ l)
+              ∙ sym (letters_next n false (is_false (hit n) (not_T (hit n) (λ h. omega (arith, (hits_at C n e (at cs n) h).0)))))
 
           inside : at cs n < length C → givers t (suc n) cs ≡ letters (suc n)
           inside lt = go (reached n (omega arith))
@@ -224,10 +224,10 @@ module _ (f g : List ℕ → ℕ) (C : List (List ℕ)) (t : List ℕ) (drafts :
               d = packed layout (bump (get_or C (at cs n) []) n)
 
               counts : candidate t (at cs n) n ≡ some d
-              counts = candidate-given cs n lt (omega (arith, size-at n lt)) (omega (arith, size-at n lt)) (stands n h lt)
+              counts = candidate_given cs n lt (omega (arith, size_at n lt)) (omega (arith, size_at n lt)) (stands n h lt)
 
               same : equal? d (packed layout e) ≡ hit n
-              same = same-given cs n lt (omega (arith, size-at n lt)) (omega (arith, size-at n lt)) (stands n h lt) e (size ∙ sym (size-at n lt)) small
+              same = same_given cs n lt (omega (arith, size_at n lt)) (omega (arith, size_at n lt)) (stands n h lt) e (size ∙ sym (size_at n lt)) small
 
               go : Reached n (least_of t n cs) → givers t (suc n) cs ≡ letters (suc n)
               go (inl r) =
@@ -240,10 +240,10 @@ module _ (f g : List ℕ → ℕ) (C : List (List ℕ)) (t : List ℕ) (drafts :
                   ∙ settled n (givers t n cs) d (packed layout r.0) (equal? d (packed layout r.0)) (before? layout d (packed layout r.0)) refl refl
                   (sym (ap₂ better r.1 counts) ∙ l) same (λ u. ih (r.1 ∙ ap (λ v. some v) u)) (λ y lt t. ap (packed layout) (r.5 y lt t))
 
-      level-givers : (n : ℕ) → n ≤ k → least_of t n cs ≡ some (packed layout e) → givers t n cs ≡ letters n
-      level-givers zero le l = refl
-      level-givers (suc n) le l = step-givers n (omega arith) (level-givers n (omega arith)) l
+      level_givers : (n : ℕ) → n ≤ k → least_of t n cs ≡ some (packed layout e) → givers t n cs ≡ letters n
+      level_givers zero le l = refl
+      level_givers (suc n) le l = step_givers n (omega arith) (level_givers n (omega arith)) l
 
       -- where a cursor hits e, they are those of all such cursors
-      pub level-letters : (x : ℕ) → x < k → T (hits C x e (at cs x)) → givers t k cs ≡ union (λ y. 2 ^ y) (filter (λ y. hits C y e (at cs y)) (below k))
-      level-letters x h q = level-givers k (omega arith) (level-least x h q)
+      pub level_letters : (x : ℕ) → x < k → T (hits C x e (at cs x)) → givers t k cs ≡ union (λ y. 2 ^ y) (filter (λ y. hits C y e (at cs y)) (below k))
+      level_letters x h q = level_givers k (omega arith) (level_least x h q)

@@ -22,24 +22,24 @@ module _ (k : ℕ) (masks w : List ℕ) (n : ℕ) where
   ordered_relation e = lowest_first (relation_refusals k masks) (log_refusals k w ++ short) e
 
   module _ (e₀ : lowest (relation_refusals k masks) ≡ none) where
-    past-masks : first_order_refusal k masks w n ≡ lowest (log_refusals k w ++ short)
+    past_masks : first_order_refusal k masks w n ≡ lowest (log_refusals k w ++ short)
     unfolding short
-    past-masks = lowest_append (relation_refusals k masks) (log_refusals k w ++ short) e₀
+    past_masks = lowest_append (relation_refusals k masks) (log_refusals k w ++ short) e₀
 
-    pub ordered-log : {r : Refusal} → lowest (log_refusals k w) ≡ some r → first_order_refusal k masks w n ≡ some r
-    ordered-log e = past-masks ∙ lowest_first (log_refusals k w) short e
+    pub ordered_log : {r : Refusal} → lowest (log_refusals k w) ≡ some r → first_order_refusal k masks w n ≡ some r
+    ordered_log e = past_masks ∙ lowest_first (log_refusals k w) short e
 
     module _ (e₁ : lowest (log_refusals k w) ≡ none) where
-      past-log : first_order_refusal k masks w n ≡ lowest short
-      past-log = past-masks ∙ lowest_append (log_refusals k w) short e₁
+      past_log : first_order_refusal k masks w n ≡ lowest short
+      past_log = past_masks ∙ lowest_append (log_refusals k w) short e₁
 
-      pub ordered-short : n < length w → first_order_refusal k masks w n ≡ some ShortBuffer
+      pub ordered_short : n < length w → first_order_refusal k masks w n ≡ some ShortBuffer
       unfolding short
-      ordered-short h = past-log ∙ rw (lt-ltb n (length w) h, lowest)
+      ordered_short h = past_log ∙ rw (lt-ltb n (length w) h, lowest)
 
-      pub ordered-none : length w ≤ n → first_order_refusal k masks w n ≡ none
+      pub ordered_none : length w ≤ n → first_order_refusal k masks w n ≡ none
       unfolding short
-      ordered-none h = past-log ∙ rw (le-ltb n (length w) h, lowest)
+      ordered_none h = past_log ∙ rw (le-ltb n (length w) h, lowest)
 
 -- the answer and the buffer, by the refusal
 pub answers : (k : ℕ) (masks w before : List ℕ) {o : Option Refusal} → first_order_refusal k masks w (length before) ≡ o

@@ -16,9 +16,9 @@ use Rattle.profile.specs.Prefixes.{IsPrefix, addable?, count, more, one, unmarke
 use Rattle.profile.specs.Refusals.{longest}
 use Rattle.profile.specs.Traces.{independent}
 use Rattle.theory.proofs.Counting.{at_map}
-use Rattle.theory.proofs.Earliest.{Greedy, end, first_greedy, greedy-append, greedy-takes, take}
+use Rattle.theory.proofs.Earliest.{Greedy, end, first_greedy, greedy_append, greedy_takes, take}
 use Rattle.profile.proofs.Lists.{is_true}
-use Rattle.theory.proofs.Prefixes.{addable-at, addable-of, all-of-pick, count_append, count_le, more-of-pick, one_cases, one_same, prefix-of-takes}
+use Rattle.theory.proofs.Prefixes.{addable_at, addable_of, all_of_pick, count_append, count_le, more_of_pick, one_cases, one_same, prefix_of_takes}
 use Rattle.theory.proofs.Profiles.{distinct}
 use Rattle.theory.proofs.Refusals.{GoodLog, Relation}
 use Rattle.profile.proofs.Traces.{Pick, Takes, first, takes_length}
@@ -62,7 +62,7 @@ abbrev pub Smallest : (ℕ → ℕ → Bool) → List ℕ → List ℕ → List 
 Smallest may w u r = Greedy may (λ a. a) (λ (s : Unit {0}) x. tt) (λ s. true) (λ s x. true) tt w u tt r
 
 smallest_takes : (may : ℕ → ℕ → Bool) {w u r : List ℕ} → Smallest may w u r → Takes may w u r
-smallest_takes may g = greedy-takes may (λ a. a) (λ (s : Unit {0}) x. tt) (λ s. true) (λ s x. true) g
+smallest_takes may g = greedy_takes may (λ a. a) (λ (s : Unit {0}) x. tt) (λ s. true) (λ s x. true) g
 
 -- the smallest letter that can come next, by the next places
 abbrev pub next_letter : (ℕ → ℕ → Bool) → ℕ → ℕ → List ℕ → ℕ
@@ -88,26 +88,26 @@ module _ (k : ℕ) (masks w : List ℕ) (R : Relation k masks) (G : GoodLog k w)
     letter = next_letter may k (length w) (next_places k w (counts u))
 
     prefix : IsPrefix may (λ a. a) w (counts u) × (unmarked (λ a. a) w (counts u) ≡ r)
-    prefix = let n = prefix-of-takes may (λ a. a) dist (smallest_takes may g) in (n.0, n.1)
+    prefix = let n = prefix_of_takes may (λ a. a) dist (smallest_takes may g) in (n.0, n.1)
 
-    comes-addable : (x : ℕ) → x < k → comes x ≡ addable? may (λ a. a) w (counts u) x
-    comes-addable x h = comes_next_addable may dist k w G.letters (counts u) prefix.0 x h
+    comes_addable : (x : ℕ) → x < k → comes x ≡ addable? may (λ a. a) w (counts u) x
+    comes_addable x h = comes_next_addable may dist k w G.letters (counts u) prefix.0 x h
 
     -- what may be picked is a letter below k, and no smaller
-    no-smaller : (b : ℕ) (y : List ℕ) → Pick may r b y → (b < k) × (letter ≤ b)
-    no-smaller b y q =
+    no_smaller : (b : ℕ) (y : List ℕ) → Pick may r b y → (b < k) × (letter ≤ b)
+    no_smaller b y q =
         let p = subst (λ l. Pick may l b y) (sym prefix.1) q in
-        let b< : b < k = ltb→lt b k (all-of-pick may (λ a. a) dist (λ a. ltb a k) {w = w} {c = counts u} prefix.0 p G.letters) in
-        let t = addable-of may (λ a. a) dist {w = w} (counts u) b (more-of-pick may (λ a. a) dist {w = w} {c = counts u} prefix.0 p).0 in (
+        let b< : b < k = ltb→lt b k (all_of_pick may (λ a. a) dist (λ a. ltb a k) {w = w} {c = counts u} prefix.0 p G.letters) in
+        let t = addable_of may (λ a. a) dist {w = w} (counts u) b (more_of_pick may (λ a. a) dist {w = w} {c = counts u} prefix.0 p).0 in (
           b<,
           first_least comes (below k) b (omega (arith, length_below k))
-              (ap comes (getd_below k b b<) ∙ comes-addable b b< ∙ is_true (addable? may (λ a. a) w (counts u) b) t),
+              (ap comes (getd_below k b b<) ∙ comes_addable b b< ∙ is_true (addable? may (λ a. a) w (counts u) b) t),
         )
 
     module _ (h : length u < length w) where
       -- some event is left, so that a letter can come next
       pub letter_below : letter < k
-      letter_below = go r no-smaller (omega (arith, takes_length may (smallest_takes may g)))
+      letter_below = go r no_smaller (omega (arith, takes_length may (smallest_takes may g)))
         where
           go : (r : List ℕ) → ((b : ℕ) (y : List ℕ) → Pick may r b y → (b < k) × (letter ≤ b)) → 0 < length r → letter < k
           go [] f l = absurd (omega arith)
@@ -116,17 +116,17 @@ module _ (k : ℕ) (masks w : List ℕ) (R : Relation k masks) (G : GoodLog k w)
       added : IsPrefix may (λ a. a) w (more (counts u) letter) × (a : ℕ) × (a ≡ letter) × Pick may (unmarked (λ a. a) w (counts u)) a (unmarked (λ a. a) w (more (counts u) letter))
       added =
           let e : comes letter ≡ true = ap comes (sym (getd_below k letter letter_below)) ∙ first_passes comes (below k) (omega (arith, length_below k, letter_below)) in
-          addable-at may (λ a. a) dist {w = w} {c = counts u} {x = letter} prefix.0 (rw (sym (comes-addable letter letter_below) ∙ e) tt)
+          addable_at may (λ a. a) dist {w = w} {c = counts u} {x = letter} prefix.0 (rw (sym (comes_addable letter letter_below) ∙ e) tt)
 
-      pub letter-fits : suc (counts u letter) ≤ counts w letter
-      letter-fits = omega (arith, added.0.fits letter, one_same letter)
+      pub letter_fits : suc (counts u letter) ≤ counts w letter
+      letter_fits = omega (arith, added.0.fits letter, one_same letter)
 
-      pub letter-taken : Smallest may w (u ++ (letter ∷ [])) (unmarked (λ a. a) w (more (counts u) letter))
-      letter-taken =
+      pub letter_taken : Smallest may w (u ++ (letter ∷ [])) (unmarked (λ a. a) w (more (counts u) letter))
+      letter_taken =
           let n = added in
           let p = subst (λ a. Pick may (unmarked (λ a. a) w (counts u)) a (unmarked (λ a. a) w (more (counts u) letter))) n.2 n.3 in
           let q = subst (λ l. Pick may l letter (unmarked (λ a. a) w (more (counts u) letter))) prefix.1 p in
-          greedy-append may (λ a. a) (λ (s : Unit {0}) x. tt) (λ s. true) (λ s x. true) g (take q tt (λ b y k l. (no-smaller b y k).1) end)
+          greedy_append may (λ a. a) (λ (s : Unit {0}) x. tt) (λ s. true) (λ s x. true) g (take q tt (λ b y k l. (no_smaller b y k).1) end)
 
 -- ---- the letters taken so far
 
@@ -191,27 +191,27 @@ module _ (k : ℕ) (masks w : List ℕ) (R : Relation k masks) (G : GoodLog k w)
     same = e ∙ ap (next_letter (independent masks) k (length w)) C.coming
 
     -- the next letter is below k, and its count can be one more
-    pub chosen-below : a < k
-    chosen-below = omega (arith, same, letter_below k masks w R G C.taken C.rest C.smallest u<)
+    pub chosen_below : a < k
+    chosen_below = omega (arith, same, letter_below k masks w R G C.taken C.rest C.smallest u<)
 
     fits : suc (counts C.taken a) ≤ counts w a
-    fits = rw same (letter-fits k masks w R G C.taken C.rest C.smallest u<)
+    fits = rw same (letter_fits k masks w R G C.taken C.rest C.smallest u<)
 
-    pub chosen-fits : get_or used a 0 + 1 ≤ longest
-    chosen-fits = omega (arith, fits, C.spent a chosen-below, count_le (independent masks) (λ a. a) w a, G.short)
+    pub chosen_fits : get_or used a 0 + 1 ≤ longest
+    chosen_fits = omega (arith, fits, C.spent a chosen_below, count_le (independent masks) (λ a. a) w a, G.short)
 
     -- one letter more
     pub chosen_more : (starts places : List ℕ) → (s : List ℕ) × (starts ≡ map (place_start w) (below k) ++ s) → (p : List ℕ) × (places ≡ place_table k w ++ p)
         → (v : ℕ) → v ≡ get_or places (get_or starts a 0 + (get_or used a 0 + 1)) 0 → length w ≤ length before → k ≤ length used
         → Chosen k masks w before (set next a v) (set used a (get_or used a 0 + 1)) (set out t a) (t + 1)
     chosen_more starts places s p v q room long =
-        let a< = chosen-below in
+        let a< = chosen_below in
         let m : get_or used a 0 + 1 ≡ suc (counts C.taken a) = omega (arith, C.spent a a<) in
         record {
           taken = C.taken ++ (a ∷ []);
           rest = unmarked (λ a. a) w (more (counts C.taken) a);
           many = omega (arith, length-append C.taken (a ∷ []), C.many);
-          smallest = rw same (letter-taken k masks w R G C.taken C.rest C.smallest u<);
+          smallest = rw same (letter_taken k masks w R G C.taken C.rest C.smallest u<);
           coming =
               let place : v ≡ get_or (places_of w a) (suc (counts C.taken a)) 0 =
               q ∙ ap₂ (λ x y. get_or y (get_or x a 0 + (get_or used a 0 + 1)) 0) s.1 p.1 ∙ ap (λ n. get_or (place_table k w ++ p.0) (get_or (map (place_start w) (below k) ++ s.0) a 0 + n) 0) m

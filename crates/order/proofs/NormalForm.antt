@@ -22,7 +22,7 @@ use Rattle.comparison.specs.declared.Compared.TheVariants.{Different, Equal}
 use Rattle.comparison.specs.Comparison.{comparison}
 use Rattle.comparison.proofs.Answers.{compared_same}
 use Rattle.order.specs.Order.{first_letters, letters_or_none, ordered_buffer}
-use Rattle.order.proofs.Answers.{answers, ordered-none}
+use Rattle.order.proofs.Answers.{answers, ordered_none}
 
 -- the first order is that of its letters, as many as the log has
 first_letters_of : (masks w : List ℕ) → first_order (independent masks) w ≡ some (first_letters masks w)
@@ -37,7 +37,7 @@ module _ (k : ℕ) (masks : List ℕ) (e₀ : lowest (relation_refusals k masks)
   -- what a first order writes, in a buffer that is long enough
   pub written : (w before : List ℕ) → lowest (log_refusals k w) ≡ none → length w ≤ length before → take (length w) (ordered_buffer k masks w before) ≡ first_letters masks w
   written w before e h =
-      ap (take (length w)) (sym (answers k masks w before (ordered-none k masks w (length before) e₀ e h)).1)
+      ap (take (length w)) (sym (answers k masks w before (ordered_none k masks w (length before) e₀ e h)).1)
       ∙ take_at (first_letters masks w) (drop (length w) before) (length w) (first_letters_length masks w)
 
   module _ (v w : List ℕ) (e₁ : lowest (log_refusals k v) ≡ none) (e₂ : lowest (log_refusals k w) ≡ none) where
@@ -49,28 +49,28 @@ module _ (k : ℕ) (masks : List ℕ) (e₀ : lowest (relation_refusals k masks)
         go false q e = let d = compared_same k masks v w e₀ e₁ e₂ q in let z : ◌≡◌ {A = ℕ} 0 1 = cc in absurd (omega arith)
 
     -- "Same still means reachable each way"
-    pub equal-same : (comparison k masks v w ≡ Equal) ↔ Same (independent masks) v w
-    equal-same =
+    pub equal_same : (comparison k masks v w ≡ Equal) ↔ Same (independent masks) v w
+    equal_same =
         let s = same_test (independent masks) (relation_at k masks e₀).own k v w (log_at k v e₁).letters (log_at k w e₂).letters in
         (λ e. s.0 (equal_test.0 e), λ h. equal_test.1 (s.1 h))
 
     -- so their first orders are equal
-    pub equal-first : comparison k masks v w ≡ Equal → first_order (independent masks) v ≡ first_order (independent masks) w
-    equal-first e = let s = equal-same.0 e in same_first (independent masks) s.0 s.1
+    pub equal_first : comparison k masks v w ≡ Equal → first_order (independent masks) v ≡ first_order (independent masks) w
+    equal_first e = let s = equal_same.0 e in same_first (independent masks) s.0 s.1
 
     -- so are the bytes written to two buffers
-    pub equal-written : (before after : List ℕ) → length v ≤ length before → length w ≤ length after → comparison k masks v w ≡ Equal
+    pub equal_written : (before after : List ℕ) → length v ≤ length before → length w ≤ length after → comparison k masks v w ≡ Equal
         → take (length v) (ordered_buffer k masks v before) ≡ take (length w) (ordered_buffer k masks w after)
-    equal-written before after h j e = written v before e₁ h ∙ ap letters_or_none (equal-first e) ∙ sym (written w after e₂ j)
+    equal_written before after h j e = written v before e₁ h ∙ ap letters_or_none (equal_first e) ∙ sym (written w after e₂ j)
 
     -- and the other way round, where the masks are symmetric
     module _ (symmetric : Symmetric (independent masks)) where
-      pub first-equal : first_order (independent masks) v ≡ first_order (independent masks) w → comparison k masks v w ≡ Equal
-      first-equal h = equal-same.1 (first_same (independent masks) symmetric h)
+      pub first_equal : first_order (independent masks) v ≡ first_order (independent masks) w → comparison k masks v w ≡ Equal
+      first_equal h = equal_same.1 (first_same (independent masks) symmetric h)
 
-      pub written-equal : (before after : List ℕ) → length v ≤ length before → length w ≤ length after
+      pub written_equal : (before after : List ℕ) → length v ≤ length before → length w ≤ length after
           → take (length v) (ordered_buffer k masks v before) ≡ take (length w) (ordered_buffer k masks w after) → comparison k masks v w ≡ Equal
-      written-equal before after h j q = first-equal (first_letters_of masks v ∙ ap some (sym (written v before e₁ h) ∙ q ∙ written w after e₂ j) ∙ sym (first_letters_of masks w))
+      written_equal before after h j q = first_equal (first_letters_of masks v ∙ ap some (sym (written v before e₁ h) ∙ q ∙ written w after e₂ j) ∙ sym (first_letters_of masks w))
 
 -- They do not prove it for one-way masks: with only bit a of mask b, ba and ab have the first order ab, and are not the same.
 pub one_way_first : (first_letters (0 ∷ 1 ∷ []) (1 ∷ 0 ∷ []) ≡ 0 ∷ 1 ∷ []) × (first_letters (0 ∷ 1 ∷ []) (0 ∷ 1 ∷ []) ≡ 0 ∷ 1 ∷ [])

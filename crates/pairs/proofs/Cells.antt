@@ -23,7 +23,7 @@ use Rattle.grammars.specs.Grammars.{grammar_of}
 use Rattle.grammars.specs.Sets.{lettered}
 use Rattle.grammars.proofs.Rules.{lettered_is}
 use Rattle.grammars.proofs.Spans.{Between}
-use Rattle.grammars.proofs.Places.{between-letter, between-outside, between-parts, counts_of, listed, prefix_mem, total_marked, total_of}
+use Rattle.grammars.proofs.Places.{between_letter, between_outside, between_parts, counts_of, listed, prefix_mem, total_marked, total_of}
 use Rattle.pairs.specs.Pairs.{JoinedIs, Known, Right, Setting}
 use Rattle.gaps.specs.Gaps.{GapIs}
 use Rattle.gaps.specs.declared.Gap.TheVariants.{Apart, Letter, Outside}
@@ -74,18 +74,18 @@ module _ (k : ℕ) (masks w table : List ℕ) (records : ℕ) (s : Setting k mas
       (λ le. omega (arith, past j a hj le, ap (λ f. f a) e, one_same a)) (lt_or_le a k)
 
   module _ (rules : List ℕ) where
-    pub cell-outside : (i j : ℕ) → i < records → j < records → GapIs k (count_field layout (counts_at table i)) (count_field layout (counts_at table j)) Outside
+    pub cell_outside : (i j : ℕ) → i < records → j < records → GapIs k (count_field layout (counts_at table i)) (count_field layout (counts_at table j)) Outside
         → Right k masks rules w i j 0
-    cell-outside i j hi hj g n = (
+    cell_outside i j hi hj g n = (
       λ t. absurd (not_in_none n t),
-      λ b. absurd (between-outside (independent masks) apart_letters k w s.log.letters (grammar_of rules) i j g.0 n
+      λ b. absurd (between_outside (independent masks) apart_letters k w s.log.letters (grammar_of rules) i j g.0 n
           (omega (arith, g.2, field_is i g.0 hi g.1, field_is j g.0 hj g.1)) b),
     )
 
-    pub cell-letter : (i j a : ℕ) → i < records → j < records → GapIs k (count_field layout (counts_at table i)) (count_field layout (counts_at table j)) (Letter a)
+    pub cell_letter : (i j a : ℕ) → i < records → j < records → GapIs k (count_field layout (counts_at table i)) (count_field layout (counts_at table j)) (Letter a)
         → Right k masks rules w i j (lettered rules a)
-    cell-letter i j a hi hj g n =
-        let b = between-letter (independent masks) apart_letters k w s.log.letters (grammar_of rules) i j a n (inside i hi) (inside j hj) (letter_is i j a hi hj g) in
+    cell_letter i j a hi hj g n =
+        let b = between_letter (independent masks) apart_letters k w s.log.letters (grammar_of rules) i j a n (inside i hi) (inside j hj) (letter_is i j a hi hj g) in
         (λ t. b.1 ((lettered_is rules a n).0 t), λ t. (lettered_is rules a n).1 (b.0 t))
 
     -- the parts of a pair that is not one letter
@@ -94,7 +94,7 @@ module _ (k : ℕ) (masks w table : List ℕ) (records : ℕ) (s : Setting k mas
         ↔ ((m l r : ℕ) × (i < m) × (m < j) × T ((grammar_of rules).two n l r)
         × Between (independent masks) (grammar_of rules) w (counts_of (independent masks) k w i) (counts_of (independent masks) k w m) l
         × Between (independent masks) (grammar_of rules) w (counts_of (independent masks) k w m) (counts_of (independent masks) k w j) r)
-    parts_are i j n hi hj g = between-parts (independent masks) apart_letters k w s.log.letters (grammar_of rules) i j n (inside i hi) (inside j hj) (λ a. no_letter i j a hi hj g)
+    parts_are i j n hi hj g = between_parts (independent masks) apart_letters k w s.log.letters (grammar_of rules) i j n (inside i hi) (inside j hj) (λ a. no_letter i j a hi hj g)
 
     pub cell_apart : (i j : ℕ) (sets : List ℕ) (S : ℕ) → i < j → j < records → GapIs k (count_field layout (counts_at table i)) (count_field layout (counts_at table j)) Apart
         → Known k masks rules w records sets j (i + 1) → JoinedIs rules (drop (i * records) sets) (drop (j * records) sets) (i + 1) j S

@@ -14,8 +14,8 @@ use Rattle.profile.specs.Traces.{letters_below}
 use Rattle.profile.proofs.Lists.{lt_or_le}
 use Rattle.profile.proofs.Sets.{t_eq}
 use Rattle.theory.proofs.Levels.{at_bump, bump, debump, level_next}
-use Rattle.theory.proofs.Merge.{Cursor, extends?, hits, hits-child, hits-parent, level_at, level_grown, level_of}
-use Rattle.theory.proofs.Prefixes.{addable-at, addable-of, one_cases, one_other, one_same, removable-at, removable-of, removable?}
+use Rattle.theory.proofs.Merge.{Cursor, extends?, hits, hits_child, hits_parent, level_at, level_grown, level_of}
+use Rattle.theory.proofs.Prefixes.{addable_at, addable_of, one_cases, one_other, one_same, removable_at, removable_of, removable?}
 
 module _ (may : ℕ → ℕ → Bool) (letter : ℕ → ℕ) where
   -- two letters that can be added can be added one after the other
@@ -45,17 +45,17 @@ module _ (may : ℕ → ℕ → Bool) (letter : ℕ → ℕ) where
     -- what can be added to a prefix with one letter less can be added to d, that letter aside
     pub inherited : a ≢ y → T (addable? may letter w (less d a) y) → T (addable? may letter w d y)
     inherited ne t =
-        let n = removable-at may letter distinct prefix r in
-        let m = addable-at may letter distinct n.0 t in
+        let n = removable_at may letter distinct prefix r in
+        let m = addable_at may letter distinct n.0 t in
         let q = both_more (less d a) a y ne (subst (IsPrefix may letter w) (sym n.4) prefix) m.0 in
-        addable-of may letter distinct d y (subst (λ c. IsPrefix may letter w (more c y)) n.4 q)
+        addable_of may letter distinct d y (subst (λ c. IsPrefix may letter w (more c y)) n.4 q)
 
     -- what can be added to d and may pass the letter that it has more can be added to that prefix
-    pub passed-before : ((e f : ℕ) → letter e ≡ a → letter f ≡ y → T (may e f)) → T (addable? may letter w d y) → T (addable? may letter w (less d a) y)
-    passed-before free t =
-        let n = removable-at may letter distinct prefix r in
-        let m = addable-at may letter distinct prefix t in
-        addable-of may letter distinct (less d a) y (before_last d a y free n.0 m.0)
+    pub passed_before : ((e f : ℕ) → letter e ≡ a → letter f ≡ y → T (may e f)) → T (addable? may letter w d y) → T (addable? may letter w (less d a) y)
+    passed_before free t =
+        let n = removable_at may letter distinct prefix r in
+        let m = addable_at may letter distinct prefix t in
+        addable_of may letter distinct (less d a) y (before_last d a y free n.0 m.0)
 
 -- ---- the prefixes of one total and of the next: e comes next, and the cursor of letter x is at place p x
 
@@ -75,20 +75,20 @@ module _ (may : ℕ → ℕ → Bool) (letter : ℕ → ℕ) (distinct : (a b : 
   hit_removable : T (hits C x e p) → T (removable? may letter w (at e) x) × (less (at e) x ≡ at (get_or C p []))
   hit_removable t =
       let c = get_or C p [] in
-      let h = hits-child (level_grown may letter distinct k w letters n) E₁ e R split x p q t in
+      let h = hits_child (level_grown may letter distinct k w letters n) E₁ e R split x p q t in
       let i = level_at may letter k w n c letters h.0 in
-      removable-of may letter distinct (at e) x i.1 (ap at (sym h.2) ∙ at_bump c x (omega (arith, i.0)))
+      removable_of may letter distinct (at e) x i.1 (ap at (sym h.2) ∙ at_bump c x (omega (arith, i.0)))
 
   removable_hit : T (removable? may letter w (at e) x) → T (hits C x e p)
   removable_hit t =
-      let r = removable-at may letter distinct counted.1 t in
+      let r = removable_at may letter distinct counted.1 t in
       let b = debump e x (less (at e) x) (omega (arith, counted.0)) (sym r.4) in
       let d = b.0 in
       let i : IsPrefix may letter w (at d) = subst (IsPrefix may letter w) (sym b.2) r.0 in
-      let a = addable-of may letter distinct (at d) x (subst (IsPrefix may letter w) (sym (ap (λ h. more h x) b.2 ∙ r.4)) counted.1) in
+      let a = addable_of may letter distinct (at d) x (subst (IsPrefix may letter w) (sym (ap (λ h. more h x) b.2 ∙ r.4)) counted.1) in
       let up = level_next may letter distinct k w letters (total d) x d (level_of may letter k w (total d) d (b.1 ∙ counted.0) i refl) l a in
       let s : total d ≡ n = omega (arith, (level_at may letter k w (suc (total d)) (bump d x) letters up).2, ap total b.3, counted.2) in
-      (hits-parent (level_grown may letter distinct k w letters n) E₁ e R split x p q d (level_of may letter k w n d (b.1 ∙ counted.0) i s) a b.3).0
+      (hits_parent (level_grown may letter distinct k w letters n) E₁ e R split x p q d (level_of may letter k w n d (b.1 ∙ counted.0) i s) a b.3).0
 
   -- the cursors that hit e are those of the letters of which e can have one less, each at that prefix
   pub hits_removable : hits C x e p ≡ removable? may letter w (at e) x

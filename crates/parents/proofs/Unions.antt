@@ -20,11 +20,11 @@ module _ (f : ℕ → ℕ) (k : ℕ) where
 
   module _ (n : ℕ) (some : 0 < n) (small : n < 2 ^ 32) where
     -- the lowest letter is below k, and its set is united; or it is not
-    pub over-taken : (o : ℕ) → count_trailing_zeros 32 n < k → bit_or (bit_or o (f (count_trailing_zeros 32 n))) (over (bit_and n (n - 1))) ≡ bit_or o (over n)
-    over-taken o h =
+    pub over_taken : (o : ℕ) → count_trailing_zeros 32 n < k → bit_or (bit_or o (f (count_trailing_zeros 32 n))) (over (bit_and n (n - 1))) ≡ bit_or o (over n)
+    over_taken o h =
         let x = count_trailing_zeros 32 n in
         let r = bit_and n (n - 1) in
         or_assoc o (f x) (over r) ∙ ap (bit_or o) (sym (union_in f x r k h) ∙ ap over (lowest 32 n some small))
 
-    pub over-left : k ≤ count_trailing_zeros 32 n → over (bit_and n (n - 1)) ≡ over n
-    over-left h = sym (union_out f (count_trailing_zeros 32 n) (bit_and n (n - 1)) k h) ∙ ap over (lowest 32 n some small)
+    pub over_left : k ≤ count_trailing_zeros 32 n → over (bit_and n (n - 1)) ≡ over n
+    over_left h = sym (union_out f (count_trailing_zeros 32 n) (bit_and n (n - 1)) k h) ∙ ap over (lowest 32 n some small)

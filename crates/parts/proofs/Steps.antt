@@ -14,21 +14,21 @@ use Rattle.profile.proofs.Sets.{not_in_none}
 use Rattle.records.specs.Records.{counts_at}
 use Rattle.counts.specs.Counts.{counts_in}
 use Rattle.grammars.specs.Grammars.{grammar_of}
-use Rattle.grammars.proofs.Spans.{Between, Spans, spans-letter}
-use Rattle.grammars.proofs.Places.{between-letter, counts_of, prefix_mem, total_of}
+use Rattle.grammars.proofs.Spans.{Between, Spans, spans_letter}
+use Rattle.grammars.proofs.Places.{between_letter, counts_of, prefix_mem, total_of}
 use Rattle.pairs.specs.Pairs.{AllKnown, Meets, Setting}
 use Rattle.gaps.specs.Gaps.{GapIs}
 use Rattle.gaps.specs.declared.Gap.TheVariants.{Apart, Letter, Outside}
 use Rattle.pairs.proofs.Squares.{row_at}
 use Rattle.profile.specs.Limits.{longest}
-use Rattle.pairs.proofs.Cells.{apart_letters, cell-outside, inside, letter_is, parts_are, total_is, total_le}
+use Rattle.pairs.proofs.Cells.{apart_letters, cell_outside, inside, letter_is, parts_are, total_is, total_le}
 
 module _ (k : ℕ) (masks w table : List ℕ) (records : ℕ) (s : Setting k masks w table records) (rules : List ℕ) where
   abbrev Part : ℕ → ℕ → ℕ → Type 0
   Part i j n = Between (independent masks) (grammar_of rules) w (counts_of (independent masks) k w i) (counts_of (independent masks) k w j) n
 
   pub step_outside : (i j n : ℕ) → i < records → j < records → GapIs k (count_field layout (counts_at table i)) (count_field layout (counts_at table j)) Outside → Part i j n → ⊥
-  step_outside i j n hi hj g b = not_in_none n ((cell-outside k masks w table records s rules i j hi hj g n).1 b)
+  step_outside i j n hi hj g b = not_in_none n ((cell_outside k masks w table records s rules i j hi hj g n).1 b)
 
   pub step_letter : (i j a n : ℕ) → i < records → j < records → GapIs k (count_field layout (counts_at table i)) (count_field layout (counts_at table j)) (Letter a) → Part i j n
       → Spans (independent masks) (grammar_of rules) w (counts_of (independent masks) k w i) (counts_of (independent masks) k w j) n (a ∷ [])
@@ -39,12 +39,12 @@ module _ (k : ℕ) (masks w table : List ℕ) (records : ℕ) (s : Setting k mas
       let e = letter_is k masks w table records s i j a hi hj g in
       let p = (prefix_mem (independent masks) d k w s.log.letters i ii).1 in
       let q = (prefix_mem (independent masks) d k w s.log.letters j jj).1 in
-      spans-letter (independent masks) (grammar_of rules) w d p q e ((between-letter (independent masks) d k w s.log.letters (grammar_of rules) i j a n ii jj e).0 b)
+      spans_letter (independent masks) (grammar_of rules) w d p q e ((between_letter (independent masks) d k w s.log.letters (grammar_of rules) i j a n ii jj e).0 b)
 
   module _ (sets : List ℕ) (known : AllKnown k masks rules w records sets) where
-    pub step-parts : (i j n : ℕ) → i < j → j < records → GapIs k (count_field layout (counts_at table i)) (count_field layout (counts_at table j)) Apart → Part i j n
+    pub step_parts : (i j n : ℕ) → i < j → j < records → GapIs k (count_field layout (counts_at table i)) (count_field layout (counts_at table j)) Apart → Part i j n
         → (m l r : ℕ) × (i + 1 ≤ m) × (m < j) × Meets rules (drop (i * records) sets) (drop (j * records) sets) n m l r
-    step-parts i j n h hj g b =
+    step_parts i j n h hj g b =
         let v = (parts_are k masks w table records s rules i j n (omega arith) hj g).0 b in
         let m = v.0 in (
           m,
@@ -59,9 +59,9 @@ module _ (k : ℕ) (masks w table : List ℕ) (records : ℕ) (s : Setting k mas
           ),
         )
 
-    pub step-met : (i j n m l r : ℕ) → j < records → i + 1 ≤ m → m < j → Meets rules (drop (i * records) sets) (drop (j * records) sets) n m l r
+    pub step_met : (i j n m l r : ℕ) → j < records → i + 1 ≤ m → m < j → Meets rules (drop (i * records) sets) (drop (j * records) sets) n m l r
         → T ((grammar_of rules).two n l r) × Part i m l × Part m j r
-    step-met i j n m l r hj h lt v = (
+    step_met i j n m l r hj h lt v = (
       v.0,
       ((known.right i m (omega arith) (omega arith)).0 l).0 (subst (λ x. T (bit x l)) (row_at sets (i * records) m) v.1),
       ((known.right m j lt hj).1 r).0 (subst (λ x. T (bit x r)) (row_at sets (j * records) m) v.2),

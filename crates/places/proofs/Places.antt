@@ -9,7 +9,7 @@ use native.Mathlib.Omega.{arith}
 use native.Mathlib.Numerals.{add-one}
 use lib.Dec.{T, not_T, eqb, eqb→eq, eqb_refl, ltb, ltb→lt, lt→ltb}
 use lib.ListN.{length, drop, get_or, length-append, length-drop, drop_of_length-le, get_or-append}
-use lib.Seq.{sets, drop-append-add, drop-cons, drop_drop, get_or-append-add, sets_eq, take_at}
+use lib.Seq.{sets, drop-append-add, drop-cons, drop-drop, get_or-append-add, sets-eq, take_at}
 use Rattle.profile.specs.Lists.{Mem, below, filter, flat_map, range}
 use Rattle.profile.specs.Prefixes.{count, one}
 use Rattle.profile.specs.Traces.{letters_below}
@@ -67,9 +67,9 @@ place_table_more k w = rw add-one (ap length (place_table_suc k w) ∙ length-ap
 -- a list that begins with t, after v is stored behind t
 fill_more : (t v l : List ℕ) (n : ℕ) → length t ≡ n → n + length v ≤ length l → sets (t ++ drop n l) n v ≡ (t ++ v) ++ drop (n + length v) l
 fill_more t v l n e h =
-    sets_eq v (t ++ drop n l) n (omega (arith, length-append t (drop n l), length-drop n l))
+    sets-eq v (t ++ drop n l) n (omega (arith, length-append t (drop n l), length-drop n l))
     ∙ ap₂ (λ a b. (a ++ v) ++ b) (take_at t (drop n l) n e)
-    (ap (λ m. drop (m + length v) (t ++ drop n l)) (sym e) ∙ drop-append-add t (drop n l) (length v) ∙ drop_drop (length v) n l)
+    (ap (λ m. drop (m + length v) (t ++ drop n l)) (sym e) ∙ drop-append-add t (drop n l) (length v) ∙ drop-drop (length v) n l)
 
 pub places_more : (w l : List ℕ) (k : ℕ) → length (place_table (k + 1) w) ≤ length l
     → sets (place_table k w ++ drop (length (place_table k w)) l) (length (place_table k w)) (places_of w k) ≡ place_table (k + 1) w ++ drop (length (place_table (k + 1) w)) l

@@ -17,29 +17,29 @@ module _ (f g : List ℕ → ℕ) (C : List (List ℕ)) where
 
   module _ (t rest : List ℕ) (e : t ≡ flat_map (draft f g) C ++ rest) where
     -- the part has the records of C and no further one
-    pub records-of-drafts : length rest < record_length layout → records_in t ≡ length C
-    records-of-drafts h = omega (arith, ap length e, length-append (flat_map (draft f g) C) rest, drafts_length)
+    pub records_of_drafts : length rest < record_length layout → records_in t ≡ length C
+    records_of_drafts h = omega (arith, ap length e, length-append (flat_map (draft f g) C) rest, drafts_length)
 
     -- number i of record j is number i of the record of element j of C
     module _ (j : ℕ) (h : j < length C) where
-      draft-number : (i : ℕ) → i < record_length layout → get_or t (record_length layout * j + i) 0 ≡ get_or (draft f g (get_or C j [])) i 0
-      draft-number i k =
+      draft_number : (i : ℕ) → i < record_length layout → get_or t (record_length layout * j + i) 0 ≡ get_or (draft f g (get_or C j [])) i 0
+      draft_number i k =
           ap (λ l. get_or l (record_length layout * j + i) 0) e
           ∙ get_or-append (flat_map (draft f g) C) rest 0 (record_length layout * j + i) (omega (arith, drafts_length))
           ∙ flat_map_getd (draft f g) (record_length layout) (λ c. refl) C j i [] 0 h k
 
-      pub counts-of-draft : counts_at t j ≡ packed layout (get_or C j [])
-      counts-of-draft = ap₂ ◌∷◌ (draft-number 0 (omega arith)) (ap₂ ◌∷◌ (draft-number 1 (omega arith)) (ap₂ ◌∷◌ (draft-number 2 (omega arith)) (ap₂ ◌∷◌ (draft-number 3 (omega arith)) (ap₂ ◌∷◌ (draft-number 4 (omega arith)) (ap₂ ◌∷◌ (draft-number 5 (omega arith)) (ap₂ ◌∷◌ (draft-number 6 (omega arith)) (ap (λ n. n ∷ []) (draft-number 7 (omega arith)))))))))
+      pub counts_of_draft : counts_at t j ≡ packed layout (get_or C j [])
+      counts_of_draft = ap₂ ◌∷◌ (draft_number 0 (omega arith)) (ap₂ ◌∷◌ (draft_number 1 (omega arith)) (ap₂ ◌∷◌ (draft_number 2 (omega arith)) (ap₂ ◌∷◌ (draft_number 3 (omega arith)) (ap₂ ◌∷◌ (draft_number 4 (omega arith)) (ap₂ ◌∷◌ (draft_number 5 (omega arith)) (ap₂ ◌∷◌ (draft_number 6 (omega arith)) (ap (λ n. n ∷ []) (draft_number 7 (omega arith)))))))))
 
       pub forward_of_draft : forward_at t j ≡ f (get_or C j [])
-      forward_of_draft = draft-number layout.numbers (omega arith)
+      forward_of_draft = draft_number layout.numbers (omega arith)
 
-      pub last-of-draft : last_at t j ≡ g (get_or C j [])
-      last-of-draft = draft-number (layout.numbers + 1) (omega arith)
+      pub last_of_draft : last_at t j ≡ g (get_or C j [])
+      last_of_draft = draft_number (layout.numbers + 1) (omega arith)
 
     -- a record put behind the last
-    pub put-draft : (c : List ℕ) → put_record t (length C) (draft f g c) ≡ flat_map (draft f g) (C ++ (c ∷ [])) ++ drop (record_length layout) rest
-    put-draft c =
+    pub put_draft : (c : List ℕ) → put_record t (length C) (draft f g c) ≡ flat_map (draft f g) (C ++ (c ∷ [])) ++ drop (record_length layout) rest
+    put_draft c =
         let F = flat_map (draft f g) C in
         let n = record_length layout * length C in
         ap (λ l. put_record l (length C) (draft f g c)) e

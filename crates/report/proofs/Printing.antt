@@ -114,18 +114,18 @@ module _ (f b a : List ℕ) (o : ℕ) where
       (rw (s, response), subst (λ t. whether t (a ≡ b) (whether (ltb longest_input (length f)) (a ≡ b) (file_table f b a))) (sym s) e)
 
   module _ (room : program_text ≤ o) where
-    in-room : response f o (length b) ≡ printed_with f (length b)
-    in-room = let e = le-ltb o program_text room in rw (e, response)
+    in_room : response f o (length b) ≡ printed_with f (length b)
+    in_room = let e = le-ltb o program_text room in rw (e, response)
 
     inside : whether (ltb longest_input (length f)) (a ≡ b) (file_table f b a) → table_after f o b a
     inside t = subst (λ x. whether x (a ≡ b) (whether (ltb longest_input (length f)) (a ≡ b) (file_table f b a))) (sym (le-ltb o program_text room)) t
 
-    pub answer-long : longest_input < length f → a ≡ b → (response f o (length b) ≡ too_long_line) × table_after f o b a
-    answer-long h e =
+    pub answer_long : longest_input < length f → a ≡ b → (response f o (length b) ≡ too_long_line) × table_after f o b a
+    answer_long h e =
         let l = lt-ltb longest_input (length f) h in
-        (in-room ∙ printed_long f (length b) h, inside (subst (λ t. whether t (a ≡ b) (file_table f b a)) (sym l) e))
+        (in_room ∙ printed_long f (length b) h, inside (subst (λ t. whether t (a ≡ b) (file_table f b a)) (sym l) e))
 
-    pub answer-file : length f ≤ longest_input → file_table f b a → (response f o (length b) ≡ file_text f (length b)) × table_after f o b a
-    answer-file h e =
+    pub answer_file : length f ≤ longest_input → file_table f b a → (response f o (length b) ≡ file_text f (length b)) × table_after f o b a
+    answer_file h e =
         let l = le-ltb longest_input (length f) h in
-        (in-room ∙ printed_file f (length b) h, inside (subst (λ t. whether t (a ≡ b) (file_table f b a)) (sym l) e))
+        (in_room ∙ printed_file f (length b) h, inside (subst (λ t. whether t (a ≡ b) (file_table f b a)) (sym l) e))

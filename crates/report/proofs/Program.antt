@@ -9,7 +9,7 @@ use Rattle.report.specs.Report.{Responds, printed, printed_with, response}
 
 pub program_prints : (f out out' work work' : List ℕ) (r : ℕ) → program_text ≤ length out → length work ≡ program_numbers → Responds f out out' work work' r
     → take r out' ≡ printed f
-program_prints f out out' work work' r room numbers h = h.text ∙ all-put ∙ ap (printed_with f) numbers
+program_prints f out out' work work' r room numbers h = h.text ∙ all_put ∙ ap (printed_with f) numbers
   where
-    all-put : response f (length out) (length work) ≡ printed_with f (length work)
-    all-put = let e = le-ltb (length out) program_text room in rw (e, response)
+    all_put : response f (length out) (length work) ≡ printed_with f (length work)
+    all_put = let e = le-ltb (length out) program_text room in rw (e, response)

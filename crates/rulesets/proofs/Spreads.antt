@@ -40,12 +40,12 @@ module _ (x y : ℕ) (before : List ℕ) where
     others = bit_and n (n - 1)
 
     -- it is a name
-    pub lowest-name : x < 2 ^ 16 → lowest < 16
-    lowest-name k = bit_below 16 x lowest k (s.left lowest (rest_first n p h))
+    pub lowest_name : x < 2 ^ 16 → lowest < 16
+    lowest_name k = bit_below 16 x lowest k (s.left lowest (rest_first n p h))
 
     -- the lowest name is taken
-    pub spread-more : lowest < length after → Spreading x y before (set after lowest (bit_or (get_or after lowest 0) y)) others
-    spread-more lt = record {
+    pub spread_more : lowest < length after → Spreading x y before (set after lowest (bit_or (get_or after lowest 0) y)) others
+    spread_more lt = record {
       given = λ l r t. ⊎_elim
           (λ e. ⊎_elim (s.given l r)
           (λ b. inr (subst (λ m. T (bit x m)) e (s.left lowest (rest_first n p h)), b))

@@ -20,8 +20,8 @@ use Rattle.profile.proofs.Lists.{all_append, both}
 use Rattle.theory.proofs.Profiles.{distinct}
 use Rattle.theory.proofs.Refusals.{GoodLog, GoodProfile, lowest_none, profile_at}
 use Rattle.arrival.specs.Arrival.{Keeps, arrivals}
-use Rattle.arrival.proofs.Arrivals.{arrivals-count}
-use Rattle.arrival.proofs.Tables.{keeps-length, keeps-next, put_at, put_length}
+use Rattle.arrival.proofs.Arrivals.{arrivals_count}
+use Rattle.arrival.proofs.Tables.{keeps_length, keeps_next, put_at, put_length}
 use Rattle.running.specs.Running.{Lent, p_of, QuestionPromise, Runs, StartPromise, StepPromise, asked, record_refusals, refused, relent, started, took, verdict_of}
 use Rattle.running.specs.declared.Running.{Running}
 use Rattle.running.specs.declared.Started.TheVariants.{Begun}
@@ -41,7 +41,7 @@ pub place_of : (P n : ℕ) → full_table P n ≡ false → 10 * P ≤ n
 place_of P n e = omega (arith, ltb-false (capacity layout n) P e)
 
 pub arrivals_are : (p : Profile) (w : List ℕ) → GoodProfile p → T (letters_below (λ a. a) p.k w) → length (arrivals (independent p.masks) p.k w) ≡ p_of p w
-arrivals_are p w g l = arrivals-count (independent p.masks) p.k (distinct p.masks g.relation.own) w l
+arrivals_are p w g l = arrivals_count (independent p.masks) p.k (distinct p.masks g.relation.own) w l
 
 -- a start that is not refused
 module _ (p : Profile) {t t' : List ℕ} {r : Running} (h : StartPromise p t t' (Begun r)) where
@@ -106,7 +106,7 @@ module _ (p : Profile) {w t t' : List ℕ} {r r' : Running} {a : ℕ} (h : Runs 
   step_runs =
       let d = distinct p.masks good.relation.own in
       let e = s.left w h in
-      let len : length t' ≡ length t = ap length e.1 ∙ keeps-length (independent p.masks) d (automaton p) p.k w a log_after.letters t h.keeps room in
+      let len : length t' ≡ length t = ap length e.1 ∙ keeps_length (independent p.masks) d (automaton p) p.k w a log_after.letters t h.keeps room in
       record {
         sound = h.sound;
         log = log_after;
@@ -114,7 +114,7 @@ module _ (p : Profile) {w t t' : List ℕ} {r r' : Running} {a : ℕ} (h : Runs 
         taken = ap (λ (x : Running). x.taken) e.0 ∙ omega (arith, length-append w (a ∷ []));
         place = ap₂ full_table (ap (λ (x : Running). x.prefixes) e.0) len ∙ event_allowed.2;
         keeps = subst (Keeps layout (independent p.masks) (automaton p) p.k (w ++ (a ∷ []))) (sym e.1)
-            (keeps-next (independent p.masks) d (automaton p) p.k w a log_after.letters t h.keeps room);
+            (keeps_next (independent p.masks) d (automaton p) p.k w a log_after.letters t h.keeps room);
       }
 
 -- a refused event, whose record stays

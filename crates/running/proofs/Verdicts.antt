@@ -17,7 +17,7 @@ use Rattle.profile.specs.Refusals.{full_table, lowest}
 use Rattle.profile.specs.declared.Refusal.{Refusal}
 use Rattle.profile.proofs.Lists.{lt_or_le}
 use Rattle.profile.proofs.Sets.{t_eq}
-use Rattle.theory.proofs.Automata.{verdict-forward}
+use Rattle.theory.proofs.Automata.{verdict_forward}
 use Rattle.theory.proofs.Counting.{count_above, length_range}
 use Rattle.theory.proofs.Demands.{Witness, no_order, order_earliest, order_of}
 use Rattle.theory.proofs.Packing.{packed_length}
@@ -35,8 +35,8 @@ use Rattle.running.proofs.Refusing.{full_none}
 -- the verdict is 1 exactly when the forward set of all events has a final state
 pub forward_verdict : (p : Profile) (w : List ℕ) → ((i : ℕ) → T (independent p.masks i i) → ⊥) → meets (forward (independent p.masks) (λ a. a) (automaton p) w (count (λ a. a) w)) p.finals ≡ verdict_of p w
 forward_verdict p w own = t_eq (meets (forward (independent p.masks) (λ a. a) (automaton p) w (count (λ a. a) w)) p.finals) (verdict_of p w)
-    (λ t. let n = (verdict-forward (independent p.masks) (λ a. a) (automaton p) (lawful p) w (distinct p.masks own)).0 t in found (order_of p w) refl n.0 (record { reached = n.1; accepted = n.2 }))
-    (λ t. let n = listed (order_of p w) refl t in (verdict-forward (independent p.masks) (λ a. a) (automaton p) (lawful p) w (distinct p.masks own)).1 (n.0, n.1.reached, n.1.accepted))
+    (λ t. let n = (verdict_forward (independent p.masks) (λ a. a) (automaton p) (lawful p) w (distinct p.masks own)).0 t in found (order_of p w) refl n.0 (record { reached = n.1; accepted = n.2 }))
+    (λ t. let n = listed (order_of p w) refl t in (verdict_forward (independent p.masks) (λ a. a) (automaton p) (lawful p) w (distinct p.masks own)).1 (n.0, n.1.reached, n.1.accepted))
   where
     found : (o : Option (List ℕ)) → order_of p w ≡ o → (u : List ℕ) → Witness p w u → T (verdict_of p w)
     found none e u x = absurd ((no_order p w).0 e u x)

@@ -163,13 +163,13 @@ module _ (k : ℕ) (u : List ℕ) (w : Bool) (d m n i : ℕ) (p : Passed k u w d
 
   module _ (h : i < length u) where
     -- the byte at i is the place …
-    pub passed-stops : next (sign k (get_or u i 0)) w d ≡ none → Broken i ≡ scanned k u
-    passed-stops q =
+    pub passed_stops : next (sign k (get_or u i 0)) w d ≡ none → Broken i ≡ scanned k u
+    passed_stops q =
         broken (p.place ∙ (ap (λ l. shift i (fault_from k w d l)) (from_here u i h) ∙ (ap (shift i) (fault_stops k (get_or u i 0) w d (drop (i + 1) u) q) ∙ shift_here i)))
 
     -- … or good
-    pub passed-goes : k ≤ most_letters → (v : Bool) (e m' n' : ℕ) → next (sign k (get_or u i 0)) w d ≡ after v e → m' ≡ max m d → n' ≡ n + length (letters_of k (get_or u i 0 ∷ [])) → Passed k u v e m' n' (i + 1)
-    passed-goes few v e m' n' q a b =
+    pub passed_goes : k ≤ most_letters → (v : Bool) (e m' n' : ℕ) → next (sign k (get_or u i 0)) w d ≡ after v e → m' ≡ max m d → n' ≡ n + length (letters_of k (get_or u i 0 ∷ [])) → Passed k u v e m' n' (i + 1)
+    passed_goes few v e m' n' q a b =
         let c = get_or u i 0 in
         let rest = drop (i + 1) u in
         let o = next_open k c few w v d e q in
@@ -190,11 +190,11 @@ module _ (k : ℕ) (u : List ℕ) (w : Bool) (d m n i : ℕ) (p : Passed k u w d
     ends : fault k u ≡ shift i (ended w d)
     ends = p.place ∙ ap (λ l. shift i (fault_from k w d l)) none_left
 
-    pub passed-wanting : w ≡ true → Broken i ≡ scanned k u
-    passed-wanting e = broken (ends ∙ (ap (λ w. shift i (ended w d)) e ∙ shift_here i))
+    pub passed_wanting : w ≡ true → Broken i ≡ scanned k u
+    passed_wanting e = broken (ends ∙ (ap (λ w. shift i (ended w d)) e ∙ shift_here i))
 
-    pub passed-open : w ≡ false → (d ≡ 0 → ⊥) → Broken i ≡ scanned k u
-    passed-open e f = broken (ends ∙ (ap (λ w. shift i (ended w d)) e ∙ unclosed d f))
+    pub passed_open : w ≡ false → (d ≡ 0 → ⊥) → Broken i ≡ scanned k u
+    passed_open e f = broken (ends ∙ (ap (λ w. shift i (ended w d)) e ∙ unclosed d f))
       where
         unclosed : (d : ℕ) → (d ≡ 0 → ⊥) → shift i (ended false d) ≡ some i
         unclosed zero f = absurd (f refl)

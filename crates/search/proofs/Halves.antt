@@ -76,15 +76,15 @@ module _ (t c : List ℕ) where
       back = omega arith
 
   module _ (o : Ordered t) where
-    pub between-up : (low high m : ℕ) → Between low high → m < records_in t → T (stands_before? (counts_at t m) c) → Between (suc m) high
-    between-up low high m b h y = (
+    pub between_up : (low high m : ℕ) → Between low high → m < records_in t → T (stands_before? (counts_at t m) c) → Between (suc m) high
+    between_up low high m b h y = (
       (λ j l. ⊎_elim (λ lt. before_trans (counts_at t j) (counts_at t m) c (o j m lt h) y)
           (λ le. let e : m ≡ j = omega arith in subst (λ z. T (stands_before? (counts_at t z) c)) e y) (lt_or_le j m)),
       b.1,
     )
 
-    pub between-down : (low high m : ℕ) → Between low high → T (not (stands_before? (counts_at t m) c)) → Between low m
-    between-down low high m b n = (
+    pub between_down : (low high m : ℕ) → Between low high → T (not (stands_before? (counts_at t m) c)) → Between low m
+    between_down low high m b n = (
       b.0,
       (λ j l h. ⊎_elim
           (λ lt. not_T (stands_before? (counts_at t j) c) (λ y. T_not (stands_before? (counts_at t m) c) n (before_trans (counts_at t m) (counts_at t j) c (o m j lt h) y)))

@@ -28,7 +28,7 @@ use Rattle.counts.proofs.Packed.{Small, counts_in_packed, same_tail, total_packe
 use Rattle.counts.specs.Counts.{counts_in}
 use Rattle.records.specs.Records.{counts_at, records_in}
 use Rattle.records.specs.Drafts.{backward_set, filled, forward_set, in_order, of_total}
-use Rattle.records.proofs.Drafts.{counts-of-draft, drafts_length, records-of-drafts}
+use Rattle.records.proofs.Drafts.{counts_of_draft, drafts_length, records_of_drafts}
 use Rattle.search.specs.Search.{Ordered, found_in, stands_before?}
 use Rattle.search.specs.declared.Found.TheVariants.{Absent, At}
 use Rattle.search.proofs.Halves.{found_absent, found_record}
@@ -76,10 +76,10 @@ module _ (p : Rules) (w : List ℕ) (good : GoodProfile p.profile) (log : GoodEv
           ap₂ ◌∷◌ (total_packed layout c fits small) (counts_in_packed layout c fits small ∙ ap (λ n. c ++ zeros layout n) e)
 
   pub records_many : records_in (filled p w l) ≡ length l
-  records_many = records-of-drafts (forward_set p w) (backward_set p w) l (filled p w l) [] (sym (append-nil (filled p w l))) (omega arith)
+  records_many = records_of_drafts (forward_set p w) (backward_set p w) l (filled p w l) [] (sym (append-nil (filled p w l))) (omega arith)
 
   pub counts_are : (j : ℕ) → j < length l → counts_at (filled p w l) j ≡ packed layout (get_or l j [])
-  counts_are j h = counts-of-draft (forward_set p w) (backward_set p w) l (filled p w l) [] (sym (append-nil (filled p w l))) j h
+  counts_are j h = counts_of_draft (forward_set p w) (backward_set p w) l (filled p w l) [] (sym (append-nil (filled p w l))) j h
 
   pub records_ordered : Ordered (filled p w l)
   records_ordered i j h k =

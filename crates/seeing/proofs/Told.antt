@@ -51,12 +51,12 @@ module _ (q : Profile) (u order t R : List ℕ) (clean : Clean q u) (fits : leng
       d ∙ ap (λ o. table_as o filled t) (refusal_of ∙ h) ∙ sym (ap (λ o. table_as o (hulled q.s R Q filled) t) (refusal_of ∙ h))
 
   module _ (h : refused_by j ≡ none) (P : ℕ) (k : told_prefixes j ≡ some P) where
-    prefixes-are : P ≡ Q
-    prefixes-are = sym (some-injective Q P (sym (prefixes_told v Q L) ∙ ap (λ o. told_prefixes (told_as o v Q L)) (sym (refusal_of ∙ h)) ∙ ap told_prefixes (sym e) ∙ k))
+    prefixes_are : P ≡ Q
+    prefixes_are = sym (some-injective Q P (sym (prefixes_told v Q L) ∙ ap (λ o. told_prefixes (told_as o v Q L)) (sym (refusal_of ∙ h)) ∙ ap told_prefixes (sym e) ∙ k))
 
-    pub hulls-fit : record_length layout * P ≤ length t
-    hulls-fit = omega (arith, prefixes-are, ten_not q (automaton q) u clean (length order) (length t) fits (refusal_of ∙ h))
+    pub hulls_fit : record_length layout * P ≤ length t
+    hulls_fit = omega (arith, prefixes_are, ten_not q (automaton q) u clean (length order) (length t) fits (refusal_of ∙ h))
 
-    pub hulls-table : (T H : List ℕ) → T ≡ table_left q (automaton q) u (length order) t → H ≡ hulled q.s R P T → H ≡ hulled_left q R u (length order) t
-    hulls-table T H d c =
-        c ∙ ap₂ (λ n x. hulled q.s R n x) prefixes-are (d ∙ ap (λ o. table_as o filled t) (refusal_of ∙ h)) ∙ sym (ap (λ o. table_as o (hulled q.s R Q filled) t) (refusal_of ∙ h))
+    pub hulls_table : (T H : List ℕ) → T ≡ table_left q (automaton q) u (length order) t → H ≡ hulled q.s R P T → H ≡ hulled_left q R u (length order) t
+    hulls_table T H d c =
+        c ∙ ap₂ (λ n x. hulled q.s R n x) prefixes_are (d ∙ ap (λ o. table_as o filled t) (refusal_of ∙ h)) ∙ sym (ap (λ o. table_as o (hulled q.s R Q filled) t) (refusal_of ∙ h))

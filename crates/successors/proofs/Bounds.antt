@@ -15,7 +15,7 @@ use Rattle.counts.specs.Counts.{add_count, counts_in}
 use Rattle.counts.proofs.Packed.{add_packed, counts_in_packed, total_packed, zeros}
 use Rattle.records.specs.Records.{counts_at, records_in}
 use Rattle.search.specs.Search.{stands_before?}
-use Rattle.search.proofs.Halves.{Between, before_less, before_same, between_start, between-up}
+use Rattle.search.proofs.Halves.{Between, before_less, before_same, between_start, between_up}
 use Rattle.profile.specs.Prefixes.{ranked}
 use Rattle.costcursors.proofs.Bumps.{total_bump}
 use Rattle.successors.specs.Successors.{Stands}
@@ -70,7 +70,7 @@ module _ {t : List ℕ} {k j : ℕ} (s : Stands t k j) where
   pub behind : (x : ℕ) → x < k → Between t (add_count layout (counts_at t j) x) (suc j) (records_in t)
   behind x h =
       let c = add_count layout (counts_at t j) x in
-      between-up t c s.ordered 0 (records_in t) j (between_start t c (records_in t) (omega arith)) s.inside (stands_behind x h)
+      between_up t c s.ordered 0 (records_in t) j (between_start t c (records_in t) (omega arith)) s.inside (stands_behind x h)
 
   -- what is no place for letter x is none for a larger letter
   pub bound_later : (x y low low' r : ℕ) → x < y → y < k → Between t (add_count layout (counts_at t j) x) low r

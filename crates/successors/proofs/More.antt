@@ -14,7 +14,7 @@ use Rattle.profile.proofs.Lists.{all_of, mem_getd, mem_place, test}
 use Rattle.theory.proofs.Counting.{prefixes_at, prefixes_of}
 use Rattle.theory.proofs.Levels.{at_bump, bump, by_total_at, by_total_of, le_total, total_prefix}
 use Rattle.theory.proofs.Packing.{packed_inj}
-use Rattle.theory.proofs.Prefixes.{addable-at, addable-of, front_length, front_of_prefix}
+use Rattle.theory.proofs.Prefixes.{addable_at, addable_of, front_length, front_of_prefix}
 use Rattle.counts.proofs.Packed.{Small, add_packed}
 use Rattle.counts.specs.Counts.{add_count}
 use Rattle.records.specs.Records.{records_in}
@@ -81,16 +81,16 @@ module _ {may : ℕ → ℕ → Bool} {letter : ℕ → ℕ} {k : ℕ} {w t : Li
   -- ---- the record with one letter more
 
   module _ (v : List ℕ) (m : Mem v (by_total may letter k w)) (x : ℕ) (h : x < k) where
-    pub more-in-order : T (addable? may letter w (at v) x) → Mem (bump v x) (by_total may letter k w)
-    more-in-order s =
+    pub more_in_order : T (addable? may letter w (at v) x) → Mem (bump v x) (by_total may letter k w)
+    more_in_order s =
         let q = prefix_of v m in
         of_prefix (bump v x) (length-set v x (suc (at v x)) ∙ q.0)
-        (subst (IsPrefix may letter w) (sym (at_bump v x (omega (arith, h, q.0)))) (addable-at may letter g.apart q.1 s).0)
+        (subst (IsPrefix may letter w) (sym (at_bump v x (omega (arith, h, q.0)))) (addable_at may letter g.apart q.1 s).0)
 
-    pub find-more : T (addable? may letter w (at v) x)
+    pub find_more : T (addable? may letter w (at v) x)
         → (j : ℕ) × (j < length (by_total may letter k w)) × (get_or (by_total may letter k w) j [] ≡ bump v x) × (found_in t (add_count layout (packed layout v) x) ≡ At j)
-    find-more s =
-        let q = mem_place [] (more-in-order s) in
+    find_more s =
+        let q = mem_place [] (more_in_order s) in
         let i : q.0 < records_in t = subst (λ n. q.0 < n) (sym g.records.many) q.1 in
         (q.0, q.1, q.2, ap (found_in t) (more_packed v x h m ∙ ap (packed layout) (sym q.2) ∙ sym (g.records.counts q.0 q.1)) ∙ found_record t g.records.ordered q.0 i)
 
@@ -106,15 +106,15 @@ module _ {may : ℕ → ℕ → Bool} {letter : ℕ → ℕ} {k : ℕ} {w t : Li
               let n = mem_getd all j [] i in
               let same : d ≡ bump v x = packed_inj layout d (bump v x) (g.records.long d n ∙ sym (length-set v x (suc (at v x)) ∙ l)) (omega (arith, g.records.long d n, g.records.letters)) (g.records.small d n) (bump_small v x h m) (sym (g.records.counts j i) ∙ e) in
               T_not (addable? may letter w (at v) x) s
-              (addable-of may letter g.apart (at v) x (subst (IsPrefix may letter w) (ap at same ∙ at_bump v x lt) (prefix_of d n).1))),
+              (addable_of may letter g.apart (at v) x (subst (IsPrefix may letter w) (ap at same ∙ at_bump v x lt) (prefix_of d n).1))),
         )
 
-    pub more-at : (r : ℕ) → found_in t (add_count layout (packed layout v) x) ≡ At r
+    pub more_at : (r : ℕ) → found_in t (add_count layout (packed layout v) x) ≡ At r
         → T (addable? may letter w (at v) x) × (r < length (by_total may letter k w)) × (get_or (by_total may letter k w) r [] ≡ bump v x)
-    more-at r e = ⊎_elim
-        (λ s. let q = find-more s in (s, subst (λ i. i < length (by_total may letter k w)) (at_same (sym q.3 ∙ e)) q.1, ap (λ i. get_or (by_total may letter k w) i []) (at_same (sym e ∙ q.3)) ∙ q.2))
+    more_at r e = ⊎_elim
+        (λ s. let q = find_more s in (s, subst (λ i. i < length (by_total may letter k w)) (at_same (sym q.3 ∙ e)) q.1, ap (λ i. get_or (by_total may letter k w) i []) (at_same (sym e ∙ q.3)) ∙ q.2))
         (λ s. absurd (absent_not (sym (no_more s).1 ∙ e)))
         (test (addable? may letter w (at v) x))
 
-    pub more-none : (n : ℕ) → found_in t (add_count layout (packed layout v) x) ≡ Absent n → T (addable? may letter w (at v) x) → ⊥
-    more-none n e s = absent_not (sym e ∙ (find-more s).3)
+    pub more_none : (n : ℕ) → found_in t (add_count layout (packed layout v) x) ≡ Absent n → T (addable? may letter w (at v) x) → ⊥
+    more_none n e s = absent_not (sym e ∙ (find_more s).3)

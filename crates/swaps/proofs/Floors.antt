@@ -94,24 +94,24 @@ module _ (may : ℕ → ℕ → Bool) (letter : ℕ → ℕ) (M : Automaton) (L 
   -- ---- with a budget of B pairs; w has letters below k, M has states below s
 
   module _ (k s B : ℕ) where
-    pub floor-is : {n : ℕ} → fewest_swaps may letter M w ≡ some n → floor may letter M k s w B ≡ some (smaller n (next_pair may letter M k s w B))
-    floor-is e = rw (e, floor)
+    pub floor_is : {n : ℕ} → fewest_swaps may letter M w ≡ some n → floor may letter M k s w B ≡ some (smaller n (next_pair may letter M k s w B))
+    floor_is e = rw (e, floor)
 
-    pub covered-order : {n : ℕ} → T (covers may letter M k s w B) → fewest_swaps may letter M w ≡ some n → closest_order may letter M k s w B ≡ order_with may letter M w n
-    covered-order h e = rw (is_true (covers may letter M k s w B) h, e, closest_order)
+    pub covered_order : {n : ℕ} → T (covers may letter M k s w B) → fewest_swaps may letter M w ≡ some n → closest_order may letter M k s w B ≡ order_with may letter M w n
+    covered_order h e = rw (is_true (covers may letter M k s w B) h, e, closest_order)
 
     -- "otherwise it is the judge's"
     pub not_covered : T (not (covers may letter M k s w B)) → closest_order may letter M k s w B ≡ accepted_order may letter M w
     not_covered h = rw (is_false (covers may letter M k s w B) h, closest_order)
 
     -- there is a floor exactly where there is an accepted order, and it is no more than the fewest swaps
-    floor-le : {n f : ℕ} → fewest_swaps may letter M w ≡ some n → floor may letter M k s w B ≡ some f → f ≤ n
-    floor-le {n} e q =
-        let h = some-injective _ _ (sym (floor-is e) ∙ q) in omega (arith, h, smaller_le n (next_pair may letter M k s w B))
+    floor_le : {n f : ℕ} → fewest_swaps may letter M w ≡ some n → floor may letter M k s w B ≡ some f → f ≤ n
+    floor_le {n} e q =
+        let h = some-injective _ _ (sym (floor_is e) ∙ q) in omega (arith, h, smaller_le n (next_pair may letter M k s w B))
 
     -- "No accepted order has fewer than f swaps"
-    pub floor-below : {f : ℕ} {u : List ℕ} → floor may letter M k s w B ≡ some f → Reachable may w u → Accepted M letter u → f ≤ swaps_of u
-    floor-below {f} {u} e r a = let n = fewest_swaps_some r a in omega (arith, floor-le n.1 e, fewest_swaps_le n.1 r a)
+    pub floor_below : {f : ℕ} {u : List ℕ} → floor may letter M k s w B ≡ some f → Reachable may w u → Accepted M letter u → f ≤ swaps_of u
+    floor_below {f} {u} e r a = let n = fewest_swaps_some r a in omega (arith, floor_le n.1 e, fewest_swaps_le n.1 r a)
 
     -- "If B covers all pairs, the order has c = f and is the earliest such in letter order"
     pub covered : {v : List ℕ} → T (covers may letter M k s w B) → closest_order may letter M k s w B ≡ some v
@@ -125,14 +125,14 @@ module _ (may : ℕ → ℕ → Bool) (letter : ℕ → ℕ) (M : Automaton) (L 
             → (floor may letter M k s w B ≡ some (swaps letter w v)) × EarliestWith may letter M w (swaps letter w v) v
         go none q = absurd (none-ne-some v (sym (rw (is_true (covers may letter M k s w B) h, q, closest_order)) ∙ e))
         go (some n) q =
-            let z = order_with_at (sym (covered-order h q) ∙ e) in
+            let z = order_with_at (sym (covered_order h q) ∙ e) in
             let c : swaps letter w v ≡ n = z.with_swaps in
-            (floor-is q ∙ ap some (ap (smaller n) nothing ∙ sym c), subst (λ m. EarliestWith may letter M w m v) (sym c) z)
+            (floor_is q ∙ ap some (ap (smaller n) nothing ∙ sym c), subst (λ m. EarliestWith may letter M w m v) (sym c) z)
 
     -- the order is always reachable and accepted
-    pub closest-at : {v : List ℕ} → closest_order may letter M k s w B ≡ some v
+    pub closest_at : {v : List ℕ} → closest_order may letter M k s w B ≡ some v
         → (u : List ℕ) × (map letter u ≡ v) × Reachable may w u × Accepted M letter u
-    closest-at {v} e = go (covers may letter M k s w B) refl
+    closest_at {v} e = go (covers may letter M k s w B) refl
       where
         go : (b : Bool) → covers may letter M k s w B ≡ b → (u : List ℕ) × (map letter u ≡ v) × Reachable may w u × Accepted M letter u
         go true q = let z = (covered (rw q tt) e).1 in (z.order, z.letters, z.reached, z.accepted)
@@ -140,14 +140,14 @@ module _ (may : ℕ → ℕ → Bool) (letter : ℕ → ℕ) (M : Automaton) (L 
             let z = accepted_order_at may letter M L (sym (not_covered (rw q tt)) ∙ e) in (z.order, z.letters, z.reached, z.accepted)
 
     -- f, the fewest swaps, and c, the swaps of the order given, in this order
-    pub floor-fewest-told : {n f : ℕ} {v : List ℕ} → fewest_swaps may letter M w ≡ some n → floor may letter M k s w B ≡ some f
+    pub floor_fewest_told : {n f : ℕ} {v : List ℕ} → fewest_swaps may letter M w ≡ some n → floor may letter M k s w B ≡ some f
         → closest_order may letter M k s w B ≡ some v → (f ≤ n) × (n ≤ swaps letter w v)
-    floor-fewest-told {n} {v = v} e q o =
-        let z = closest-at o in (floor-le e q, subst (λ y. n ≤ swaps letter w y) z.1 (fewest_swaps_le e z.2 z.3))
+    floor_fewest_told {n} {v = v} e q o =
+        let z = closest_at o in (floor_le e q, subst (λ y. n ≤ swaps letter w y) z.1 (fewest_swaps_le e z.2 z.3))
 
     -- "Verdict 0 remains as it is": an order is given exactly where the judge gives one
-    pub same-verdict : (closest_order may letter M k s w B ≡ none) ↔ (accepted_order may letter M w ≡ none)
-    same-verdict = (λ e. go (accepted_order may letter M w) refl e, λ e. back (closest_order may letter M k s w B) refl e)
+    pub same_verdict : (closest_order may letter M k s w B ≡ none) ↔ (accepted_order may letter M w ≡ none)
+    same_verdict = (λ e. go (accepted_order may letter M w) refl e, λ e. back (closest_order may letter M k s w B) refl e)
       where
         go : (o : Option (List ℕ)) → accepted_order may letter M w ≡ o → closest_order may letter M k s w B ≡ none → accepted_order may letter M w ≡ none
         go none q e = q
@@ -161,13 +161,13 @@ module _ (may : ℕ → ℕ → Bool) (letter : ℕ → ℕ) (M : Automaton) (L 
                 let n = fewest_swaps_some z.reached z.accepted in
                 let u = fewest_swaps_at n.1 in
                 let y = order_with_some u.1 u.2 u.3 in
-                some-ne-none y.0 (sym y.1 ∙ sym (covered-order (rw h tt) n.1) ∙ e)
+                some-ne-none y.0 (sym y.1 ∙ sym (covered_order (rw h tt) n.1) ∙ e)
             split false h = some-ne-none v (sym q ∙ sym (not_covered (rw h tt)) ∙ e)
 
         back : (o : Option (List ℕ)) → closest_order may letter M k s w B ≡ o → accepted_order may letter M w ≡ none → closest_order may letter M k s w B ≡ none
         back none q e = q
-        back (some v) q e = let z = closest-at q in absurd (accepted_order_not may letter M L e z.2 z.3)
+        back (some v) q e = let z = closest_at q in absurd (accepted_order_not may letter M L e z.2 z.3)
 
     -- and a floor too
-    pub floor-some : {v : List ℕ} → closest_order may letter M k s w B ≡ some v → (f : ℕ) × (floor may letter M k s w B ≡ some f)
-    floor-some e = let z = closest-at e in let n = fewest_swaps_some z.2 z.3 in (_, floor-is n.1)
+    pub floor_some : {v : List ℕ} → closest_order may letter M k s w B ≡ some v → (f : ℕ) × (floor may letter M k s w B ≡ some f)
+    floor_some e = let z = closest_at e in let n = fewest_swaps_some z.2 z.3 in (_, floor_is n.1)

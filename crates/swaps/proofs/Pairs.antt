@@ -15,7 +15,7 @@ use Rattle.profile.specs.Traces.{bit, orders}
 use Rattle.profile.proofs.Lists.{filter_at, filter_of, is_true}
 use Rattle.profile.proofs.Traces.{Order, Pick, Takes, done, first, mem_of_order, next, order_of_mem, takes_last, takes_trans}
 use Rattle.theory.proofs.Automata.{Lawful, leads_append, leads_split, run_at, run_of}
-use Rattle.theory.proofs.Prefixes.{count_append, count_of_prefix, count_order, count_takes, more-of-pick, prefix-of-takes, takes_of_prefix}
+use Rattle.theory.proofs.Prefixes.{count_append, count_of_prefix, count_order, count_takes, more_of_pick, prefix_of_takes, takes_of_prefix}
 use Rattle.swaps.specs.Swaps.{step_cost, swaps, taking}
 use Rattle.swaps.specs.Closest.{fewest, pair_swaps}
 use Rattle.swaps.proofs.Costs.{swaps_taking}
@@ -45,7 +45,7 @@ module _ (may : ℕ → ℕ → Bool) (letter : ℕ → ℕ) (M : Automaton) (L 
   taking_rest [] p e = refl
   taking_rest (a ∷ l) {c} p e =
       let k : Pick may (unmarked letter w c) a l = rw e first in
-      let m = more-of-pick may letter distinct p k in
+      let m = more_of_pick may letter distinct p k in
       let z : step_cost letter w c (letter a) ≡ 0 = rw (e, is_true (eqb (letter a) (letter a)) (eqb_refl (letter a)), first_place) in
       omega (arith, z, taking_rest l m.0 m.1)
 
@@ -119,7 +119,7 @@ module _ (may : ℕ → ℕ → Bool) (letter : ℕ → ℕ) (M : Automaton) (L 
       let f = pair_at p h e in
       let u = f.0 in
       let t = takes_trans may (takes_of_prefix may letter h f.1) (next k done) in
-      let o = prefix-of-takes may letter distinct t in
+      let o = prefix_of_takes may letter distinct t in
       let c : count letter u ≡ d = sym (count_order may letter f.1) ∙ count_of_prefix may letter h in
       let g : count letter (u ++ (a ∷ [])) ≡ more d (letter a) = fun_ext (λ y. omega (arith, count_append may letter u (a ∷ []) y, ap (λ g. g y) c)) in
       let b = run_at M L letter M.start u p f.2 in
@@ -143,7 +143,7 @@ module _ (may : ℕ → ℕ → Bool) (letter : ℕ → ℕ) (M : Automaton) (L 
           let z = takes_last may (takes_of_prefix may letter p o) in
           let v = z.0 in
           let a = z.2 in
-          let k = prefix-of-takes may letter distinct z.4 in
+          let k = prefix_of_takes may letter distinct z.4 in
           let y = run_at M L letter M.start (b ∷ u) q h in
           let m = leads_split M L letter v (subst (λ l. PathOf M letter y.0 l q) z.3 y.2) in
           let x = pair_of {c = count letter v} {u = v} m.0 k.0 k.2 (run_of M L letter M.start y.1 m.1) in
@@ -178,6 +178,6 @@ module _ (may : ℕ → ℕ → Bool) (letter : ℕ → ℕ) (M : Automaton) (L 
   pub pair_none : (q : ℕ) → T (bit M.start q) → pair_swaps may letter M w (λ x. 0) q ≡ some 0
   pair_none q h =
       let t : Takes may w [] w = done in
-      let k = prefix-of-takes may letter distinct t in
+      let k = prefix_of_takes may letter distinct t in
       let x = pair_of {c = λ x. 0} {u = []} q k.0 k.2 h in
       x.1 ∙ ap some (omega (arith, x.2))

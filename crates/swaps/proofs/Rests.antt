@@ -15,7 +15,7 @@ use Rattle.profile.specs.Traces.{bit, orders}
 use Rattle.profile.proofs.Lists.{filter_at, filter_of}
 use Rattle.profile.proofs.Traces.{Order, Pick, done, mem_of_order, next, order_of_mem, order_of_reach, reach_of_order, takes_refl}
 use Rattle.theory.proofs.Automata.{Lawful, back_at_leads, back_of_leads, run_at, run_of}
-use Rattle.theory.proofs.Prefixes.{count_order, front_all, front-marked, more-of-pick, prefix-of-takes}
+use Rattle.theory.proofs.Prefixes.{count_order, front_all, front_marked, more_of_pick, prefix_of_takes}
 use Rattle.swaps.specs.Swaps.{step_cost, swaps, taking}
 use Rattle.swaps.specs.Closest.{fewest, fewest_swaps, pair_swaps, rest_swaps}
 use Rattle.swaps.proofs.Costs.{swaps_taking}
@@ -52,7 +52,7 @@ module _ (may : ℕ → ℕ → Bool) (letter : ℕ → ℕ) (M : Automaton) (L 
       → (n : ℕ) × (rest_swaps may letter M w c q ≡ some n) × (n ≤ step_cost letter w c (letter a) + m)
   rest_next {c} {a} {m} p q h k e go =
       let f = rest_at (more c (letter a)) p e in
-      let i = (more-of-pick may letter distinct h k).1 in
+      let i = (more_of_pick may letter distinct h k).1 in
       let y = rest_of c (next k (subst (λ l. Order may l f.0) i f.2)) (goes go f.3) f.4 in
       (y.0, y.1, omega (arith, y.2, f.5))
 
@@ -69,7 +69,7 @@ module _ (may : ℕ → ℕ → Bool) (letter : ℕ → ℕ) (M : Automaton) (L 
       go r i g [] done stop z t = inl (i, sym t, z)
       go r i g (a ∷ v) (next {r = r'} k o) (goes {r = p} move l) z t =
           let k' : Pick may (unmarked letter w c) a r' = rw i k in
-          let m = more-of-pick may letter distinct h k' in
+          let m = more_of_pick may letter distinct h k' in
           let y = rest_of (more c (letter a)) (rw m.1 o) l z in
           let j = rest_next p q h k' y.1 move in
           let same : j.0 ≡ n = some-injective _ _ (sym j.1 ∙ e) in
@@ -88,10 +88,10 @@ module _ (may : ℕ → ℕ → Bool) (letter : ℕ → ℕ) (M : Automaton) (L 
   order_swaps {v} o = swaps_taking may letter w (map letter v) (λ x. omega (arith, count_letters letter v x, ap (λ g. g x) (count_order may letter o)))
 
   whole : (marked letter w (count letter w) ≡ w) × (unmarked letter w (count letter w) ≡ [])
-  whole = front-marked may letter distinct (front_all may w)
+  whole = front_marked may letter distinct (front_all may w)
 
   pub whole_prefix : IsPrefix may letter w (count letter w)
-  whole_prefix = (prefix-of-takes may letter distinct (takes_refl may w)).0
+  whole_prefix = (prefix_of_takes may letter distinct (takes_refl may w)).0
 
   -- it is the least cost of a final state where all events are taken
   pub whole_of : {m : ℕ} (q : ℕ) → T (bit M.final q) → pair_swaps may letter M w (count letter w) q ≡ some m

@@ -15,9 +15,9 @@ use Rattle.profile.specs.Traces.{bit, letters_below, orders}
 use Rattle.profile.proofs.Lists.{any_at, any_of, both, filter_agree, fst_of, lt_or_le, snd_of}
 use Rattle.profile.proofs.Sets.{meets_at, meets_of}
 use Rattle.profile.proofs.Traces.{Order, Pick, Takes, done, mem_of_order, next, order_of_mem, order_of_reach, reach_of_order, takes_trans}
-use Rattle.theory.proofs.Automata.{Lawful, leads_append, run_at, run_of, unmarked-none}
-use Rattle.theory.proofs.Earliest.{Greedy, end, good, greedy-first, take}
-use Rattle.theory.proofs.Prefixes.{addable-at, addable-of, all-of-pick, count_append, more-of-pick}
+use Rattle.theory.proofs.Automata.{Lawful, leads_append, run_at, run_of, unmarked_none}
+use Rattle.theory.proofs.Earliest.{Greedy, end, good, greedy_first, take}
+use Rattle.theory.proofs.Prefixes.{addable_at, addable_of, all_of_pick, count_append, more_of_pick}
 use Rattle.swaps.specs.Swaps.{step_cost, swaps, taking}
 use Rattle.swaps.specs.Closest.{fewest_swaps, order_with, rest_swaps}
 use Rattle.swaps.proofs.Floors.{fewest_swaps_at, fewest_swaps_le}
@@ -64,7 +64,7 @@ module _ (may : ℕ → ℕ → Bool) (letter : ℕ → ℕ) (M : Automaton) (L 
   pub walk_order : {v : List ℕ} {t : Read} → T (goes_on unread w) → Walk unread w v t [] → order_with may letter M w n ≡ some (map letter v)
   walk_order {v} h g =
       ap (λ l. earliest (map (map letter) l)) (filter_agree (λ u. accepted? M letter u && eqb (swaps letter w (map letter u)) n) (fine unread) (orders may w) same)
-      ∙ greedy-first may letter read_on read_all goes_on distinct goes_of goes_at h g
+      ∙ greedy_first may letter read_on read_all goes_on distinct goes_of goes_at h g
     where
       same : (u : List ℕ) → Mem u (orders may w) → (accepted? M letter u && eqb (swaps letter w (map letter u)) n) ≡ fine unread u
       same u m =
@@ -81,8 +81,8 @@ module _ (may : ℕ → ℕ → Bool) (letter : ℕ → ℕ) (M : Automaton) (L 
     pub states : run M letter M.start u ≡ s.2
 
   module _ (few : fewest_swaps may letter M w ≡ some n) where
-    pub goes-rest : (s : Read) → T (goes_on s (unmarked letter w s.0)) → (q m : ℕ) × T (bit s.2 q) × (rest_swaps may letter M w s.0 q ≡ some m) × (s.1 + m ≤ n)
-    goes-rest s h =
+    pub goes_rest : (s : Read) → T (goes_on s (unmarked letter w s.0)) → (q m : ℕ) × T (bit s.2 q) × (rest_swaps may letter M w s.0 q ≡ some m) × (s.1 + m ≤ n)
+    goes_rest s h =
         let g = goes_at s (unmarked letter w s.0) h in
         let v = g.0 in
         let f = subst T (fine_is v s) g.2 in
@@ -152,7 +152,7 @@ module _ (may : ℕ → ℕ → Bool) (letter : ℕ → ℕ) (M : Automaton) (L 
         → (a : ℕ) × (letter a ≡ x) × Walk s (unmarked letter w s.0) (a ∷ []) (read_on s x) (unmarked letter w (more s.0 x)) × ReadBy (u ++ (a ∷ [])) (read_on s x)
         × IsPrefix may letter w (more s.0 x)
     walk_step {u} s x p by t fits least =
-        let k = addable-at may letter distinct p t in
+        let k = addable_at may letter distinct p t in
         let a = k.1 in
         let i : Pick may (unmarked letter w s.0) a (unmarked letter w (more s.0 (letter a))) =
         subst (λ y. Pick may (unmarked letter w s.0) a (unmarked letter w (more s.0 y))) (sym k.2) k.3 in
@@ -166,18 +166,18 @@ module _ (may : ℕ → ℕ → Bool) (letter : ℕ → ℕ) (M : Automaton) (L 
           k.0,
         )
       where
-        smallest : (b : ℕ) (y : List ℕ) → Pick may (unmarked letter w s.0) b y → T (goes_on (read_on s (letter b)) y) → letter (addable-at may letter distinct p t).1 ≤ letter b
+        smallest : (b : ℕ) (y : List ℕ) → Pick may (unmarked letter w s.0) b y → T (goes_on (read_on s (letter b)) y) → letter (addable_at may letter distinct p t).1 ≤ letter b
         smallest b y j l = ⊎_elim
             (λ lt.
-            let m = more-of-pick may letter distinct p j in
-            let f = goes-rest (read_on s (letter b)) (subst (λ z. T (goes_on (read_on s (letter b)) z)) (sym m.1) l) in
-            absurd (least (letter b) lt (addable-of may letter distinct s.0 (letter b) m.0) f))
-            (λ le. subst (λ z. z ≤ letter b) (sym (addable-at may letter distinct p t).2) le) (lt_or_le (letter b) x)
+            let m = more_of_pick may letter distinct p j in
+            let f = goes_rest (read_on s (letter b)) (subst (λ z. T (goes_on (read_on s (letter b)) z)) (sym m.1) l) in
+            absurd (least (letter b) lt (addable_of may letter distinct s.0 (letter b) m.0) f))
+            (λ le. subst (λ z. z ≤ letter b) (sym (addable_at may letter distinct p t).2) le) (lt_or_le (letter b) x)
 
     -- some letter fits as long as something is left
-    pub walk-some : (k : ℕ) → T (letters_below letter k w) → (s : Read) → IsPrefix may letter w s.0 → (unmarked letter w s.0 ≡ [] → ⊥)
+    pub walk_some : (k : ℕ) → T (letters_below letter k w) → (s : Read) → IsPrefix may letter w s.0 → (unmarked letter w s.0 ≡ [] → ⊥)
         → T (goes_on s (unmarked letter w s.0)) → (x : ℕ) × (x < k) × T (addable? may letter w s.0 x) × Fits s x
-    walk-some k letters s p ne h = go g.0 g.1 g.2
+    walk_some k letters s p ne h = go g.0 g.1 g.2
       where
         g : (v : List ℕ) × Order may (unmarked letter w s.0) v × T (fine s v)
         g = goes_at s (unmarked letter w s.0) h
@@ -189,17 +189,17 @@ module _ (may : ℕ → ℕ → Bool) (letter : ℕ → ℕ) (M : Automaton) (L 
             first_of r e [] done f = absurd (ne e)
             first_of r e (a ∷ v) (next {r = r'} i o) f =
                 let i' : Pick may (unmarked letter w s.0) a r' = rw e i in
-                let m = more-of-pick may letter distinct p i' in
+                let m = more_of_pick may letter distinct p i' in
                 let l = goes_of (read_on s (letter a)) (unmarked letter w (more s.0 (letter a))) v (subst (λ z. Order may z v) (sym m.1) o) f in (
                   letter a,
-                  ltb→lt (letter a) k (all-of-pick may letter distinct (λ a. ltb (letter a) k) p i' letters),
-                  addable-of may letter distinct s.0 (letter a) m.0,
-                  goes-rest (read_on s (letter a)) l,
+                  ltb→lt (letter a) k (all_of_pick may letter distinct (λ a. ltb (letter a) k) p i' letters),
+                  addable_of may letter distinct s.0 (letter a) m.0,
+                  goes_rest (read_on s (letter a)) l,
                 )
 
     -- the walk begins
-    pub walk-starts : T (goes_on unread w) × ReadBy [] unread
-    walk-starts =
+    pub walk_starts : T (goes_on unread w) × ReadBy [] unread
+    walk_starts =
         let u = fewest_swaps_at may letter M L w few in
         let o = order_of_reach may u.1 in
         let v = u.0 in
@@ -207,5 +207,5 @@ module _ (may : ℕ → ℕ → Bool) (letter : ℕ → ℕ) (M : Automaton) (L 
         let t : 0 + taking letter w (λ x. 0) (map letter v) ≡ n = omega (arith, u.3, order_swaps may letter M L w distinct o) in (
           goes_of unread w v o (subst T (sym (fine_is v unread)) (both (meets (run M letter M.start v) M.final) (eqb (0 + taking letter w (λ x. 0) (map letter v)) n) b
               (subst (λ i. T (eqb i n)) (sym t) (eqb_refl n)))),
-          record { taken = subst (λ r. Takes may w [] r) (sym (unmarked-none may letter M L w distinct)) done; counts = refl; cost = refl; states = refl },
+          record { taken = subst (λ r. Takes may w [] r) (sym (unmarked_none may letter M L w distinct)) done; counts = refl; cost = refl; states = refl },
         )

@@ -7,7 +7,7 @@ use Prim.Native.Nat.{ℕ, ◌+◌, ◌-◌, ◌*◌, ◌≤◌}
 use native.Mathlib.Omega.{arith}
 use borrow.Author.Tests.{lt-ltb, le-ltb}
 use lib.ListN.{drop, length, length-append, length-drop, take, take-append-drop}
-use lib.Seq.{drop-append-add, drop-append-le, drop_at, drop_drop, length-take-le}
+use lib.Seq.{drop-append-add, drop-append-le, drop_at, drop-drop, length-take-le}
 use Rattle.profile.specs.Automata.{Profile}
 use Rattle.profile.specs.Rules.{Rules, plain, prefixes_by}
 use Rattle.profile.specs.Tables.{capacity, layout, record_length}
@@ -47,7 +47,7 @@ pub spared_front : (a t : List ℕ) (m : ℕ) → length a ≡ m → m ≤ usabl
 spared_front a t m l h = record {
   long = long;
   rest = ap (λ n. drop (usable n) (a ++ drop m t)) long ∙ ap (λ n. drop n (a ++ drop m t)) split ∙ drop-append-add a (drop m t) (usable (length t) - m)
-      ∙ drop_drop (usable (length t) - m) m t ∙ ap (λ n. drop n t) joined;
+      ∙ drop-drop (usable (length t) - m) m t ∙ ap (λ n. drop n t) joined;
 }
   where
     long : length (a ++ drop m t) ≡ length t

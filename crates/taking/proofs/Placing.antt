@@ -15,15 +15,15 @@ use Rattle.profile.specs.Automata.{Profile, automaton, forward_step, union}
 use Rattle.profile.specs.Prefixes.{IsPrefix, at, forward, less, one}
 use Rattle.profile.specs.Tables.{layout, packed}
 use Rattle.profile.proofs.Lists.{below_at, filter_no, filter_yes, lt_or_le, mem_getd, mem_place, test}
-use Rattle.theory.proofs.Automata.{forward-eq}
+use Rattle.theory.proofs.Automata.{forward_eq}
 use Rattle.theory.proofs.Counting.{prefixes_of}
 use Rattle.theory.proofs.Levels.{at_bump, debump}
-use Rattle.theory.proofs.Prefixes.{one_cases, one_same, removable-at, removable-of, removable?}
+use Rattle.theory.proofs.Prefixes.{one_cases, one_same, removable_at, removable_of, removable?}
 use Rattle.theory.proofs.Profiles.{distinct, lawful}
 use Rattle.theory.proofs.Refusals.{GoodLog, GoodProfile}
 use Rattle.records.specs.Records.{counts_at, forward_at}
 use Rattle.arrival.specs.Arrival.{arrivals, newcomers, with_one, written}
-use Rattle.arrival.proofs.Arrivals.{arrivals-listed}
+use Rattle.arrival.proofs.Arrivals.{arrivals_listed}
 use Rattle.arrival.proofs.Places.{Right, less_before, less_between, less_kept, less_new, new_at, nowhere, old_at, there}
 use Rattle.arrival.proofs.Tables.{arrivals_more}
 use Rattle.newcomers.specs.Newcomers.{PlaceFor, PlaceTold, Scanned, absent, count_in, found, gives?, led_at, led_from}
@@ -80,8 +80,8 @@ module _ (p : Profile) (g : GoodProfile p) (w : List ℕ) (a : ℕ) (log : GoodL
         (x, lx, ap (λ n. get_or L n []) e ∙ new_at may apart p.k w a log.letters x)
 
     -- what gives it by another letter is new
-    gives-new : (b j : ℕ) → b < p.k → (b ≡ a → ⊥) → with_one (get_or L j []) b ≡ c → length old ≤ j
-    gives-new b j lb ne q = ⊎_elim
+    gives_new : (b j : ℕ) → b < p.k → (b ≡ a → ⊥) → with_one (get_or L j []) b ≡ c → length old ≤ j
+    gives_new b j lb ne q = ⊎_elim
         (λ lt. absurd (less_new may apart p.k w a log.letters b fresh.0 j lb ne fresh.1 lt
         (ap (λ v. with_one v b) (sym (old_at may apart p.k w a log.letters j lt)) ∙ q ∙ fresh.2)))
         (λ le. le) (lt_or_le j (length old))
@@ -97,8 +97,8 @@ module _ (p : Profile) (g : GoodProfile p) (w : List ℕ) (a : ℕ) (log : GoodL
       field : count_in (packed layout c) b ≡ at c b
       field = field_in p g W log c (mem_getd L i [] upto) b lb
 
-      field-before : count_in (counts_at t (i - 1)) b ≡ at (get_or L (i - 1) []) b
-      field-before = ap (λ u. count_in u b) (counts_of p g W log t i (omega (arith, upto)) holds (i - 1) (omega (arith, behind)))
+      field_before : count_in (counts_at t (i - 1)) b ≡ at (get_or L (i - 1) []) b
+      field_before = ap (λ u. count_in u b) (counts_of p g W log t i (omega (arith, upto)) holds (i - 1) (omega (arith, behind)))
           ∙ field_in p g W log (get_or L (i - 1) []) (mem_getd L (i - 1) [] (omega (arith, upto))) b lb
 
       -- one that gives c stands no further than record i − 1
@@ -106,14 +106,14 @@ module _ (p : Profile) (g : GoodProfile p) (w : List ℕ) (a : ℕ) (log : GoodL
           → (at (get_or L (i - 1) []) b ≤ at c b) × (at (get_or L (i - 1) []) b ≡ at c b → (y : ℕ) × (y < length L) × (with_one (get_or L y []) b ≡ get_or L (i - 1) []))
       between j lj e = less_between may apart p.k W log.letters b (i - 1) j i lb upto (omega (arith, less_before may apart p.k W log.letters b i j lb upto lj e)) (omega (arith, behind)) e
 
-      told-right : PlaceTold t (length old) i b (packed layout c) before v → Right L b i v
-      told-right h = ⊎_elim
-          (λ lt. scanned lb (h.rises (omega (arith, lt, field, field-before))) (λ j u e. gives-new b j lb ne e))
+      told_right : PlaceTold t (length old) i b (packed layout c) before v → Right L b i v
+      told_right h = ⊎_elim
+          (λ lt. scanned lb (h.rises (omega (arith, lt, field, field_before))) (λ j u e. gives_new b j lb ne e))
           (λ le. ⊎_elim
-          (λ lt. subst (Right L b i) (sym (h.falls (omega (arith, lt, field, field-before)))) (nowhere (λ j lj e. omega (arith, (between j lj e).0, lt))))
+          (λ lt. subst (Right L b i) (sym (h.falls (omega (arith, lt, field, field_before)))) (nowhere (λ j lj e. omega (arith, (between j lj e).0, lt))))
           (λ ge.
           let s : at (get_or L (i - 1) []) b ≡ at c b = omega (arith, le, ge) in
-          let q : count_in (counts_at t (i - 1)) b ≡ count_in (packed layout c) b = field-before ∙ s ∙ sym field in
+          let q : count_in (counts_at t (i - 1)) b ≡ count_in (packed layout c) b = field_before ∙ s ∙ sym field in
           ⊎_elim
           (λ o.
           let n = some_told right o in
@@ -126,28 +126,28 @@ module _ (p : Profile) (g : GoodProfile p) (w : List ℕ) (a : ℕ) (log : GoodL
           (lt_or_le (at (get_or L (i - 1) []) b) (at c b))
 
     -- the place of a letter is right, where those of record i − 1 are
-    pub place-right : {r b before v : ℕ} → b < p.k → r < length old → with_one (get_or old r []) a ≡ c → (length old < i → Right L b (i - 1) before)
+    pub place_right : {r b before v : ℕ} → b < p.k → r < length old → with_one (get_or old r []) a ≡ c → (length old < i → Right L b (i - 1) before)
         → PlaceFor t (length old) i r a b (packed layout c) before v → Right L b i v
-    place-right {r} {b} {before} {v} lb lr q right h = ⊎_elim
+    place_right {r} {b} {before} {v} lb lr q right h = ⊎_elim
         (λ e.
         let z : v ≡ suc r = omega (arith, h.own e) in
         subst (Right L b i) (sym z) (there r (omega (arith, lr, from)) (ap₂ with_one (old_at may apart p.k w a log.letters r lr) e ∙ q)))
         (λ o.
         let ne : b ≡ a → ⊥ = λ e. omega (arith, o, one_same a, ap (λ x. one x a) e) in
         ⊎_elim
-        (λ lt. told-right b before v lb ne lt (right lt) (h.other ne (λ e. omega (arith, e, lt))))
+        (λ lt. told_right b before v lb ne lt (right lt) (h.other ne (λ e. omega (arith, e, lt))))
         (λ le.
         let e : i ≡ length old = omega (arith, le, from) in
-        subst (Right L b i) (sym (h.begins ne e)) (nowhere (λ j lj q. omega (arith, gives-new b j lb ne q, e, less_before may apart p.k W log.letters b i j lb upto lj q))))
+        subst (Right L b i) (sym (h.begins ne e)) (nowhere (λ j lj q. omega (arith, gives_new b j lb ne q, e, less_before may apart p.k W log.letters b i j lb upto lj q))))
         (lt_or_le (length old) i))
         (one_cases b a)
 
     -- so the forward set that they lead to is that of the prefix
-    pub forward-right : (places : List ℕ) → ((b : ℕ) → b < p.k → Right L b i (get_or places b 0)) → (at c ≡ (λ x. 0) → ⊥)
+    pub forward_right : (places : List ℕ) → ((b : ℕ) → b < p.k → Right L b i (get_or places b 0)) → (at c ≡ (λ x. 0) → ⊥)
         → led_from p.k p.s p.moves t places ≡ forward may (λ x. x) (automaton p) W (at c)
-    forward-right places right some = union_passed itself (λ b. led_at p.k p.s p.moves t (get_or places b 0) b) passed (below p.k)
+    forward_right places right some = union_passed itself (λ b. led_at p.k p.s p.moves t (get_or places b 0) b) passed (below p.k)
         (λ b m y. yes b (below_at p.k b m) (right b (below_at p.k b m)) y) (λ b m n. no_one b (below_at p.k b m) (right b (below_at p.k b m)) n)
-        ∙ sym (forward-eq may (λ x. x) (automaton p) (lawful p) W apart p.k log.letters (at c) (prefix_in p g W log c (mem_getd L i [] upto)).1 some)
+        ∙ sym (forward_eq may (λ x. x) (automaton p) (lawful p) W apart p.k log.letters (at c) (prefix_in p g W log c (mem_getd L i [] upto)).1 some)
       where
         passed : ℕ → Bool
         passed = removable? may (λ x. x) W (at c)
@@ -158,7 +158,7 @@ module _ (p : Profile) (g : GoodProfile p) (w : List ℕ) (a : ℕ) (log : GoodL
         removed : (b j : ℕ) → b < p.k → j < i → with_one (get_or L j []) b ≡ c → T (passed b) × (less (at c) b ≡ at (get_or L j []))
         removed b j lb lj e =
             let q = prefix_in p g W log (get_or L j []) (mem_getd L j [] (omega (arith, lj, upto))) in
-            removable-of may (λ x. x) apart (at c) b q.1 (ap at (sym e) ∙ at_bump (get_or L j []) b (omega (arith, q.0, lb)))
+            removable_of may (λ x. x) apart (at c) b q.1 (ap at (sym e) ∙ at_bump (get_or L j []) b (omega (arith, q.0, lb)))
 
         yes : (b : ℕ) → b < p.k → {v : ℕ} → Right L b i v → T (passed b) → led_at p.k p.s p.moves t v b ≡ itself b
         yes b lb {v} x y = ⊎_elim
@@ -170,9 +170,9 @@ module _ (p : Profile) (g : GoodProfile p) (w : List ℕ) (a : ℕ) (log : GoodL
             (ap (forward_at t) z ∙ forward_of p g W log t i (omega (arith, upto)) holds n.0 n.2 ∙ ap (forward may (λ x. x) (automaton p) W) (sym (removed b n.0 lb n.2 n.3).1)))
             (λ o.
             let q = prefix_in p g W log c (mem_getd L i [] upto) in
-            let n = removable-at may (λ x. x) apart q.1 y in
+            let n = removable_at may (λ x. x) apart q.1 y in
             let d = debump c b (less (at c) b) (omega (arith, q.0, lb)) (sym n.4) in
-            let m = mem_place [] ((arrivals-listed may p.k apart W log.letters).onto d.0 (prefixes_of may (λ x. x) p.k W d.0 (d.1 ∙ q.0) (subst (IsPrefix may (λ x. x) W) (sym d.2) n.0))) in
+            let m = mem_place [] ((arrivals_listed may p.k apart W log.letters).onto d.0 (prefixes_of may (λ x. x) p.k W d.0 (d.1 ∙ q.0) (subst (IsPrefix may (λ x. x) W) (sym d.2) n.0))) in
             absurd (none_told x (omega (arith, o)) m.0 m.1 (ap (λ u. with_one u b) m.2 ∙ d.3)))
             (lt_or_le 0 v)
 

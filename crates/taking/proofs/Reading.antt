@@ -25,7 +25,7 @@ use Rattle.counts.specs.Counts.{add_count}
 use Rattle.counts.proofs.Packed.{add_packed, same_packed}
 use Rattle.records.specs.Records.{counts_at, forward_at}
 use Rattle.arrival.specs.Arrival.{arrivals, joins?, with_one, written}
-use Rattle.arrival.proofs.Arrivals.{all_at_letter, all_of_log, arrivals_full, arrivals-listed}
+use Rattle.arrival.proofs.Arrivals.{all_at_letter, all_of_log, arrivals_full, arrivals_listed}
 use Rattle.arrival.proofs.Inner.{one_more_at}
 use Rattle.newcomers.specs.Newcomers.{allows?, count_in, gives?, joins_at?}
 use Rattle.running.specs.Running.{Runs}
@@ -63,7 +63,7 @@ module _ (p : Profile) (g : GoodProfile p) (w : List ℕ) (log : GoodLog p.k w) 
   -- k counts, none above the longest log
   pub prefix_in : (c : List ℕ) → Mem c listed → (length c ≡ p.k) × IsPrefix (independent p.masks) (λ a. a) w (at c)
   prefix_in c m = prefixes_at (independent p.masks) (λ a. a) p.k w c log.letters
-      ((arrivals-listed (independent p.masks) p.k (distinct p.masks g.relation.own) w log.letters).into c m)
+      ((arrivals_listed (independent p.masks) p.k (distinct p.masks g.relation.own) w log.letters).into c m)
 
   low_in : (c : List ℕ) → Mem c listed → (x : ℕ) → at c x ≤ longest
   low_in c m x = omega (arith, (prefix_in c m).1.fits x, count_le (independent p.masks) (λ a. a) w x, log.short)

@@ -74,24 +74,24 @@ module _ (p : Profile) (a : ℕ) (r : Running) (t : List ℕ) where
   took_refused {r'} room q z h = subst (Took p a r r' room t t) (sym z) (refl, q, refl, h)
 
   module _ (room : ℕ) (place : room ≡ capacity layout (length t)) (e : none ≡ lowest (record_refusals p r a (length t))) where
-    last-refusal : (w : List ℕ) (d : Bool) → full_table (p_of p (w ++ (a ∷ []))) (length t) ≡ d → lowest (event_refusals p w r a (length t)) ≡ lowest ((d, FullTable) ∷ [])
-    last-refusal w d q = lowest_append (record_refusals p r a (length t)) ((full_table (p_of p (w ++ (a ∷ []))) (length t), FullTable) ∷ []) (sym e) ∙ ap (λ z. lowest ((z, FullTable) ∷ [])) q
+    last_refusal : (w : List ℕ) (d : Bool) → full_table (p_of p (w ++ (a ∷ []))) (length t) ≡ d → lowest (event_refusals p w r a (length t)) ≡ lowest ((d, FullTable) ∷ [])
+    last_refusal w d q = lowest_append (record_refusals p r a (length t)) ((full_table (p_of p (w ++ (a ∷ []))) (length t), FullTable) ∷ []) (sym e) ∙ ap (λ z. lowest ((z, FullTable) ∷ [])) q
 
     -- the records that are counted and put are those of the event
     module _ (counted : (w : List ℕ) → Runs p w r t → r.prefixes + new_records p a r t ≡ p_of p (w ++ (a ∷ [])))
         (written : (w : List ℕ) (t' : List ℕ) → Runs p w r t → 10 * p_of p (w ++ (a ∷ [])) ≤ length t → Brought p r.prefixes a t t' → t' ≡ event_table p w a t) where
-      pub step-took : (r' : Running) (t' : List ℕ) (s : Step) → Took p a r r' room t t' s → StepPromise p a r r' t t' s
-      step-took r' t' (NotTaken x) h = record {
+      pub step_took : (r' : Running) (t' : List ℕ) (s : Step) → Took p a r r' room t t' s → StepPromise p a r r' t t' s
+      step_took r' t' (NotTaken x) h = record {
         early = λ y q. absurd (none-ne-some _ (e ∙ q));
         unchanged = (h.1, h.2);
         refused = λ w g.
-            ap some h.0 ∙ sym (last-refusal w true (lt-ltb (capacity layout (length t)) (p_of p (w ++ (a ∷ []))) (omega (arith, h.3 (some_record p w g), counted w g, place))));
+            ap some h.0 ∙ sym (last_refusal w true (lt-ltb (capacity layout (length t)) (p_of p (w ++ (a ∷ []))) (omega (arith, h.3 (some_record p w g), counted w g, place))));
         left = λ w g. tt;
       }
-      step-took r' t' Taken h = record {
+      step_took r' t' Taken h = record {
         early = λ y q. absurd (none-ne-some _ (e ∙ q));
         unchanged = tt;
-        refused = λ w g. sym (last-refusal w false (le-ltb (capacity layout (length t)) (p_of p (w ++ (a ∷ []))) (omega (arith, h.1, counted w g, place))));
+        refused = λ w g. sym (last_refusal w false (le-ltb (capacity layout (length t)) (p_of p (w ++ (a ∷ []))) (omega (arith, h.1, counted w g, place))));
         left = λ w g. (
           h.2 ∙ ap₂ (λ x y. record { prefixes = x; taken = y }) (counted w g) (omega (arith, g.taken)),
           written w t' g (omega (arith, h.1, counted w g, place)) h.3,

@@ -19,7 +19,7 @@ use Rattle.arrival.proofs.Tables.{arrivals_more}
 use Rattle.running.proofs.Lending.{arrivals_are}
 use Rattle.newcomers.specs.Newcomers.{Brought, Tried, joins_at?}
 use Rattle.taking.proofs.Reading.{p_is, counts_are, indexed, joins_is}
-use Rattle.taking.proofs.Trying.{all-put}
+use Rattle.taking.proofs.Trying.{all_put}
 use Rattle.running.specs.Running.{p_of, Runs, event_table}
 use Rattle.running.specs.declared.Running.{Running}
 use Rattle.taking.specs.Taking.{new_records}
@@ -55,6 +55,6 @@ module _ (p : Profile) (a : ℕ) (low : a < p.k) {r : Running} {t : List ℕ} (s
   brought w t' h room b =
       let g = profile_at p h.sound in
       let n = p_is p w h in
-      all-put p g w a low (after w h) t h.keeps (omega (arith, room, arrivals_are p (w ++ (a ∷ [])) g (after w h).letters))
+      all_put p g w a low (after w h) t h.keeps (omega (arith, room, arrivals_are p (w ++ (a ∷ [])) g (after w h).letters))
       (λ j lt. ap₂ (λ m v. joins_at? (independent p.masks) p.k (counts_at t (m - 1)) a v) (sym n) (sym (counts_are p w h j lt)) ∙ joins_is p w h a j lt)
       (subst (λ m. Tried p m a t m b.behind t' b.places) n b.tried)

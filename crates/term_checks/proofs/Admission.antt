@@ -31,28 +31,28 @@ module _ (p : Profile) (w days terms : List ℕ) (n : ℕ) where
   profile_first e = sym (lowest_first (profile_refusals p) (log_refusals p.k w ++ dated_nine) e)
 
   module _ (good : lowest (profile_refusals p) ≡ none) where
-    behind-profile : lowest (dated_admission p w days terms n) ≡ lowest (log_refusals p.k w ++ dated_nine)
-    behind-profile = lowest_append (profile_refusals p) (log_refusals p.k w ++ dated_nine) good
+    behind_profile : lowest (dated_admission p w days terms n) ≡ lowest (log_refusals p.k w ++ dated_nine)
+    behind_profile = lowest_append (profile_refusals p) (log_refusals p.k w ++ dated_nine) good
 
     pub log_next : {r : Refusal} → lowest (log_refusals p.k w) ≡ some r → some r ≡ lowest (dated_admission p w days terms n)
-    log_next e = sym (behind-profile ∙ lowest_first (log_refusals p.k w) dated_nine e)
+    log_next e = sym (behind_profile ∙ lowest_first (log_refusals p.k w) dated_nine e)
 
     module _ (letters : lowest (log_refusals p.k w) ≡ none) where
-      behind-log : lowest (dated_admission p w days terms n) ≡ lowest dated_nine
-      behind-log = behind-profile ∙ lowest_append (log_refusals p.k w) dated_nine letters
+      behind_log : lowest (dated_admission p w days terms n) ≡ lowest dated_nine
+      behind_log = behind_profile ∙ lowest_append (log_refusals p.k w) dated_nine letters
 
-      pub terms-next : {r : Refusal} → lowest (term_refusals w days terms) ≡ some r → some r ≡ lowest (dated_admission p w days terms n)
-      terms-next e = sym (behind-log ∙ lowest_first (term_refusals w days terms) ninth e)
+      pub terms_next : {r : Refusal} → lowest (term_refusals w days terms) ≡ some r → some r ≡ lowest (dated_admission p w days terms n)
+      terms_next e = sym (behind_log ∙ lowest_first (term_refusals w days terms) ninth e)
 
       module _ (dated : lowest (term_refusals w days terms) ≡ none) where
-        behind-terms : lowest (dated_admission p w days terms n) ≡ lowest ninth
-        behind-terms = behind-log ∙ lowest_append (term_refusals w days terms) ninth dated
+        behind_terms : lowest (dated_admission p w days terms n) ≡ lowest ninth
+        behind_terms = behind_log ∙ lowest_append (term_refusals w days terms) ninth dated
 
         pub buffer_last : n < length w → some ShortBuffer ≡ lowest (dated_admission p w days terms n)
-        buffer_last h = sym (behind-terms ∙ rw (lt-ltb n (length w) h, lowest))
+        buffer_last h = sym (behind_terms ∙ rw (lt-ltb n (length w) h, lowest))
 
-        pub none-refused : length w ≤ n → none ≡ lowest (dated_admission p w days terms n)
-        none-refused h = sym (behind-terms ∙ rw (le-ltb n (length w) h, lowest))
+        pub none_refused : length w ≤ n → none ≡ lowest (dated_admission p w days terms n)
+        none_refused h = sym (behind_terms ∙ rw (le-ltb n (length w) h, lowest))
 
 -- "admitted": no refusal save 10 applies
 pub record DatedAdmitted (p : Profile) (w days terms : List ℕ) (n : ℕ) : Type 0 where
@@ -93,12 +93,12 @@ module _ (p : Profile) (w days terms : List ℕ) (n : ℕ) where
         ∙ ap (λ l. log_refusals p.k w ++ l) (append_assoc (term_refusals w days terms) ((short_buffer n w, ShortBuffer) ∷ []) tenth)))
 
     -- one that is refused before is refused so
-    pub refused-early : {r : Refusal} → lowest (dated_admission p w days terms n) ≡ some r → some r ≡ dated_refusal p w days terms n m
+    pub refused_early : {r : Refusal} → lowest (dated_admission p w days terms n) ≡ some r → some r ≡ dated_refusal p w days terms n m
     unfolding tenth
-    refused-early e = sym (lowest_first (dated_admission p w days terms n) tenth e) ∙ regroup
+    refused_early e = sym (lowest_first (dated_admission p w days terms n) tenth e) ∙ regroup
 
     -- one that is not is refused by 10 or not at all
-    pub refused-late : lowest (dated_admission p w days terms n) ≡ none
+    pub refused_late : lowest (dated_admission p w days terms n) ≡ none
         → lowest ((full_table (prefixes_by (with_terms p terms) (events w days)) m, FullTable) ∷ []) ≡ dated_refusal p w days terms n m
     unfolding tenth
-    refused-late e = sym (lowest_append (dated_admission p w days terms n) tenth e) ∙ regroup
+    refused_late e = sym (lowest_append (dated_admission p w days terms n) tenth e) ∙ regroup

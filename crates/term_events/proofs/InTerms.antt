@@ -16,15 +16,15 @@ module _ (f g : ℕ → ℕ) (x y : ℕ) where
   lets_own e = rw (eq-eqb y x e)
 
   module _ (ne : y ≢ x) where
-    pub lets-late : f x < f y → true ≡ lets_in? f g x y
-    lets-late h = rw (ne_eqb y x ne, lt-ltb (f x) (f y) h)
+    pub lets_late : f x < f y → true ≡ lets_in? f g x y
+    lets_late h = rw (ne_eqb y x ne, lt-ltb (f x) (f y) h)
 
     module _ (le : f y ≤ f x) where
-      pub lets-apart : g y / place_bound ≢ g x / place_bound → false ≡ lets_in? f g x y
-      lets-apart h = rw (ne_eqb y x ne, le-ltb (f x) (f y) le, ne_eqb (g y / place_bound) (g x / place_bound) h)
+      pub lets_apart : g y / place_bound ≢ g x / place_bound → false ≡ lets_in? f g x y
+      lets_apart h = rw (ne_eqb y x ne, le-ltb (f x) (f y) le, ne_eqb (g y / place_bound) (g x / place_bound) h)
 
-      pub lets-turn : g y / place_bound ≡ g x / place_bound → ltb (f x) (g y % place_bound) ≡ lets_in? f g x y
-      lets-turn h = rw (ne_eqb y x ne, le-ltb (f x) (f y) le, eq-eqb (g y / place_bound) (g x / place_bound) h)
+      pub lets_turn : g y / place_bound ≡ g x / place_bound → ltb (f x) (g y % place_bound) ≡ lets_in? f g x y
+      lets_turn h = rw (ne_eqb y x ne, le-ltb (f x) (f y) le, eq-eqb (g y / place_bound) (g x / place_bound) h)
 
 -- a test of all numbers below k, for a loop over them
 module _ (p : ℕ → Bool) where

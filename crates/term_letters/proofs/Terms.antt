@@ -18,7 +18,7 @@ use Rattle.profile.proofs.Sets.{t_eq}
 use Rattle.profile.proofs.Traces.{Pick, first, later, no_pick}
 use Rattle.theory.proofs.Counting.{at_map, length_range}
 use Rattle.theory.proofs.Packing.{field_packed}
-use Rattle.theory.proofs.Prefixes.{addable-at, addable-of, count_le, more-of-pick, one_cases, unmarked_suc, unmarked_zero}
+use Rattle.theory.proofs.Prefixes.{addable_at, addable_of, count_le, more_of_pick, one_cases, unmarked_suc, unmarked_zero}
 use Rattle.counts.proofs.Packed.{Small}
 use Rattle.places.specs.Places.{place_start, place_table, places_from}
 use Rattle.places.proofs.Places.{place_found}
@@ -77,28 +77,28 @@ module _ (masks : List ℕ) (k x : ℕ) where
     abbrev A : ℕ
     A = next_turn (suc i) w c a
 
-    other-is : other_from (suc i) a (code_term e) w ≡ cond (eqb (A / place_bound) t) (A % place_bound) N
-    other-is = other_first (suc i) a (code_term e) w small (omega arith)
+    other_is : other_from (suc i) a (code_term e) w ≡ cond (eqb (A / place_bound) t) (A % place_bound) N
+    other_is = other_first (suc i) a (code_term e) w small (omega arith)
         ∙ ap (λ z. cond (eqb (get_or (turns_from (suc i) a w) 0 0 / place_bound) z) (get_or (turns_from (suc i) a w) 0 0 % place_bound) (get_or (places_from (suc i) a (map code_letter w)) 0 0)) own
         ∙ ap (λ n. cond (eqb (get_or (turns_from (suc i) a w) n 0 / place_bound) t) (get_or (turns_from (suc i) a w) n 0 % place_bound) (get_or (places_from (suc i) a (map code_letter w)) n 0)) (sym zero_of)
 
-    before-turn : N ≤ A % place_bound
-    before-turn = subst (λ n. get_or (places_from (suc i) a (map code_letter w)) n 0 ≤ get_or (turns_from (suc i) a w) n 0 % place_bound) (sym zero_of) (place_first (suc i) a w (omega arith))
+    before_turn : N ≤ A % place_bound
+    before_turn = subst (λ n. get_or (places_from (suc i) a (map code_letter w)) n 0 ≤ get_or (turns_from (suc i) a w) n 0 % place_bound) (sym zero_of) (place_first (suc i) a w (omega arith))
 
-    to-rest : (m : ℕ) → m < other_from (suc i) a (code_term e) w → (m < N) ⊎ ((A / place_bound ≡ t) × (m < A % place_bound))
-    to-rest m h = ⊎_elim
-        (λ q. inr (eqb→eq (A / place_bound) t q, subst (λ z. m < z) (other-is ∙ ap (λ b. cond b (A % place_bound) N) (is_true (eqb (A / place_bound) t) q)) h))
-        (λ q. inl (subst (λ z. m < z) (other-is ∙ ap (λ b. cond b (A % place_bound) N) (is_false (eqb (A / place_bound) t) q)) h))
+    to_rest : (m : ℕ) → m < other_from (suc i) a (code_term e) w → (m < N) ⊎ ((A / place_bound ≡ t) × (m < A % place_bound))
+    to_rest m h = ⊎_elim
+        (λ q. inr (eqb→eq (A / place_bound) t q, subst (λ z. m < z) (other_is ∙ ap (λ b. cond b (A % place_bound) N) (is_true (eqb (A / place_bound) t) q)) h))
+        (λ q. inl (subst (λ z. m < z) (other_is ∙ ap (λ b. cond b (A % place_bound) N) (is_false (eqb (A / place_bound) t) q)) h))
         (test (eqb (A / place_bound) t))
 
-    from-rest : (m : ℕ) → (m < N) ⊎ ((A / place_bound ≡ t) × (m < A % place_bound)) → m < other_from (suc i) a (code_term e) w
-    from-rest m h = subst (λ z. m < z) (sym other-is) (go (test (eqb (A / place_bound) t)) h)
+    from_rest : (m : ℕ) → (m < N) ⊎ ((A / place_bound ≡ t) × (m < A % place_bound)) → m < other_from (suc i) a (code_term e) w
+    from_rest m h = subst (λ z. m < z) (sym other_is) (go (test (eqb (A / place_bound) t)) h)
       where
         through : m < N → N ≤ A % place_bound → m < A % place_bound
         through p q = omega arith
 
         go : T (eqb (A / place_bound) t) ⊎ T (not (eqb (A / place_bound) t)) → (m < N) ⊎ ((A / place_bound ≡ t) × (m < A % place_bound)) → m < cond (eqb (A / place_bound) t) (A % place_bound) N
-        go (inl q) (inl l) = subst (λ b. m < cond b (A % place_bound) N) (sym (is_true (eqb (A / place_bound) t) q)) (through l before-turn)
+        go (inl q) (inl l) = subst (λ b. m < cond b (A % place_bound) N) (sym (is_true (eqb (A / place_bound) t) q)) (through l before_turn)
         go (inl q) (inr l) = subst (λ b. m < cond b (A % place_bound) N) (sym (is_true (eqb (A / place_bound) t) q)) l.1
         go (inr q) (inl l) = subst (λ b. m < cond b (A % place_bound) N) (sym (is_false (eqb (A / place_bound) t) q)) l
         go (inr q) (inr l) = absurd (eqb-false (A / place_bound) t (is_false (eqb (A / place_bound) t) q) l.0)
@@ -187,7 +187,7 @@ module _ (masks : List ℕ) (k x : ℕ) where
                   lets : (y : ℕ) → y < k → y ≢ x → LetsBy (next_place (suc i) (map code_letter w) c) (next_turn (suc i) w c) y
                   lets y hy ny = ⊎_elim
                       (λ u. subst (LetsBy (next_place (suc i) (map code_letter w) c) (next_turn (suc i) w c)) (eqb→eq a y u) (⊎_elim inl (λ z. inr (p.0, z.0, z.1))
-                      (to-rest i e w c q s (next_turn (suc i) w c x / place_bound) (ltb→lt (code_term e) 15 (fst_of (ltb (code_term e) 15) (all (λ e. ltb (code_term e) 15) w) t)) term-e (next_place (suc i) (map code_letter w) c x) m-other)))
+                      (to_rest i e w c q s (next_turn (suc i) w c x / place_bound) (ltb→lt (code_term e) 15 (fst_of (ltb (code_term e) 15) (all (λ e. ltb (code_term e) 15) w) t)) term-e (next_place (suc i) (map code_letter w) c x) m-other)))
                       (λ u.
                       let na : a ≢ y = eqb-false a y (is_false (eqb a y) u) in
                       let fy = next_other i a (map code_letter w) c y na in
@@ -263,7 +263,7 @@ module _ (masks : List ℕ) (k x : ℕ) where
                   ind,
                   ap (λ z. z / place_bound) (turn_here i e w c q) ∙ turn_term (code_term e) o (within (other_within (suc i) a (code_term e) w).1) ∙ term-e ∙ sym n.1 ∙ ap (λ z. z / place_bound) (sym gx),
                   subst (λ z. next_place i (map code_letter (e ∷ w)) c x < z) (sym (ap (λ z. z % place_bound) (turn_here i e w c q) ∙ turn_place (code_term e) o (within (other_within (suc i) a (code_term e) w).1)))
-                      (subst (λ z. z < o) (sym fx) (from-rest i e w c q s (next_turn (suc i) w c x / place_bound) small (term-e ∙ sym n.1) (next_place (suc i) (map code_letter w) c x)
+                      (subst (λ z. z < o) (sym fx) (from_rest i e w c q s (next_turn (suc i) w c x / place_bound) small (term-e ∙ sym n.1) (next_place (suc i) (map code_letter w) c x)
                       (⊎_elim inl (λ z. inr (z.1, z.2)) (n.0.lets a (ltb→lt a k (fst_of (ltb a k) (letters_below code_letter k w) l)) ne)))),
                 )))
                 (λ u.
@@ -286,8 +286,8 @@ module _ (masks : List ℕ) (k x : ℕ) where
 
   module _ (inside : x < k) (n : ℕ) where
     -- places and turns that agree below k
-    free-agree : (F G f g : ℕ → ℕ) → ((y : ℕ) → y < k → F y ≡ f y) → ((y : ℕ) → y < k → G y ≡ g y) → FreeBy n F G → FreeBy n f g
-    free-agree F G f g ef eg h = record {
+    free_agree : (F G f g : ℕ → ℕ) → ((y : ℕ) → y < k → F y ≡ f y) → ((y : ℕ) → y < k → G y ≡ g y) → FreeBy n F G → FreeBy n f g
+    free_agree F G f g ef eg h = record {
       left = subst (λ m. m < n) (ef x inside) h.left;
       lets = λ y hy ny. ⊎_elim (λ z. inl (subst (λ m. m < f y) (ef x inside) (subst (λ m. F x < m) (ef y hy) z)))
           (λ z. inr (z.0, sym (ap (λ m. m / place_bound) (eg y hy)) ∙ z.1 ∙ ap (λ m. m / place_bound) (eg x inside), subst (λ m. m < g y % place_bound) (ef x inside) (subst (λ m. F x < m % place_bound) (eg y hy) z.2))) (h.lets y hy ny);
@@ -297,8 +297,8 @@ module _ (masks : List ℕ) (k x : ℕ) where
       abbrev test_in : Bool
       test_in = comes_next? (independent masks) k n N x && in_term? k N A x
 
-      test-free : T test_in → FreeBy n (at N) (at A)
-      test-free t = record { left = ltb→lt (at N x) n (fst_of (ltb (at N x) n) (all (lets_by? (independent masks) (at N) x) (below k)) t₁); lets = lets }
+      test_free : T test_in → FreeBy n (at N) (at A)
+      test_free t = record { left = ltb→lt (at N x) n (fst_of (ltb (at N x) n) (all (lets_by? (independent masks) (at N) x) (below k)) t₁); lets = lets }
         where
           t₁ : T (comes_next? (independent masks) k n N x)
           t₁ = fst_of (comes_next? (independent masks) k n N x) (in_term? k N A x) t
@@ -321,8 +321,8 @@ module _ (masks : List ℕ) (k x : ℕ) where
               (either (eqb y x) (ltb (at N x) (at N y) || (same && late)) q))
               (either (eqb y x) (independent masks y x || ltb (at N x) (at N y)) p)
 
-      free-test : FreeBy n (at N) (at A) → T test_in
-      free-test h = both (comes_next? (independent masks) k n N x) (in_term? k N A x)
+      free_test : FreeBy n (at N) (at A) → T test_in
+      free_test h = both (comes_next? (independent masks) k n N x) (in_term? k N A x)
           (both (ltb (at N x) n) (all (lets_by? (independent masks) (at N) x) (below k)) (lt→ltb (at N x) n h.left)
           (all_of (lets_by? (independent masks) (at N) x) (below k) (λ y m. ⊎_elim (λ e. or_left (eqb y x) (independent masks y x || ltb (at N x) (at N y)) e)
           (λ ne. or_right (eqb y x) (independent masks y x || ltb (at N x) (at N y))
@@ -396,14 +396,14 @@ module _ (masks : List ℕ) (own : (a : ℕ) → T (independent masks a a) → �
       one-letter : (x : ℕ) → x < k → (comes_next? (independent masks) k (length w) N x && in_term? k N A x) ≡ addable? (coded_may masks) code_letter w (at v) x
       one-letter x h = t_eq (comes_next? (independent masks) k (length w) N x && in_term? k N A x) (addable? (coded_may masks) code_letter w (at v) x)
           (λ t.
-          let f = free-agree masks k x h (length w) (at N) (at A) (next_place 0 log (at v)) (next_turn 0 w (at v)) next_is after_is (test-free masks k x h (length w) N A t) in
+          let f = free_agree masks k x h (length w) (at N) (at A) (next_place 0 log (at v)) (next_turn 0 w (at v)) next_is after_is (test_free masks k x h (length w) N A t) in
           let g = free_pick masks k x 0 w (at v) (omega (arith, short)) letters terms fits (subst (λ n. FreeBy masks k x n (next_place 0 log (at v)) (next_turn 0 w (at v))) zero-plus f) in
           subst (λ y. T (addable? (coded_may masks) code_letter w (at v) y)) g.3
-          (addable-of (coded_may masks) code_letter apart (at v) (code_letter g.0) (more-of-pick (coded_may masks) code_letter apart prefix g.2).0))
+          (addable_of (coded_may masks) code_letter apart (at v) (code_letter g.0) (more_of_pick (coded_may masks) code_letter apart prefix g.2).0))
           (λ t.
-          let n = addable-at (coded_may masks) code_letter apart prefix t in
+          let n = addable_at (coded_may masks) code_letter apart prefix t in
           let g = (pick_free masks k x own 0 w (at v) (omega (arith, short)) letters terms fits n.1 _ n.3 n.2).0 in
-          free-test masks k x h (length w) N A (free-agree masks k x h (length w) (next_place 0 log (at v)) (next_turn 0 w (at v)) (at N) (at A) (λ y l. sym (next_is y l)) (λ y l. sym (after_is y l))
+          free_test masks k x h (length w) N A (free_agree masks k x h (length w) (next_place 0 log (at v)) (next_turn 0 w (at v)) (at N) (at A) (λ y l. sym (next_is y l)) (λ y l. sym (after_is y l))
           (subst (λ n. FreeBy masks k x n (next_place 0 log (at v)) (next_turn 0 w (at v))) (sym zero-plus) g)))
 
 -- more places and turns behind those of the letters below k change nothing
@@ -426,5 +426,5 @@ terms_first masks k n starts places turns t r r' = filter_agree _ _ (below k) (�
         let eN = first_of N r (length_range _ k 0) in
         let eA = first_of A r' (length_range _ k 0) in
         t_eq (comes_next? (independent masks) k n (N ++ r) x && in_term? k (N ++ r) (A ++ r') x) (comes_next? (independent masks) k n N x && in_term? k N A x)
-        (λ u. free-test masks k x h n N A (free-agree masks k x h n (at (N ++ r)) (at (A ++ r')) (at N) (at A) eN eA (test-free masks k x h n (N ++ r) (A ++ r') u)))
-        (λ u. free-test masks k x h n (N ++ r) (A ++ r') (free-agree masks k x h n (at N) (at A) (at (N ++ r)) (at (A ++ r')) (λ y l. sym (eN y l)) (λ y l. sym (eA y l)) (test-free masks k x h n N A u)))
+        (λ u. free_test masks k x h n N A (free_agree masks k x h n (at (N ++ r)) (at (A ++ r')) (at N) (at A) eN eA (test_free masks k x h n (N ++ r) (A ++ r') u)))
+        (λ u. free_test masks k x h n (N ++ r) (A ++ r') (free_agree masks k x h n (at N) (at A) (at (N ++ r)) (at (A ++ r')) (λ y l. sym (eN y l)) (λ y l. sym (eA y l)) (test_free masks k x h n N A u)))

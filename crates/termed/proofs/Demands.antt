@@ -26,7 +26,7 @@ use Rattle.table.specs.Table.{Spared}
 use Rattle.verdict.specs.Verdict.{verdict_number}
 use Rattle.verdict.specs.declared.Judged.{Judged}
 use Rattle.verdict.specs.declared.Judged.TheVariants.{Refused}
-use Rattle.verdict.proofs.Promises.{counted-reach-by, fields-same-by, judged-reach-by, judged-same-by, no-order-exactly-by, order-exactly-by, refused_exactly_by, told_looks, told_prefixes, verdict-cases-by}
+use Rattle.verdict.proofs.Promises.{counted_reach_by, fields_same_by, judged_reach_by, judged_same_by, no_order_exactly_by, order_exactly_by, refused_exactly_by, told_looks, told_prefixes, verdict_cases_by}
 use Rattle.termed.specs.Termed.{Promise}
 
 -- a call that is not refused has good events
@@ -59,12 +59,12 @@ module _ (p : Profile) (w days terms order order' table table' : List ℕ) where
 module _ (p : Profile) (w days terms order order' table table' : List ℕ) (unrefused : dated_refusal p w days terms (length order) (length table) ≡ none) where
   -- there is a verdict, 0 or 1
   pub verdict_cases : (j : Judged) → Promise p w days terms order order' table table' j → (verdict_number j ≡ some 0) ⊎ (verdict_number j ≡ some 1)
-  verdict_cases = verdict-cases-by (with_terms p terms) (events w days) order order' table table' (dated_refusal p w days terms (length order) (length table)) unrefused
+  verdict_cases = verdict_cases_by (with_terms p terms) (events w days) order order' table table' (dated_refusal p w days terms (length order) (length table)) unrefused
 
   -- "The log gets 'no order' exactly when no log reachable from it by exchanges is accepted."
   pub no_order_exactly : (j : Judged) → Promise p w days terms order order' table table' j
       → (verdict_number j ≡ some 0) ↔ ((v : List ℕ) → WitnessBy (with_terms p terms) (events w days) v → ⊥)
-  no_order_exactly = no-order-exactly-by (with_terms p terms) (events w days) order order' table table' (dated_refusal p w days terms (length order) (length table)) unrefused
+  no_order_exactly = no_order_exactly_by (with_terms p terms) (events w days) order order' table table' (dated_refusal p w days terms (length order) (length table)) unrefused
 
   -- "Otherwise the order returned is reachable from it, accepted, and earlier in letter order than every other log that is both": it is the letters of such
   -- events, and earlier than the letters of all others; the other bytes stay
@@ -76,7 +76,7 @@ module _ (p : Profile) (w days terms order order' table table' : List ℕ) (unre
       ((x : List ℕ) × (map letter_of x ≡ take n order') × WitnessBy (with_terms p terms) (events w days) x)
       × ((u : List ℕ) → WitnessBy (with_terms p terms) (events w days) u → map letter_of u ≢ take n order' → Earlier (take n order') (map letter_of u))
       × (drop n order' ≡ drop n order)) (events_length w days)
-      (order-exactly-by (with_terms p terms) (events w days) order order' table table' (dated_refusal p w days terms (length order) (length table)) unrefused j h e)
+      (order_exactly_by (with_terms p terms) (events w days) order order' table table' (dated_refusal p w days terms (length order) (length table)) unrefused j h e)
 
 -- "two such logs being judged with the same terms": two calls that are not refused, whatever buffers each was lent
 module _ (p : Profile) (terms v days₁ w days₂ order₁ order₁' table₁ table₁' order₂ order₂' table₂ table₂' : List ℕ)
@@ -93,23 +93,23 @@ module _ (p : Profile) (terms v days₁ w days₂ order₁ order₁' table₁ ta
         → (verdict_number i ≡ verdict_number j) × (told_prefixes i ≡ told_prefixes j) × (told_looks i ≡ told_looks j)
         × (verdict_number i ≡ some 1 → take (length v) order₁' ≡ take (length w) order₂')
     judged_same i j g h =
-        let x = judged-same-by (with_terms p terms) (events v days₁) (events w days₂) good good' order₁ order₁' table₁ table₁' order₂ order₂' table₂ table₂' _ _ first second same i j g h in
+        let x = judged_same_by (with_terms p terms) (events v days₁) (events w days₂) good good' order₁ order₁' table₁ table₁' order₂ order₂' table₂ table₂' _ _ first second same i j g h in
         (x.0, x.1, x.2, λ e. subst₂ (λ m n. take m order₁' ≡ take n order₂') (events_length v days₁) (events_length w days₂) (x.3 e))
 
     -- Paper 5: "leave equal count fields, record by record"
-    pub fields-same : (i j : Judged) → Promise p v days₁ terms order₁ order₁' table₁ table₁' i → Promise p w days₂ terms order₂ order₂' table₂ table₂' j
+    pub fields_same : (i j : Judged) → Promise p v days₁ terms order₁ order₁' table₁ table₁' i → Promise p w days₂ terms order₂ order₂' table₂ table₂' j
         → (r n : ℕ) → r < prefixes_by (with_terms p terms) (events v days₁) → n < layout.numbers
         → get_or table₁' (record_length layout * r + n) 0 ≡ get_or table₂' (record_length layout * r + n) 0
-    fields-same = fields-same-by (with_terms p terms) (events v days₁) (events w days₂) good good' order₁ order₁' table₁ table₁' order₂ order₂' table₂ table₂' _ _ first second same
+    fields_same = fields_same_by (with_terms p terms) (events v days₁) (events w days₂) good good' order₁ order₁' table₁ table₁' order₂ order₂' table₂ table₂' _ _ first second same
 
   -- Paper 4: "If log v is reachable from log w and v has an accepted order, then w has one that is no later in letter order". P of v is at most P of w
   module _ (reach : Reachable (may_in p.masks terms) (events w days₂) (events v days₁)) where
     pub judged_reach : (i j : Judged) → Promise p v days₁ terms order₁ order₁' table₁ table₁' i → Promise p w days₂ terms order₂ order₂' table₂ table₂' j → verdict_number i ≡ some 1
         → (verdict_number j ≡ some 1) × NoLater (take (length w) order₂') (take (length v) order₁')
     judged_reach i j g h e =
-        let x = judged-reach-by (with_terms p terms) (events v days₁) (events w days₂) good good' order₁ order₁' table₁ table₁' order₂ order₂' table₂ table₂' _ _ first second reach i j g h e in
+        let x = judged_reach_by (with_terms p terms) (events v days₁) (events w days₂) good good' order₁ order₁' table₁ table₁' order₂ order₂' table₂ table₂' _ _ first second reach i j g h e in
         (x.0, subst₂ (λ m n. NoLater (take m order₂') (take n order₁')) (events_length w days₂) (events_length v days₁) x.1)
 
-    pub counted-reach : (i j : Judged) → Promise p v days₁ terms order₁ order₁' table₁ table₁' i → Promise p w days₂ terms order₂ order₂' table₂ table₂' j
+    pub counted_reach : (i j : Judged) → Promise p v days₁ terms order₁ order₁' table₁ table₁' i → Promise p w days₂ terms order₂ order₂' table₂ table₂' j
         → (P Q : ℕ) → told_prefixes i ≡ some P → told_prefixes j ≡ some Q → P ≤ Q
-    counted-reach = counted-reach-by (with_terms p terms) (events v days₁) (events w days₂) good good' order₁ order₁' table₁ table₁' order₂ order₂' table₂ table₂' _ _ first second reach
+    counted_reach = counted_reach_by (with_terms p terms) (events v days₁) (events w days₂) good good' order₁ order₁' table₁ table₁' order₂ order₂' table₂ table₂' _ _ first second reach

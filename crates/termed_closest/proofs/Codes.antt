@@ -17,7 +17,7 @@ use Rattle.terms.specs.Terms.{dated_refusals, events, letter_of, may_in, most_te
 use Rattle.terms.specs.Coded.{code_letter, code_of, coded_may, rules_of}
 use Rattle.terms.proofs.Logs.{coded_looks, coded_order, coded_prefixes, coded_table, letter_of_code, term_of_code}
 use Rattle.term_checks.specs.Admission.{dated_admission}
-use Rattle.term_checks.proofs.Admission.{dated_admitted, refused-early, refused-late}
+use Rattle.term_checks.proofs.Admission.{dated_admitted, refused_early, refused_late}
 use Rattle.verdict.specs.Verdict.{Counted}
 use Rattle.closestanswer.specs.Answers.{Close, short_costs, told}
 use Rattle.closestanswer.specs.declared.Closest.{Closest}
@@ -25,7 +25,7 @@ use Rattle.closestanswer.specs.declared.Closest.TheVariants.{NoOrder, Order, Ref
 use Rattle.table.proofs.Filling.{spared_same}
 use Rattle.closestfilled.proofs.Answering.{refused_before}
 use Rattle.closestterms.specs.Dated.{Promise}
-use Rattle.closestterms.proofs.Relabelled.{closest-named, floor-named, swaps_named}
+use Rattle.closestterms.proofs.Relabelled.{closest_named, floor_named, swaps_named}
 use Rattle.termed_closest.specs.CodedAnswers.{Answered}
 
 -- lists that refuse alike do so with more behind them
@@ -41,7 +41,7 @@ module _ (p : Profile) (w days terms : List ℕ) (B : ℕ) (order table costs : 
   pub told_early : (r : Refusal) → lowest (dated_admission p w days terms (length order)) ≡ some r
       → Promise p w days terms B order order table table costs costs (Refused r)
   told_early r e = refused_before (with_terms p terms) (events w days) B order table costs (dated_refusals p w days terms (length order) (length table))
-      (refused-early p w days terms (length order) (length table) e) table (λ ne. refl) (spared_same table)
+      (refused_early p w days terms (length order) (length table) e) table (λ ne. refl) (spared_same table)
 
   module _ (e : lowest (dated_admission p w days terms (length order)) ≡ none) (order' table' costs' : List ℕ) where
     abbrev few : term_count terms ≤ most_terms
@@ -66,10 +66,10 @@ module _ (p : Profile) (w days terms : List ℕ) (B : ℕ) (order table costs : 
     close : {c f : ℕ} → Close (rules_of p true) (map (code_of terms) E) B order order' c f → Close (with_terms p terms) E B order order' c f
     close h = record {
       order = h.order;
-      is_order = sym (closest-named (may_in p.masks terms) (coded_may p.masks) letter_of code_letter (code_of terms) same_may same_letter (automaton p) E p.k p.s B) ∙ h.is_order;
+      is_order = sym (closest_named (may_in p.masks terms) (coded_may p.masks) letter_of code_letter (code_of terms) same_may same_letter (automaton p) E p.k p.s B) ∙ h.is_order;
       written = h.written ∙ ap (λ m. h.order ++ drop m order) (length-map E (code_of terms));
       its_swaps = h.its_swaps ∙ swaps_named (may_in p.masks terms) (coded_may p.masks) letter_of code_letter (code_of terms) same_may same_letter E h.order;
-      its_floor = sym (floor-named (may_in p.masks terms) (coded_may p.masks) letter_of code_letter (code_of terms) same_may same_letter (automaton p) E p.k p.s B) ∙ h.its_floor;
+      its_floor = sym (floor_named (may_in p.masks terms) (coded_may p.masks) letter_of code_letter (code_of terms) same_may same_letter (automaton p) E p.k p.s B) ∙ h.its_floor;
     }
 
     answer : (r : Closest) → told (rules_of p true) (map (code_of terms) E) B order order' table table' costs costs' r → told (with_terms p terms) E B order order' table table' costs costs' r
@@ -77,12 +77,12 @@ module _ (p : Profile) (w days terms : List ℕ) (B : ℕ) (order table costs : 
     answer (NoOrder P n) h = (sym (coded_order p terms E few) ∙ h.0, h.1, counted h.2)
     answer (Order P n c f) h = (close h.0, counted h.1)
 
-    pub told-late : (r : Closest) → Answered (rules_of p true) (map (code_of terms) E) B order order' table table' costs costs' r
+    pub told_late : (r : Closest) → Answered (rules_of p true) (map (code_of terms) E) B order order' table table' costs costs' r
         → Promise p w days terms B order order' table table' costs costs' r
-    told-late r h = record {
+    told_late r h = record {
       refused = h.refused
           ∙ ap (λ P. lowest (((full_table P (length table), FullTable) ∷ []) ++ ((short_costs P p.s (length costs), ShortCosts) ∷ []))) (coded_prefixes p terms E few)
           ∙ lowest_front ((full_table (prefixes_by (with_terms p terms) E) (length table), FullTable) ∷ []) (dated_refusals p w days terms (length order) (length table))
-          ((short_costs (prefixes_by (with_terms p terms) E) p.s (length costs), ShortCosts) ∷ []) (refused-late p w days terms (length order) (length table) e);
+          ((short_costs (prefixes_by (with_terms p terms) E) p.s (length costs), ShortCosts) ∷ []) (refused_late p w days terms (length order) (length table) e);
       tells = answer r h.tells;
     }

@@ -20,7 +20,7 @@ use Rattle.terms.specs.Coded.{Coding, code, code_letter, code_of, code_term, rul
 use Rattle.terms.proofs.Logs.{coded_events, coded_looks, coded_order, coded_prefixes, coded_table, dated_events, days_short, events_length, events_letters, letter_of_code, term_of_code, term_small}
 use Rattle.turns.specs.Turns.{past_terms}
 use Rattle.term_checks.specs.Admission.{dated_admission}
-use Rattle.term_checks.proofs.Admission.{DatedAdmitted, dated_admitted, refused-early, refused-late}
+use Rattle.term_checks.proofs.Admission.{DatedAdmitted, dated_admitted, refused_early, refused_late}
 use Rattle.verdict.specs.Verdict.{judged}
 use Rattle.verdict.specs.declared.Judged.{Judged}
 use Rattle.verdict.specs.declared.Judged.TheVariants.{NoOrder, Order, Refused}
@@ -80,7 +80,7 @@ module _ (p : Profile) (w days terms : List ℕ) {n : ℕ} (a : DatedAdmitted p 
 module _ (p : Profile) (w days terms order table : List ℕ) where
   -- refused before the table
   pub told_early : (r : Refusal) → lowest (dated_admission p w days terms (length order)) ≡ some r → Promise p w days terms order order table table (Refused r)
-  told_early r e = record { refused = refused-early p w days terms (length order) (length table) e; told = (refl, λ ne. refl, record { long = refl; rest = refl }) }
+  told_early r e = record { refused = refused_early p w days terms (length order) (length table) e; told = (refl, λ ne. refl, record { long = refl; rest = refl }) }
 
   module _ (e : lowest (dated_admission p w days terms (length order)) ≡ none) (order' table' : List ℕ) where
     abbrev few : term_count terms ≤ most_terms
@@ -112,8 +112,8 @@ module _ (p : Profile) (w days terms order table : List ℕ) where
       },
     )
 
-    pub told-late : (r : Judged) → Answered (rules_of p true) (map (code_of terms) E) order order' table table' r → Promise p w days terms order order' table table' r
-    told-late r h = record {
-      refused = h.refused ∙ ap (λ P. lowest ((full_table P (length table), FullTable) ∷ [])) (coded_prefixes p terms E few) ∙ refused-late p w days terms (length order) (length table) e;
+    pub told_late : (r : Judged) → Answered (rules_of p true) (map (code_of terms) E) order order' table table' r → Promise p w days terms order order' table table' r
+    told_late r h = record {
+      refused = h.refused ∙ ap (λ P. lowest ((full_table P (length table), FullTable) ∷ [])) (coded_prefixes p terms E few) ∙ refused_late p w days terms (length order) (length table) e;
       told = answer r h.told;
     }

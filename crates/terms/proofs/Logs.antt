@@ -20,7 +20,7 @@ use Rattle.terms.specs.Terms.{dated, day_of, events, in_term?, letter_of, may_in
 use Rattle.terms.specs.Coded.{code, code_letter, code_of, code_term, coded_may, rules_of}
 use Rattle.terms.proofs.Dates.{day_small}
 use Rattle.terms.proofs.Meanings.{first_most}
-use Rattle.terms.proofs.Relabelling.{accepted-order-named, looks-named, prefix-count-named, table-named}
+use Rattle.terms.proofs.Relabelling.{accepted_order_named, looks_named, prefix_count_named, table_named}
 
 -- ---- the events of a log and its days
 
@@ -100,16 +100,16 @@ module _ (p : Profile) (terms w : List ℕ) (few : term_count terms ≤ most_ter
   all_true l = all_of (λ e. true) l (λ e m. tt)
 
   pub coded_prefixes : prefixes_by (rules_of p true) codes ≡ prefixes_by (with_terms p terms) w
-  coded_prefixes = prefix-count-named (may_in p.masks terms) (coded_may p.masks) letter_of code_letter (code_of terms) (λ e. true) same_may same_letter p.k w (all_true w)
+  coded_prefixes = prefix_count_named (may_in p.masks terms) (coded_may p.masks) letter_of code_letter (code_of terms) (λ e. true) same_may same_letter p.k w (all_true w)
 
   pub coded_looks : looks_by (rules_of p true) codes ≡ looks_by (with_terms p terms) w
-  coded_looks = looks-named (may_in p.masks terms) (coded_may p.masks) letter_of code_letter (code_of terms) (λ e. true) same_may same_letter p.k w (all_true w)
+  coded_looks = looks_named (may_in p.masks terms) (coded_may p.masks) letter_of code_letter (code_of terms) (λ e. true) same_may same_letter p.k w (all_true w)
 
   pub coded_order : order_by (rules_of p true) codes ≡ order_by (with_terms p terms) w
-  coded_order = accepted-order-named (may_in p.masks terms) (coded_may p.masks) letter_of code_letter (code_of terms) (λ e. true) same_may same_letter (automaton p) w (all_true w)
+  coded_order = accepted_order_named (may_in p.masks terms) (coded_may p.masks) letter_of code_letter (code_of terms) (λ e. true) same_may same_letter (automaton p) w (all_true w)
 
   pub coded_table : (before : List ℕ) → table_by (rules_of p true) codes before ≡ table_by (with_terms p terms) w before
-  coded_table before = table-named (may_in p.masks terms) (coded_may p.masks) letter_of code_letter (code_of terms) (λ e. true) same_may same_letter (automaton p) w (all_true w) layout p.k before
+  coded_table before = table_named (may_in p.masks terms) (coded_may p.masks) letter_of code_letter (code_of terms) (λ e. true) same_may same_letter (automaton p) w (all_true w) layout p.k before
 
   -- what the table asks of them
   pub coded_events : GoodProfile p → GoodEvents (with_terms p terms) w → GoodEvents (rules_of p true) codes
@@ -144,17 +144,17 @@ module _ (p : Profile) (terms w days : List ℕ) (many : length days ≡ length 
 
   -- the judge without terms is the judge with one term that holds all days
   pub one_prefixes : prefixes_by (with_terms p terms) (events w days) ≡ prefixes_by (plain p) w
-  one_prefixes = sym (prefix-count-named (may_in p.masks terms) (independent p.masks) letter_of (λ a. a) letter_of in_it same_mays (λ e h. refl) p.k (events w days) all_in)
+  one_prefixes = sym (prefix_count_named (may_in p.masks terms) (independent p.masks) letter_of (λ a. a) letter_of in_it same_mays (λ e h. refl) p.k (events w days) all_in)
       ∙ ap (prefixes_by (plain p)) (events_letters w days many short)
 
   pub one_looks : looks_by (with_terms p terms) (events w days) ≡ looks_by (plain p) w
-  one_looks = sym (looks-named (may_in p.masks terms) (independent p.masks) letter_of (λ a. a) letter_of in_it same_mays (λ e h. refl) p.k (events w days) all_in)
+  one_looks = sym (looks_named (may_in p.masks terms) (independent p.masks) letter_of (λ a. a) letter_of in_it same_mays (λ e h. refl) p.k (events w days) all_in)
       ∙ ap (looks_by (plain p)) (events_letters w days many short)
 
   pub one_order : order_by (with_terms p terms) (events w days) ≡ order_by (plain p) w
-  one_order = sym (accepted-order-named (may_in p.masks terms) (independent p.masks) letter_of (λ a. a) letter_of in_it same_mays (λ e h. refl) (automaton p) (events w days) all_in)
+  one_order = sym (accepted_order_named (may_in p.masks terms) (independent p.masks) letter_of (λ a. a) letter_of in_it same_mays (λ e h. refl) (automaton p) (events w days) all_in)
       ∙ ap (order_by (plain p)) (events_letters w days many short)
 
   pub one_table : (before : List ℕ) → table_by (with_terms p terms) (events w days) before ≡ table_by (plain p) w before
-  one_table before = sym (table-named (may_in p.masks terms) (independent p.masks) letter_of (λ a. a) letter_of in_it same_mays (λ e h. refl) (automaton p) (events w days) all_in layout p.k before)
+  one_table before = sym (table_named (may_in p.masks terms) (independent p.masks) letter_of (λ a. a) letter_of in_it same_mays (λ e h. refl) (automaton p) (events w days) all_in layout p.k before)
       ∙ ap (λ v. table_by (plain p) v before) (events_letters w days many short)

@@ -2,10 +2,10 @@
 use mathlib.Core.Path.{◌≡◌, refl, sym, ◌∙◌, ap, subst}
 use mathlib.Core.Bool.{Bool, true, false, not, ◌||◌, true≢false}
 use mathlib.Core.Logic.{◌⊎◌, ⊎_elim, ◌↔◌}
-use mathlib.Core.List.{List, [], ◌∷◌, map_id}
+use mathlib.Core.List.{List, [], ◌∷◌, map-id}
 use Prim.Native.Nat.{ℕ, zero, suc, ◌+◌, ◌-◌, ◌*◌, ◌%◌, ◌≤◌, ◌<◌}
 use native.Mathlib.Omega.{arith}
-use borrow.Author.Tests.{eqb-true, not_false, ltb-false, le-ltb}
+use borrow.Author.Tests.{eqb-true, not-false, ltb-false, le-ltb}
 use lib.Dec.{T, not_T, T_not, eqb, eqb_refl, ltb, ltb→lt, lt→ltb, leb, leb→le, le→leb}
 use lib.ListN.{length, get_or, length-map}
 use Rattle.profile.specs.Lists.{Mem, any, below, first_place}
@@ -39,7 +39,7 @@ pub days_good : (w days : List ℕ) → (bad_day w days ≡ false) ↔ ((length 
 days_good w days = (
   λ e.
       let n = neither (not (eqb (length days) (length w))) (any (λ d. not (day? d)) days) e in
-      (eqb-true (length days) (length w) (not_false (eqb (length days) (length w)) n.0), all_pass day? days n.1),
+      (eqb-true (length days) (length w) (not-false (eqb (length days) (length w)) n.0), all_pass day? days n.1),
   λ h.
       nor (not (eqb (length days) (length w))) (any (λ d. not (day? d)) days)
       (ap not (is_true (eqb (length days) (length w)) (subst (λ m. T (eqb (length days) m)) h.0 (eqb_refl (length days)))))
@@ -85,8 +85,8 @@ terms_good terms = (to, from)
         let h₂ = neither (ltb n 1) (ltb most_terms n || (dates || not (rise? terms))) h₁.1 in
         let h₃ = neither (ltb most_terms n) (dates || not (rise? terms)) h₂.1 in
         let h₄ = neither dates (not (rise? terms)) h₃.1 in
-        let even : length terms % 2 ≡ 0 = eqb-true (length terms % 2) 0 (not_false (eqb (length terms % 2) 0) h₁.0) in
-        let up : T (rise? terms) = subst T (sym (not_false (rise? terms) h₄.1)) tt in
+        let even : length terms % 2 ≡ 0 = eqb-true (length terms % 2) 0 (not-false (eqb (length terms % 2) 0) h₁.0) in
+        let up : T (rise? terms) = subst T (sym (not-false (rise? terms) h₄.1)) tt in
         record {
           whole = omega (arith, even);
           least = ltb-false n 1 h₂.0;
@@ -117,7 +117,7 @@ below_length : (n : ℕ) → length (below n) ≡ n
 below_length n = sym (length-map (below n) (λ x. x)) ∙ length_range (λ x. x) n 0
 
 below_getd : (n x : ℕ) → x < n → get_or (below n) x 0 ≡ x
-below_getd n x h = let z : 0 + x ≡ x = omega arith in ap (λ l. get_or l x 0) (sym (map_id (below n))) ∙ at_map (λ x. x) n 0 x h ∙ z
+below_getd n x h = let z : 0 + x ≡ x = omega arith in ap (λ l. get_or l x 0) (sym (map-id (below n))) ∙ at_map (λ x. x) n 0 x h ∙ z
 
 -- the first number below n that passes a test
 module _ (p : ℕ → Bool) (n : ℕ) where

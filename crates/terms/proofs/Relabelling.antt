@@ -159,59 +159,59 @@ module _ (may may' : ℕ → ℕ → Bool) (letter letter' : ℕ → ℕ) (f : �
           ∙ ap (λ y. closed? may' letter' (map f w) (less c y)) (same_letter a ha) ∙ ih (less c (letter a)) ∙ sym (closed_suc may letter a w c q)
 
   module _ (k : ℕ) (w : List ℕ) (h : T (all ok w)) where
-    pub prefixes-named : prefixes may' letter' k (map f w) ≡ prefixes may letter k w
-    prefixes-named = ap₂ (λ t g. filter t (vectors (map g (below k)))) (fun_ext (λ c. closed_named w h (at c))) (fun_ext (λ x. count_named w h x))
+    pub prefixes_named : prefixes may' letter' k (map f w) ≡ prefixes may letter k w
+    prefixes_named = ap₂ (λ t g. filter t (vectors (map g (below k)))) (fun_ext (λ c. closed_named w h (at c))) (fun_ext (λ x. count_named w h x))
 
-    additions-named : (c : List ℕ) → additions may' letter' k (map f w) c ≡ additions may letter k w c
-    additions-named c = ap (λ t. filter t (below k)) (fun_ext (λ x. ap₂ (λ n t. ltb (at c x) n && t) (count_named w h x) (closed_named w h (more (at c) x))))
+    additions_named : (c : List ℕ) → additions may' letter' k (map f w) c ≡ additions may letter k w c
+    additions_named c = ap (λ t. filter t (below k)) (fun_ext (λ x. ap₂ (λ n t. ltb (at c x) n && t) (count_named w h x) (closed_named w h (more (at c) x))))
 
-    pub looks-named : looks may' letter' k (map f w) ≡ looks may letter k w
-    looks-named = ap₂ (λ g l. length (flat_map g l)) (fun_ext additions-named) prefixes-named
+    pub looks_named : looks may' letter' k (map f w) ≡ looks may letter k w
+    looks_named = ap₂ (λ g l. length (flat_map g l)) (fun_ext additions_named) prefixes_named
 
-    pub prefix-count-named : prefix_count may' letter' k (map f w) ≡ prefix_count may letter k w
-    prefix-count-named = ap length prefixes-named
+    pub prefix_count_named : prefix_count may' letter' k (map f w) ≡ prefix_count may letter k w
+    prefix_count_named = ap length prefixes_named
 
-    pub by-total-named : by_total may' letter' k (map f w) ≡ by_total may letter k w
-    by-total-named = ap₂ (λ P n. flat_map (λ t. filter (λ c. eqb (total c) t) P) (below (suc n))) prefixes-named (length-map w f)
+    pub by_total_named : by_total may' letter' k (map f w) ≡ by_total may letter k w
+    by_total_named = ap₂ (λ P n. flat_map (λ t. filter (λ c. eqb (total c) t) P) (below (suc n))) prefixes_named (length-map w f)
 
   -- ---- orders and sets of states
 
   module _ (M : Automaton) where
-    pub run-named : (u : List ℕ) → T (all ok u) → (S : ℕ) → run M letter' S (map f u) ≡ run M letter S u
-    run-named [] h S = refl
-    run-named (a ∷ u) h S = ap (λ y. run M letter' (M.step S y) (map f u)) (same_letter a (fst_of (ok a) (all ok u) h)) ∙ run-named u (snd_of (ok a) (all ok u) h) (M.step S (letter a))
+    pub run_named : (u : List ℕ) → T (all ok u) → (S : ℕ) → run M letter' S (map f u) ≡ run M letter S u
+    run_named [] h S = refl
+    run_named (a ∷ u) h S = ap (λ y. run M letter' (M.step S y) (map f u)) (same_letter a (fst_of (ok a) (all ok u) h)) ∙ run_named u (snd_of (ok a) (all ok u) h) (M.step S (letter a))
 
-    run-back-named : (u : List ℕ) → T (all ok u) → (R : ℕ) → run_back M letter' R (map f u) ≡ run_back M letter R u
-    run-back-named [] h R = refl
-    run-back-named (a ∷ u) h R = ap₂ M.back (run-back-named u (snd_of (ok a) (all ok u) h) R) (same_letter a (fst_of (ok a) (all ok u) h))
+    run_back_named : (u : List ℕ) → T (all ok u) → (R : ℕ) → run_back M letter' R (map f u) ≡ run_back M letter R u
+    run_back_named [] h R = refl
+    run_back_named (a ∷ u) h R = ap₂ M.back (run_back_named u (snd_of (ok a) (all ok u) h) R) (same_letter a (fst_of (ok a) (all ok u) h))
 
     module _ (w : List ℕ) (h : T (all ok w)) where
-      pub forward-named : (c : ℕ → ℕ) → forward may' letter' M (map f w) c ≡ forward may letter M w c
-      forward-named c =
+      pub forward_named : (c : ℕ → ℕ) → forward may' letter' M (map f w) c ≡ forward may letter M w c
+      forward_named c =
           let m = marked letter w c in
           let km = (marked_ok w h c).0 in
           ap (λ l. union (run M letter' M.start) (orders may' l)) (marked_named w h c) ∙ ap (union (run M letter' M.start)) (orders_named m km)
           ∙ union_map (run M letter' M.start) (map f) (orders may m)
-          ∙ union_on (λ v. run M letter' M.start (map f v)) (run M letter M.start) (orders may m) (λ v i. run-named v (orders_ok m km v i) M.start)
+          ∙ union_on (λ v. run M letter' M.start (map f v)) (run M letter M.start) (orders may m) (λ v i. run_named v (orders_ok m km v i) M.start)
 
-      backward-named : (c : ℕ → ℕ) → backward may' letter' M (map f w) c ≡ backward may letter M w c
-      backward-named c =
+      backward_named : (c : ℕ → ℕ) → backward may' letter' M (map f w) c ≡ backward may letter M w c
+      backward_named c =
           let m = unmarked letter w c in
           let km = (marked_ok w h c).1 in
           ap (λ l. union (run_back M letter' M.final) (orders may' l)) (unmarked_named w h c) ∙ ap (union (run_back M letter' M.final)) (orders_named m km)
           ∙ union_map (run_back M letter' M.final) (map f) (orders may m)
-          ∙ union_on (λ v. run_back M letter' M.final (map f v)) (run_back M letter M.final) (orders may m) (λ v i. run-back-named v (orders_ok m km v i) M.final)
+          ∙ union_on (λ v. run_back M letter' M.final (map f v)) (run_back M letter M.final) (orders may m) (λ v i. run_back_named v (orders_ok m km v i) M.final)
 
-      pub table-named : (L : Layout) (k : ℕ) (before : List ℕ) → table_of L may' letter' M k (map f w) before ≡ table_of L may letter M k w before
-      table-named L k before =
+      pub table_named : (L : Layout) (k : ℕ) (before : List ℕ) → table_of L may' letter' M k (map f w) before ≡ table_of L may letter M k w before
+      table_named L k before =
           ap₂ (λ g l. flat_map (λ c. packed L c ++ g c) l ++ drop (record_length L * prefix_count may' letter' k (map f w)) before)
-          (fun_ext (λ c. ap₂ (λ x y. x ∷ y ∷ []) (forward-named (at c)) (backward-named (at c)))) (by-total-named k w h)
-          ∙ ap (λ n. flat_map (record_of L may letter M w) (by_total may letter k w) ++ drop (record_length L * n) before) (prefix-count-named k w h)
+          (fun_ext (λ c. ap₂ (λ x y. x ∷ y ∷ []) (forward_named (at c)) (backward_named (at c)))) (by_total_named k w h)
+          ∙ ap (λ n. flat_map (record_of L may letter M w) (by_total may letter k w) ++ drop (record_length L * n) before) (prefix_count_named k w h)
 
-      pub accepted-order-named : accepted_order may' letter' M (map f w) ≡ accepted_order may letter M w
-      accepted-order-named = ap earliest (ap (λ l. map (map letter') (filter (accepted? M letter') l)) (orders_named w h)
+      pub accepted_order_named : accepted_order may' letter' M (map f w) ≡ accepted_order may letter M w
+      accepted_order_named = ap earliest (ap (λ l. map (map letter') (filter (accepted? M letter') l)) (orders_named w h)
           ∙ ap (map (map letter')) (filter_map (accepted? M letter') (map f) (orders may w)
-          ∙ ap (map (map f)) (filter_agree (λ v. accepted? M letter' (map f v)) (accepted? M letter) (orders may w) (λ v m. ap (λ S. meets S M.final) (run-named v (orders_ok w h v m) M.start))))
+          ∙ ap (map (map f)) (filter_agree (λ v. accepted? M letter' (map f v)) (accepted? M letter) (orders may w) (λ v m. ap (λ S. meets S M.final) (run_named v (orders_ok w h v m) M.start))))
           ∙ map_twice (map letter') (map f) (filter (accepted? M letter) (orders may w))
           ∙ map_on (λ v. map letter' (map f v)) (map letter) (filter (accepted? M letter) (orders may w))
           (λ v m. map_twice letter' f v ∙ map-ok v (orders_ok w h v (filter_at (accepted? M letter) (orders may w) m).0)))

@@ -12,8 +12,8 @@ use Rattle.profile.specs.Automata.{Accepted, automaton}
 use Rattle.profile.specs.Orders.{Earlier, NoLater, Same}
 use Rattle.profile.specs.Rules.{Rules, looks_by, order_by, prefixes_by}
 use Rattle.profile.proofs.Traces.{order_of_reach, takes_length}
-use Rattle.theory.proofs.Comparison.{accepted_order_reach, accepted-order-same, prefix-count-same}
-use Rattle.theory.proofs.Counting.{prefix-count-reach}
+use Rattle.theory.proofs.Comparison.{accepted_order_reach, accepted_order_same, prefix_count_same}
+use Rattle.theory.proofs.Counting.{prefix_count_reach}
 use Rattle.theory.proofs.Looks.{looks_same}
 use Rattle.theory.proofs.Judgement.{accepted_order_at, accepted_order_not}
 use Rattle.theory.proofs.Profiles.{lawful}
@@ -56,8 +56,8 @@ module _ (r : Rules) (w : List ℕ) where
 pub same_answer_by : (r : Rules) (v w : List ℕ) → GoodEvents r v → GoodEvents r w → Same r.may v w
     → (order_by r v ≡ order_by r w) × (prefixes_by r v ≡ prefixes_by r w) × (looks_by r v ≡ looks_by r w)
 same_answer_by r v w a b s = (
-  accepted-order-same r.letter (automaton r.profile) r.may s.0 s.1,
-  prefix-count-same r.letter (automaton r.profile) r.may s.0 s.1 a.apart r.profile.k a.letters b.letters,
+  accepted_order_same r.letter (automaton r.profile) r.may s.0 s.1,
+  prefix_count_same r.letter (automaton r.profile) r.may s.0 s.1 a.apart r.profile.k a.letters b.letters,
   looks_same r.letter (automaton r.profile) r.may s.0 s.1 a.apart r.profile.k a.letters b.letters,
 )
 
@@ -67,4 +67,4 @@ pub order_by_reach : (r : Rules) (v w : List ℕ) {u : List ℕ} → Reachable r
 order_by_reach r v w h e = accepted_order_reach r.letter (automaton r.profile) r.may w v h e
 
 pub prefixes_by_reach : (r : Rules) (v w : List ℕ) → GoodEvents r v → Reachable r.may w v → prefixes_by r v ≤ prefixes_by r w
-prefixes_by_reach r v w a h = prefix-count-reach r.may r.letter r.profile.k a.apart w v a.letters h
+prefixes_by_reach r v w a h = prefix_count_reach r.may r.letter r.profile.k a.apart w v a.letters h

@@ -14,10 +14,10 @@ use Rattle.profile.specs.Lists.{Mem, below, filter, flat_map}
 use Rattle.profile.specs.Orders.{NoLater, accepted_order, earliest, least}
 use Rattle.profile.specs.Prefixes.{IsPrefix, at, by_total, closed?, count, prefix_count, prefixes, total, vectors}
 use Rattle.profile.specs.Traces.{Reachable, exchange, itself, letters_below, orders}
-use Rattle.theory.proofs.Counting.{prefix-count-reach, prefixes_at, prefixes_nodup, prefixes_of}
+use Rattle.theory.proofs.Counting.{prefix_count_reach, prefixes_at, prefixes_nodup, prefixes_of}
 use Rattle.theory.proofs.Earliest.{earliest_at, least_le, no_later_antisym}
 use Rattle.profile.proofs.Lists.{filter_agree, filter_at, filter_of, nodup_length}
-use Rattle.theory.proofs.Prefixes.{count_order, prefix-of-order, prefix_test}
+use Rattle.theory.proofs.Prefixes.{count_order, prefix_of_order, prefix_test}
 use Rattle.profile.proofs.Sets.{t_eq}
 use Rattle.profile.proofs.Traces.{Order, mem_of_order, order_of_mem, order_of_reach, order_trans, reach_of_order, takes_length}
 
@@ -48,25 +48,25 @@ module _ (letter : ℕ → ℕ) (M : Automaton) where
   -- ---- a relation that allows more
 
   module _ (may may' : ℕ → ℕ → Bool) (sub : (a b : ℕ) → T (may a b) → T (may' a b)) where
-    pub reach-more : {w v : List ℕ} → Reachable may w v → Reachable may' w v
-    reach-more itself = itself
-    reach-more (exchange u a b v ok r) = exchange u a b v (sub a b ok) (reach-more r)
+    pub reach_more : {w v : List ℕ} → Reachable may w v → Reachable may' w v
+    reach_more itself = itself
+    reach_more (exchange u a b v ok r) = exchange u a b v (sub a b ok) (reach_more r)
 
-    pub accepted-order-grows : (w : List ℕ) {u : List ℕ} → accepted_order may letter M w ≡ some u → (x : List ℕ) × (accepted_order may' letter M w ≡ some x) × NoLater x u
-    accepted-order-grows w e = accepted_order_more may may' w w (λ x o. order_of_reach may' (reach-more (reach_of_order may o))) e
+    pub accepted_order_grows : (w : List ℕ) {u : List ℕ} → accepted_order may letter M w ≡ some u → (x : List ℕ) × (accepted_order may' letter M w ≡ some x) × NoLater x u
+    accepted_order_grows w e = accepted_order_more may may' w w (λ x o. order_of_reach may' (reach_more (reach_of_order may o))) e
 
-    pub prefix-more : {w : List ℕ} {c : ℕ → ℕ} → IsPrefix may letter w c → IsPrefix may' letter w c
-    prefix-more p = record { fits = p.fits; closed = λ u v x a b e k bad. p.closed u v x a b e k (not_T (may a b) (λ ok. T_not (may' a b) bad (sub a b ok))) }
+    pub prefix_more : {w : List ℕ} {c : ℕ → ℕ} → IsPrefix may letter w c → IsPrefix may' letter w c
+    prefix_more p = record { fits = p.fits; closed = λ u v x a b e k bad. p.closed u v x a b e k (not_T (may a b) (λ ok. T_not (may' a b) bad (sub a b ok))) }
 
-    pub prefix-count-grows : (k : ℕ) (w : List ℕ) → T (letters_below letter k w) → prefix_count may letter k w ≤ prefix_count may' letter k w
-    prefix-count-grows k w h = nodup_length (prefixes may letter k w) (prefixes may' letter k w) (prefixes_nodup may letter k w)
-        (λ c m. let n = prefixes_at may letter k w c h m in prefixes_of may' letter k w c n.0 (prefix-more n.1))
+    pub prefix_count_grows : (k : ℕ) (w : List ℕ) → T (letters_below letter k w) → prefix_count may letter k w ≤ prefix_count may' letter k w
+    prefix_count_grows k w h = nodup_length (prefixes may letter k w) (prefixes may' letter k w) (prefixes_nodup may letter k w)
+        (λ c m. let n = prefixes_at may letter k w c h m in prefixes_of may' letter k w c n.0 (prefix_more n.1))
 
   -- ---- logs reachable from each other
 
   module _ (may : ℕ → ℕ → Bool) {w v : List ℕ} (p : Reachable may w v) (q : Reachable may v w) where
-    pub accepted-order-same : accepted_order may letter M w ≡ accepted_order may letter M v
-    accepted-order-same = go (accepted_order may letter M w) refl (accepted_order may letter M v) refl
+    pub accepted_order_same : accepted_order may letter M w ≡ accepted_order may letter M v
+    accepted_order_same = go (accepted_order may letter M w) refl (accepted_order may letter M v) refl
       where
         go : (a : Option (List ℕ)) → accepted_order may letter M w ≡ a → (b : Option (List ℕ)) → accepted_order may letter M v ≡ b → accepted_order may letter M w ≡ accepted_order may letter M v
         go none d none e = d ∙ sym e
@@ -79,24 +79,24 @@ module _ (letter : ℕ → ℕ) (M : Automaton) where
             let b : NoLater y x = subst (λ z. NoLater z x) (some-injective _ _ (sym m.1 ∙ e)) m.2 in
             d ∙ ap some (no_later_antisym a b) ∙ sym e
 
-    pub prefix-count-same : ((a b : ℕ) → T (may a b) → letter a ≢ letter b) → (k : ℕ) → T (letters_below letter k w) → T (letters_below letter k v)
+    pub prefix_count_same : ((a b : ℕ) → T (may a b) → letter a ≢ letter b) → (k : ℕ) → T (letters_below letter k w) → T (letters_below letter k v)
         → prefix_count may letter k w ≡ prefix_count may letter k v
-    prefix-count-same distinct k h g = omega (arith, prefix-count-reach may letter k distinct w v g p, prefix-count-reach may letter k distinct v w h q)
+    prefix_count_same distinct k h g = omega (arith, prefix_count_reach may letter k distinct w v g p, prefix_count_reach may letter k distinct v w h q)
 
     module _ (distinct : (a b : ℕ) → T (may a b) → letter a ≢ letter b) (k : ℕ) (h : T (letters_below letter k w)) (g : T (letters_below letter k v)) where
       -- each prefix of one is a prefix of the other
       pub over : {c : ℕ → ℕ} → IsPrefix may letter w c → IsPrefix may letter v c
-      over n = (prefix-of-order may letter distinct (order_of_reach may q) n).0
+      over n = (prefix_of_order may letter distinct (order_of_reach may q) n).0
 
-      pub back-over : {c : ℕ → ℕ} → IsPrefix may letter v c → IsPrefix may letter w c
-      back-over n = (prefix-of-order may letter distinct (order_of_reach may p) n).0
+      pub back_over : {c : ℕ → ℕ} → IsPrefix may letter v c → IsPrefix may letter w c
+      back_over n = (prefix_of_order may letter distinct (order_of_reach may p) n).0
 
       -- the same prefixes, in the same order
-      pub prefixes-same : prefixes may letter k w ≡ prefixes may letter k v
-      prefixes-same = filter_agree (λ c. closed? may letter w (at c)) (λ c. closed? may letter v (at c)) (vectors (map (count letter w) (below k)))
+      pub prefixes_same : prefixes may letter k w ≡ prefixes may letter k v
+      prefixes_same = filter_agree (λ c. closed? may letter w (at c)) (λ c. closed? may letter v (at c)) (vectors (map (count letter w) (below k)))
           (λ c m. t_eq (closed? may letter w (at c)) (closed? may letter v (at c))
           (λ t. ((prefix_test may letter v (at c)).0 (over (prefixes_at may letter k w c h (filter_of (λ d. closed? may letter w (at d)) m t)).1)).1)
-          (λ t. ((prefix_test may letter w (at c)).0 (back-over (prefixes_at may letter k v c g
+          (λ t. ((prefix_test may letter w (at c)).0 (back_over (prefixes_at may letter k v c g
           (filter_of (λ d. closed? may letter v (at d)) (subst (λ f. Mem c (vectors (map f (below k)))) e m) t)).1)).1))
           ∙ ap (λ f. filter (λ c. closed? may letter v (at c)) (vectors (map f (below k)))) e
         where
@@ -104,8 +104,8 @@ module _ (letter : ℕ → ℕ) (M : Automaton) where
           e = count_order may letter (order_of_reach may p)
 
       -- so also the same order by total
-      pub by-total-same : by_total may letter k w ≡ by_total may letter k v
-      by-total-same = ap₂ (λ l n. flat_map (λ m. filter (λ c. eqb (total c) m) l) (below (suc n))) prefixes-same len
+      pub by_total_same : by_total may letter k w ≡ by_total may letter k v
+      by_total_same = ap₂ (λ l n. flat_map (λ m. filter (λ c. eqb (total c) m) l) (below (suc n))) prefixes_same len
         where
           len : length w ≡ length v
           len = omega (arith, takes_length may (order_of_reach may p))

@@ -12,7 +12,7 @@ use Rattle.profile.specs.Lists.{Mem, below, range}
 use Rattle.profile.specs.Prefixes.{IsPrefix, at, closed?, count, prefix_count, prefixes, vectors}
 use Rattle.profile.specs.Traces.{Reachable, letters_below}
 use Rattle.profile.proofs.Lists.{NoDup, below_at, below_of, filter_at, filter_nodup, filter_of, flat_map_at, flat_map_nodup, flat_map_of, fst_of, lt_or_le, map_nodup, nodup_length, range_nodup, snd_of}
-use Rattle.theory.proofs.Prefixes.{one_cases, prefix-of-order, prefix_test}
+use Rattle.theory.proofs.Prefixes.{one_cases, prefix_of_order, prefix_test}
 use Rattle.profile.proofs.Traces.{order_of_reach}
 
 -- ---- the boxes
@@ -105,6 +105,6 @@ module _ (may : ℕ → ℕ → Bool) (letter : ℕ → ℕ) (k : ℕ) where
 
   module _ (distinct : (a b : ℕ) → T (may a b) → letter a ≢ letter b) where
     -- a reachable log has no more prefixes
-    pub prefix-count-reach : (w v : List ℕ) → T (letters_below letter k v) → Reachable may w v → prefix_count may letter k v ≤ prefix_count may letter k w
-    prefix-count-reach w v h r = nodup_length (prefixes may letter k v) (prefixes may letter k w) (prefixes_nodup v)
-        (λ c m. let n = prefixes_at v c h m in prefixes_of w c n.0 (prefix-of-order may letter distinct (order_of_reach may r) n.1).0)
+    pub prefix_count_reach : (w v : List ℕ) → T (letters_below letter k v) → Reachable may w v → prefix_count may letter k v ≤ prefix_count may letter k w
+    prefix_count_reach w v h r = nodup_length (prefixes may letter k v) (prefixes may letter k w) (prefixes_nodup v)
+        (λ c m. let n = prefixes_at v c h m in prefixes_of w c n.0 (prefix_of_order may letter distinct (order_of_reach may r) n.1).0)

@@ -98,30 +98,30 @@ module _ (may : ℕ → ℕ → Bool) (letter : ℕ → ℕ) {S : Type 0} (after
           → ((b : ℕ) (y : List ℕ) → Pick may w b y → T (live (after s (letter b)) y) → letter a ≤ letter b)
           → Greedy (after s (letter a)) x u t r → Greedy s w (a ∷ u) t r
 
-    pub greedy-append : {s t e : S} {w u r v x : List ℕ} → Greedy s w u t r → Greedy t r v e x → Greedy s w (u ++ v) e x
-    greedy-append end k = k
-    greedy-append (take p l m g) k = take p l m (greedy-append g k)
+    pub greedy_append : {s t e : S} {w u r v x : List ℕ} → Greedy s w u t r → Greedy t r v e x → Greedy s w (u ++ v) e x
+    greedy_append end k = k
+    greedy_append (take p l m g) k = take p l m (greedy_append g k)
 
-    pub greedy-takes : {s t : S} {w u r : List ℕ} → Greedy s w u t r → Takes may w u r
-    greedy-takes end = done
-    greedy-takes (take p l m g) = next p (greedy-takes g)
+    pub greedy_takes : {s t : S} {w u r : List ℕ} → Greedy s w u t r → Takes may w u r
+    greedy_takes end = done
+    greedy_takes (take p l m g) = next p (greedy_takes g)
 
     module _ (distinct : (a b : ℕ) → T (may a b) → letter a ≢ letter b)
         (live_of_lem : (s : S) (r v : List ℕ) → Order may r v → T (good s v) → T (live s r))
         (Live-at : (s : S) (r : List ℕ) → T (live s r) → (v : List ℕ) × Order may r v × T (good s v)) where
-      pub greedy-good : {s t : S} {w v : List ℕ} → T (live s w) → Greedy s w v t [] → T (good s v)
-      greedy-good {s = s} h end = let n = Live-at s [] h in go n.0 n.1 n.2
+      pub greedy_good : {s t : S} {w v : List ℕ} → T (live s w) → Greedy s w v t [] → T (good s v)
+      greedy_good {s = s} h end = let n = Live-at s [] h in go n.0 n.1 n.2
         where
           go : (v : List ℕ) → Order may [] v → T (good s v) → T (good s [])
           go [] done h = h
           go (b ∷ v) (next p o) h = absurd (no_pick may p)
-      greedy-good h (take p l m g) = greedy-good l g
+      greedy_good h (take p l m g) = greedy_good l g
 
       -- what is taken so far begins the earliest good order
-      pub greedy-least : {s t : S} {w v u : List ℕ} → Greedy s w v t [] → Order may w u → T (good s u) → NoLater (map letter v) (map letter u)
-      greedy-least end o h = ends
-      greedy-least (take {s = s} {a = a} {x = x} {u = v} p l m g) (next {a = b} {r = y} {u = u} q o) h =
-          go (lt_or_le (letter a) (letter b)) (λ o' h'. greedy-least g o' h')
+      pub greedy_least : {s t : S} {w v u : List ℕ} → Greedy s w v t [] → Order may w u → T (good s u) → NoLater (map letter v) (map letter u)
+      greedy_least end o h = ends
+      greedy_least (take {s = s} {a = a} {x = x} {u = v} p l m g) (next {a = b} {r = y} {u = u} q o) h =
+          go (lt_or_le (letter a) (letter b)) (λ o' h'. greedy_least g o' h')
         where
           go : (letter a < letter b) ⊎ (letter b ≤ letter a) → (Order may x u → T (good (after s (letter a)) u) → NoLater (map letter v) (map letter u))
               → NoLater (letter a ∷ map letter v) (letter b ∷ map letter u)
@@ -131,17 +131,17 @@ module _ (may : ℕ → ℕ → Bool) (letter : ℕ → ℕ) {S : Type 0} (after
               agrees e (ih (subst (λ z. Order may z u) (sym (pick_same may letter distinct p q e).1) o) (subst (λ z. T (good (after s z) u)) (sym e) h))
 
       -- and all of it is the earliest of the good orders
-      pub greedy-first : {s t : S} {w v : List ℕ} → T (live s w) → Greedy s w v t [] → earliest (map (map letter) (filter (good s) (orders may w))) ≡ some (map letter v)
-      greedy-first {s} {w = w} {v = v} h g =
+      pub greedy_first : {s t : S} {w v : List ℕ} → T (live s w) → Greedy s w v t [] → earliest (map (map letter) (filter (good s) (orders may w))) ≡ some (map letter v)
+      greedy_first {s} {w = w} {v = v} h g =
           earliest_of (map (map letter) (filter (good s) (orders may w)))
-          (Memᴰ.map (map letter) (filter_of (good s) (mem_of_order may w (greedy-takes g)) (greedy-good h g)))
+          (Memᴰ.map (map letter) (filter_of (good s) (mem_of_order may w (greedy_takes g)) (greedy_good h g)))
           (λ u m.
           let n = Memᴰ.of_map (map letter) (filter (good s) (orders may w)) m in
           let k = filter_at (good s) (orders may w) n.1 in
-          subst (NoLater (map letter v)) n.2 (greedy-least g (order_of_mem may w k.0) k.1))
+          subst (NoLater (map letter v)) n.2 (greedy_least g (order_of_mem may w k.0) k.1))
 
-      pub greedy-none : (s : S) (w : List ℕ) → (T (live s w) → ⊥) → earliest (map (map letter) (filter (good s) (orders may w))) ≡ none
-      greedy-none s w h = ap (λ l. earliest (map (map letter) l)) (filter_none (good s) (orders may w) (λ u m t. h (live_of_lem s w u (order_of_mem may w m) t)))
+      pub greedy_none : (s : S) (w : List ℕ) → (T (live s w) → ⊥) → earliest (map (map letter) (filter (good s) (orders may w))) ≡ none
+      greedy_none s w h = ap (λ l. earliest (map (map letter) l)) (filter_none (good s) (orders may w) (λ u m t. h (live_of_lem s w u (order_of_mem may w m) t)))
 
 -- ---- the first order of all, where events are letters
 
@@ -155,9 +155,9 @@ module _ (may : ℕ → ℕ → Bool) where
   -- the smallest letter that may come next, each time, gives the first order
   pub first_greedy : ((a b : ℕ) → T (may a b) → a ≢ b) → {w v : List ℕ} {t : Unit {0}} → Greedy may (λ a. a) (λ s x. tt) (λ s. true) (λ s r. true) tt w v t [] → first_order may w ≡ some v
   first_greedy distinct {w} {v} g =
-      earliest_of (orders may w) (mem_of_order may w (greedy-takes may (λ a. a) (λ s x. tt) (λ s. true) (λ s r. true) g))
+      earliest_of (orders may w) (mem_of_order may w (greedy_takes may (λ a. a) (λ s x. tt) (λ s. true) (λ s r. true) g))
       (λ u m. subst₂ NoLater (map_id v) (map_id u)
-      (greedy-least may (λ a. a) (λ s x. tt) (λ s. true) (λ s r. true) distinct (λ s r v o h. tt) (λ s r h. (r, takes_refl may r, all-good r)) g (order_of_mem may w m) (all-good u)))
+      (greedy_least may (λ a. a) (λ s x. tt) (λ s. true) (λ s r. true) distinct (λ s r v o h. tt) (λ s r h. (r, takes_refl may r, all-good r)) g (order_of_mem may w m) (all-good u)))
     where
       map_id : (l : List ℕ) → map (λ a. a) l ≡ l
       map_id [] = refl

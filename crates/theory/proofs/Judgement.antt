@@ -12,10 +12,10 @@ use Rattle.profile.specs.Lists.{Mem, filter}
 use Rattle.profile.specs.Orders.{NoLater, accepted_order, earliest}
 use Rattle.profile.specs.Prefixes.{IsPrefix, addable?, backward, more, unmarked}
 use Rattle.profile.specs.Traces.{Reachable, letters_below, orders}
-use Rattle.theory.proofs.Automata.{Lawful, back_at_leads, back_of_leads, backward-first, run_at, run_of, unmarked-none}
-use Rattle.theory.proofs.Earliest.{Greedy, earliest_at, end, good, greedy-first, greedy-none, take}
+use Rattle.theory.proofs.Automata.{Lawful, back_at_leads, back_of_leads, backward_first, run_at, run_of, unmarked_none}
+use Rattle.theory.proofs.Earliest.{Greedy, earliest_at, end, good, greedy_first, greedy_none, take}
 use Rattle.profile.proofs.Lists.{filter_at, filter_of, lt_or_le}
-use Rattle.theory.proofs.Prefixes.{addable-at, addable-of, all-of-pick, more-of-pick}
+use Rattle.theory.proofs.Prefixes.{addable_at, addable_of, all_of_pick, more_of_pick}
 pub use Rattle.profile.proofs.Paths.{accepted_at, accepted_of}
 use Rattle.profile.proofs.Sets.{meets_at, meets_of, union_at, union_of}
 use Rattle.profile.proofs.Traces.{Order, mem_of_order, order_of_mem, order_of_reach, reach_of_order}
@@ -88,20 +88,20 @@ module _ (may : ℕ → ℕ → Bool) (letter : ℕ → ℕ) (M : Automaton) (L 
   Chosen = Greedy may letter M.step ok live
 
   module _ (distinct : (a b : ℕ) → T (may a b) → letter a ≢ letter b) where
-    good-test : good may letter M.step ok M.start ≡ accepted? M letter
-    good-test = fun_ext (λ u. good_run u M.start)
+    good_test : good may letter M.step ok M.start ≡ accepted? M letter
+    good_test = fun_ext (λ u. good_run u M.start)
 
-    pub accepted-order-some : {w v : List ℕ} {S : ℕ} → T (live M.start w) → Chosen M.start w v S [] → accepted_order may letter M w ≡ some (map letter v)
-    accepted-order-some {w} h g = ap (λ p. earliest (map (map letter) (filter p (orders may w)))) (sym good-test)
-        ∙ greedy-first may letter M.step ok live distinct live_of live_at h g
+    pub accepted_order_some : {w v : List ℕ} {S : ℕ} → T (live M.start w) → Chosen M.start w v S [] → accepted_order may letter M w ≡ some (map letter v)
+    accepted_order_some {w} h g = ap (λ p. earliest (map (map letter) (filter p (orders may w)))) (sym good_test)
+        ∙ greedy_first may letter M.step ok live distinct live_of live_at h g
 
-    pub accepted-order-none : (w : List ℕ) → (T (live M.start w) → ⊥) → accepted_order may letter M w ≡ none
-    accepted-order-none w h = ap (λ p. earliest (map (map letter) (filter p (orders may w)))) (sym good-test)
-        ∙ greedy-none may letter M.step ok live distinct live_of live_at M.start w h
+    pub accepted_order_none : (w : List ℕ) → (T (live M.start w) → ⊥) → accepted_order may letter M w ≡ none
+    accepted_order_none w h = ap (λ p. earliest (map (map letter) (filter p (orders may w)))) (sym good_test)
+        ∙ greedy_none may letter M.step ok live distinct live_of live_at M.start w h
 
     -- the test at the empty prefix is the table's backward set
-    pub live-start : (w : List ℕ) → live M.start w ≡ meets M.start (backward may letter M w (λ x. 0))
-    live-start w = ap (live M.start) (sym (unmarked-none may letter M L w distinct))
+    pub live_start : (w : List ℕ) → live M.start w ≡ meets M.start (backward may letter M w (λ x. 0))
+    live_start w = ap (live M.start) (sym (unmarked_none may letter M L w distinct))
 
     module _ (w : List ℕ) where
       -- one choice: x is the smallest letter with which c is still a prefix and the states reached meet the backward set there
@@ -109,32 +109,32 @@ module _ (may : ℕ → ℕ → Bool) (letter : ℕ → ℕ) (M : Automaton) (L 
           → ((y : ℕ) → y < x → T (addable? may letter w c y) → T (meets (M.step S y) (backward may letter M w (more c y))) → ⊥)
           → (a : ℕ) × (letter a ≡ x) × Chosen S (unmarked letter w c) (a ∷ []) (M.step S x) (unmarked letter w (more c x))
       choice {c} S x p t h least =
-          let n = addable-at may letter distinct p t in (
+          let n = addable_at may letter distinct p t in (
             n.1,
             n.2,
             subst (λ y. Chosen S (unmarked letter w c) (n.1 ∷ []) (M.step S y) (unmarked letter w (more c x))) n.2
                 (take n.3 (subst (λ y. T (meets (M.step S y) (backward may letter M w (more c x)))) (sym n.2) h)
                 (λ b y k l. ⊎_elim
                 (λ lt.
-                let m = more-of-pick may letter distinct p k in
-                absurd (least (letter b) (subst (λ z. letter b < z) n.2 lt) (addable-of may letter distinct c (letter b) m.0)
+                let m = more_of_pick may letter distinct p k in
+                absurd (least (letter b) (subst (λ z. letter b < z) n.2 lt) (addable_of may letter distinct c (letter b) m.0)
                 (subst (λ z. T (live (M.step S (letter b)) z)) (sym m.1) l)))
                 (λ le. le) (lt_or_le (letter b) (letter n.1)))
                 end),
           )
 
       -- there is a choice as long as something is left
-      pub some-choice : (k : ℕ) → T (letters_below letter k w) → {c : ℕ → ℕ} (S : ℕ) → IsPrefix may letter w c → (unmarked letter w c ≡ [] → ⊥)
+      pub some_choice : (k : ℕ) → T (letters_below letter k w) → {c : ℕ → ℕ} (S : ℕ) → IsPrefix may letter w c → (unmarked letter w c ≡ [] → ⊥)
           → T (meets S (backward may letter M w c)) → (x : ℕ) × (x < k) × T (addable? may letter w c x) × T (meets (M.step S x) (backward may letter M w (more c x)))
-      some-choice k letters {c} S p ne h =
+      some_choice k letters {c} S p ne h =
           let n = meets_at S (backward may letter M w c) h in
           ⊎_elim (λ z. absurd (ne z.0))
           (λ b.
           let x = letter b.0 in
           let r = L.back_at (backward may letter M w (more c x)) x n.0 b.3 in (
             x,
-            ltb→lt x k (all-of-pick may letter distinct (λ a. ltb (letter a) k) p b.2 letters),
-            addable-of may letter distinct c x b.1,
+            ltb→lt x k (all_of_pick may letter distinct (λ a. ltb (letter a) k) p b.2 letters),
+            addable_of may letter distinct c x b.1,
             meets_of (M.step S x) (backward may letter M w (more c x)) r.0 (L.step_of_lem S x n.0 r.0 n.1 r.2) r.1,
           ))
-          (backward-first may letter M L w distinct n.0 p n.2)
+          (backward_first may letter M L w distinct n.0 p n.2)

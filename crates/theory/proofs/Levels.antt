@@ -15,7 +15,7 @@ use Rattle.profile.specs.Traces.{letters_below}
 use Rattle.profile.specs.Prefixes.{IsPrefix, addable?, at, by_total, count, level, marked, more, one, prefix_count, prefixes, total}
 use Rattle.theory.proofs.Counting.{at_map, length_range, prefix_count_of, prefixes_at, prefixes_nodup, prefixes_of}
 use Rattle.profile.proofs.Lists.{NoDup, below_of, filter_at, filter_nodup, filter_of, flat_map_at, flat_map_nodup, flat_map_of, fst_of, lt_or_le, range_nodup, snd_of}
-use Rattle.theory.proofs.Prefixes.{addable-at, addable-of, all-of-pick, count_of_prefix, front_length, front_marks, front_of_prefix, one_cases, one_other, one_same, prefix-last}
+use Rattle.theory.proofs.Prefixes.{addable_at, addable_of, all_of_pick, count_of_prefix, front_length, front_marks, front_of_prefix, one_cases, one_other, one_same, prefix_last}
 
 -- ---- totals
 
@@ -140,7 +140,7 @@ module _ (may : ℕ → ℕ → Bool) (letter : ℕ → ℕ) (distinct : (a b : 
       let s = filter_at (λ c. eqb (total c) n) (prefixes may letter k w) m in
       let p = prefixes_at may letter k w c letters s.0 in
       let h : x < length c = omega (arith, p.0) in
-      let q = (addable-at may letter distinct p.1 t).0 in
+      let q = (addable_at may letter distinct p.1 t).0 in
       let e : total (bump c x) ≡ suc n = total_bump c x h ∙ ap suc (eqb→eq (total c) n s.1) in
       filter_of (λ c. eqb (total c) (suc n))
       (prefixes_of may letter k w (bump c x) (length-set c x (suc (at c x)) ∙ p.0) (subst (IsPrefix may letter w) (sym (at_bump c x h)) q))
@@ -156,8 +156,8 @@ module _ (may : ℕ → ℕ → Bool) (letter : ℕ → ℕ) (distinct : (a b : 
       ⊎_elim
       (λ z. absurd (omega (arith, tot, ap total (at_below c), ap (λ f. total (map f (below (length c)))) z, total_none (below (length c)))))
       (λ f. go f.0 (letter f.1) p.0 p.1 tot f.2 f.3
-      (ltb→lt (letter f.1) k (all-of-pick may letter distinct (λ a. ltb (letter a) k) f.2 f.4 letters)))
-      (prefix-last may letter distinct p.1)
+      (ltb→lt (letter f.1) k (all_of_pick may letter distinct (λ a. ltb (letter a) k) f.2 f.4 letters)))
+      (prefix_last may letter distinct p.1)
     where
       go : (f : ℕ → ℕ) (x : ℕ) → length c ≡ k → IsPrefix may letter w (at c) → total c ≡ suc n → IsPrefix may letter w f → at c ≡ more f x → x < k
           → (d : List ℕ) × (x : ℕ) × Mem d (level may letter k w n) × (x < k) × T (addable? may letter w (at d) x) × (c ≡ bump d x)
@@ -170,6 +170,6 @@ module _ (may : ℕ → ℕ → Bool) (letter : ℕ → ℕ) (distinct : (a b : 
             filter_of (λ c. eqb (total c) n) (prefixes_of may letter k w d (b.1 ∙ len) (subst (IsPrefix may letter w) (sym b.2) q))
                 (subst (λ z. T (eqb z n)) (sym t) (eqb_refl n)),
             lt,
-            addable-of may letter distinct (at d) x (subst (IsPrefix may letter w) (e ∙ ap (λ m. more m x) (sym b.2)) p),
+            addable_of may letter distinct (at d) x (subst (IsPrefix may letter w) (e ∙ ap (λ m. more m x) (sym b.2)) p),
             sym b.3,
           )

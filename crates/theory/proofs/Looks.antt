@@ -13,11 +13,11 @@ use Rattle.profile.specs.Automata.{Automaton}
 use Rattle.profile.specs.Lists.{Mem, below, filter, flat_map}
 use Rattle.profile.specs.Prefixes.{IsPrefix, addable?, additions, at, by_total, looks, more, prefix_count, prefixes, total}
 use Rattle.profile.specs.Traces.{Reachable, letters_below}
-use Rattle.theory.proofs.Comparison.{back-over, over, prefixes-same}
+use Rattle.theory.proofs.Comparison.{back_over, over, prefixes_same}
 use Rattle.theory.proofs.Counting.{length_range, prefixes_at, prefixes_nodup, prefixes_of}
 use Rattle.theory.proofs.Levels.{bump, by_total_at, by_total_nodup, by_total_of, level_last}
 use Rattle.profile.proofs.Lists.{NoDup, below_at, below_of, filter_agree, filter_at, filter_nodup, filter_of, flat_map_agree, flat_map_append, flat_map_at, flat_map_nodup, flat_map_of, map_nodup, nodup_length, range_nodup}
-use Rattle.theory.proofs.Prefixes.{addable-at, addable-of}
+use Rattle.theory.proofs.Prefixes.{addable_at, addable_of}
 use Rattle.profile.proofs.Sets.{t_eq}
 
 -- the pairs of counts in l and a letter that can be added to them
@@ -60,8 +60,8 @@ module _ {A B : Type 0} where
     abbrev paired : List A → List (A × B)
     paired l = flat_map (λ a. map (λ b. (a, b)) (f a)) l
 
-    paired-length : (l : List A) → length (paired l) ≡ length (flat_map f l)
-    paired-length l = flat_map_length_map f (λ a b. (a, b)) l
+    paired_length : (l : List A) → length (paired l) ≡ length (flat_map f l)
+    paired_length l = flat_map_length_map f (λ a b. (a, b)) l
 
     paired_at : {a : A} {b : B} (l : List A) → Mem (a, b) (paired l) → Mem a l × Mem b (f a)
     paired_at {a} {b} l m =
@@ -75,23 +75,23 @@ module _ {A B : Type 0} where
     paired_of {a} m n = flat_map_of (λ a. map (λ b. (a, b)) (f a)) m (Memᴰ.map (λ b. (a, b)) n)
 
   module _ (f : A → List B) (once : (a : A) → NoDup (f a)) where
-    paired-nodup : (l : List A) → NoDup l → NoDup (paired f l)
-    paired-nodup l d = flat_map_nodup (λ a. map (λ b. (a, b)) (f a)) l d
+    paired_nodup : (l : List A) → NoDup l → NoDup (paired f l)
+    paired_nodup l d = flat_map_nodup (λ a. map (λ b. (a, b)) (f a)) l d
         (λ a. map_nodup (λ b. (a, b)) (λ x y e. ap (λ p. p.1) e) (f a) (once a))
         (λ a c p m n. ap (λ p. p.0) ((Memᴰ.of_map (λ b. (a, b)) (f a) m).2 ∙ sym (Memᴰ.of_map (λ b. (c, b)) (f c) n).2))
 
     -- lists without repeats: more elements to go through, no smaller length
-    flat-map-length-more : (l r : List A) → NoDup l → ((a : A) → Mem a l → Mem a r) → length (flat_map f l) ≤ length (flat_map f r)
-    flat-map-length-more l r d h = omega (
+    flat_map_length_more : (l r : List A) → NoDup l → ((a : A) → Mem a l → Mem a r) → length (flat_map f l) ≤ length (flat_map f r)
+    flat_map_length_more l r d h = omega (
       arith,
-      nodup_length (paired f l) (paired f r) (paired-nodup l d) (λ p m. let n = paired_at f l m in paired_of f (h p.0 n.0) n.1),
-      paired-length f l,
-      paired-length f r,
+      nodup_length (paired f l) (paired f r) (paired_nodup l d) (λ p m. let n = paired_at f l m in paired_of f (h p.0 n.0) n.1),
+      paired_length f l,
+      paired_length f r,
     )
 
     -- the same elements, the same length
-    pub flat-map-length-same : (l r : List A) → NoDup l → NoDup r → ((a : A) → Mem a l → Mem a r) → ((a : A) → Mem a r → Mem a l) → length (flat_map f l) ≡ length (flat_map f r)
-    flat-map-length-same l r d e g h = omega (arith, flat-map-length-more l r d g, flat-map-length-more r l e h)
+    pub flat_map_length_same : (l r : List A) → NoDup l → NoDup r → ((a : A) → Mem a l → Mem a r) → ((a : A) → Mem a r → Mem a l) → length (flat_map f l) ≡ length (flat_map f r)
+    flat_map_length_same l r d e g h = omega (arith, flat_map_length_more l r d g, flat_map_length_more r l e h)
 
 -- counts with the total 0 are all 0
 none_of_total : (c : List ℕ) → total c ≡ 0 → c ≡ replicate (length c) 0
@@ -127,8 +127,8 @@ module _ (may : ℕ → ℕ → Bool) (letter : ℕ → ℕ) (k : ℕ) (w : List
   -- ---- the pairs by rising total
 
   module _ (letters : T (letters_below letter k w)) where
-    pub looks-by-total : looks may letter k w ≡ pairs_in may letter k w (by_total may letter k w)
-    looks-by-total = flat-map-length-same (additions may letter k w) additions_nodup
+    pub looks_by_total : looks may letter k w ≡ pairs_in may letter k w (by_total may letter k w)
+    looks_by_total = flat_map_length_same (additions may letter k w) additions_nodup
         (prefixes may letter k w) (by_total may letter k w) (prefixes_nodup may letter k w) (by_total_nodup may letter k w)
         (λ c m. by_total_of may letter k w c letters m) (by_total_at may letter k w)
 
@@ -138,36 +138,36 @@ module _ (may : ℕ → ℕ → Bool) (letter : ℕ → ℕ) (k : ℕ) (w : List
       looked : List (List ℕ × ℕ)
       looked = paired (additions may letter k w) (prefixes may letter k w)
 
-      addition-at : (c : List ℕ) (x : ℕ) → Mem (c, x) looked → Addition may letter k w c x
+      addition_at : (c : List ℕ) (x : ℕ) → Mem (c, x) looked → Addition may letter k w c x
       unfolding looked
-      addition-at c x m =
+      addition_at c x m =
           let n = paired_at (additions may letter k w) (prefixes may letter k w) m in
           let p = prefixes_at may letter k w c letters n.0 in
           let q = filter_at (addable? may letter w (at c)) (below k) n.1 in
-          record { letters = p.0; prefix = p.1; letter_below = below_at k x q.0; again = (addable-at may letter distinct p.1 q.1).0 }
+          record { letters = p.0; prefix = p.1; letter_below = below_at k x q.0; again = (addable_at may letter distinct p.1 q.1).0 }
 
-      addition-of : (c : List ℕ) (x : ℕ) → Addition may letter k w c x → Mem (c, x) looked
+      addition_of : (c : List ℕ) (x : ℕ) → Addition may letter k w c x → Mem (c, x) looked
       unfolding looked
-      addition-of c x a = paired_of (additions may letter k w) (prefixes_of may letter k w c a.letters a.prefix)
-          (filter_of (addable? may letter w (at c)) (below_of k x a.letter_below) (addable-of may letter distinct (at c) x a.again))
+      addition_of c x a = paired_of (additions may letter k w) (prefixes_of may letter k w c a.letters a.prefix)
+          (filter_of (addable? may letter w (at c)) (below_of k x a.letter_below) (addable_of may letter distinct (at c) x a.again))
 
       -- "exactly the number of pairs of a prefix and a letter such that adding one of that letter gives a prefix again": any list of exactly these
       -- pairs, each once, has as many
-      pub looks-pairs : (l : List (List ℕ × ℕ)) → NoDup l → ((c : List ℕ) (x : ℕ) → Mem (c, x) l ↔ Addition may letter k w c x) → length l ≡ looks may letter k w
+      pub looks_pairs : (l : List (List ℕ × ℕ)) → NoDup l → ((c : List ℕ) (x : ℕ) → Mem (c, x) l ↔ Addition may letter k w c x) → length l ≡ looks may letter k w
       unfolding looked
-      looks-pairs l d h = omega (
+      looks_pairs l d h = omega (
         arith,
-        nodup_length l looked d (λ p m. addition-of p.0 p.1 ((h p.0 p.1).0 m)),
-        nodup_length looked l (paired-nodup (additions may letter k w) additions_nodup (prefixes may letter k w) (prefixes_nodup may letter k w))
-            (λ p m. (h p.0 p.1).1 (addition-at p.0 p.1 m)),
-        paired-length (additions may letter k w) (prefixes may letter k w),
+        nodup_length l looked d (λ p m. addition_of p.0 p.1 ((h p.0 p.1).0 m)),
+        nodup_length looked l (paired_nodup (additions may letter k w) additions_nodup (prefixes may letter k w) (prefixes_nodup may letter k w))
+            (λ p m. (h p.0 p.1).1 (addition_at p.0 p.1 m)),
+        paired_length (additions may letter k w) (prefixes may letter k w),
       )
 
       -- ---- the bounds
 
       -- every prefix is empty, or a prefix with one letter more
-      grown-of : (c : List ℕ) → Mem c (prefixes may letter k w) → Mem c (replicate k 0 ∷ grown may letter k w)
-      grown-of c m = go (total c) refl
+      grown_of : (c : List ℕ) → Mem c (prefixes may letter k w) → Mem c (replicate k 0 ∷ grown may letter k w)
+      grown_of c m = go (total c) refl
         where
           go : (n : ℕ) → total c ≡ n → Mem c (replicate k 0 ∷ grown may letter k w)
           go zero e = Memᴰ.head (none_of_total c e ∙ ap (λ n. replicate n 0) (prefixes_at may letter k w c letters m).0)
@@ -177,12 +177,12 @@ module _ (may : ℕ → ℕ → Bool) (letter : ℕ → ℕ) (k : ℕ) (w : List
               (Memᴰ.cast s.5 (Memᴰ.map (bump s.0) (filter_of (addable? may letter w (at s.0)) (below_of k s.1 s.3) s.4))))
 
       -- the bounds of document 01: "from P − 1 to P × k"
-      pub looks-within : (prefix_count may letter k w - 1 ≤ looks may letter k w) × (looks may letter k w ≤ prefix_count may letter k w * k)
-      looks-within = (
+      pub looks_within : (prefix_count may letter k w - 1 ≤ looks may letter k w) × (looks may letter k w ≤ prefix_count may letter k w * k)
+      looks_within = (
         omega (
           arith,
           nodup_length (prefixes may letter k w) (replicate k 0 ∷ grown may letter k w)
-              (prefixes_nodup may letter k w) grown-of,
+              (prefixes_nodup may letter k w) grown_of,
           flat_map_length_map (additions may letter k w) bump (prefixes may letter k w),
         ),
         looks_le,
@@ -197,6 +197,6 @@ module _ (letter : ℕ → ℕ) (M : Automaton) (may : ℕ → ℕ → Bool) {w 
       (λ c m.
       let n = (prefixes_at may letter k w c h m).1 in
       filter_agree (addable? may letter w (at c)) (addable? may letter v (at c)) (below k) (λ x _. t_eq (addable? may letter w (at c) x) (addable? may letter v (at c) x)
-      (λ t. addable-of may letter distinct (at c) x (over letter M may p q distinct k h g (addable-at may letter distinct n t).0))
-      (λ t. addable-of may letter distinct (at c) x (back-over letter M may p q distinct k h g (addable-at may letter distinct (over letter M may p q distinct k h g n) t).0))))
-      ∙ ap (flat_map (additions may letter k v)) (prefixes-same letter M may p q distinct k h g))
+      (λ t. addable_of may letter distinct (at c) x (over letter M may p q distinct k h g (addable_at may letter distinct n t).0))
+      (λ t. addable_of may letter distinct (at c) x (back_over letter M may p q distinct k h g (addable_at may letter distinct (over letter M may p q distinct k h g n) t).0))))
+      ∙ ap (flat_map (additions may letter k v)) (prefixes_same letter M may p q distinct k h g))

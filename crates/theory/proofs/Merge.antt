@@ -19,10 +19,10 @@ use Rattle.profile.proofs.Lists.{below_at, both, equal_test, filter_agree, filte
 use Rattle.theory.proofs.Earliest.{no_later_antisym, no_later_refl}
 use Rattle.theory.proofs.LetterOrder.{earlier_irrefl, earlier_trans}
 use Rattle.profile.proofs.Traces.{Pick, first}
-use Rattle.theory.proofs.Prefixes.{addable-of, all-of-pick, count_front, count_of_prefix, front_all, front_length, front-marked, front_none, front_of_prefix, more-of-pick, prefix-of-front, removable-at, removable-of, removable?}
+use Rattle.theory.proofs.Prefixes.{addable_of, all_of_pick, count_front, count_of_prefix, front_all, front_length, front_marked, front_none, front_of_prefix, more_of_pick, prefix_of_front, removable_at, removable_of, removable?}
 use Rattle.theory.proofs.Counting.{at_map, count_above, length_range, prefixes_at, prefixes_of}
 use Rattle.theory.proofs.Levels.{at_bump, bump, debump, level_last, level_next, total_prefix}
-use Rattle.theory.proofs.Automata.{Lawful, backward-all, backward-eq, forward-eq, forward-none}
+use Rattle.theory.proofs.Automata.{Lawful, backward_all, backward_eq, forward_eq, forward_none}
 use Rattle.profile.proofs.Sets.{t_eq, union_agree}
 
 -- ---- lists of counts in their order
@@ -251,13 +251,13 @@ module _ {k : ℕ} {C E : List (List ℕ)} {add : ℕ → List ℕ → Bool} (g 
     behind = (sorted_split E₁ (e ∷ R) in_order).0.0
 
     -- what a cursor stands at leads to nothing earlier than e
-    pub least-of-all : (x p : ℕ) → Cursor C add x (e ∷ R) p → p < length C → NoLater e (bump (get_or C p []) x)
-    least-of-all x p q l = ⊎_elim
+    pub least_of_all : (x p : ℕ) → Cursor C add x (e ∷ R) p → p < length C → NoLater e (bump (get_or C p []) x)
+    least_of_all x p q l = ⊎_elim
         (λ i. subst (NoLater e) (sym i) (no_later_refl e)) (λ m. (behind (bump (get_or C p []) x) m).0) (Memᴰ.cases_cons (q.stands l).1)
 
     -- a list of C that leads to e by x is where the cursor of x stands
-    pub hits-parent : (x p : ℕ) → Cursor C add x (e ∷ R) p → (c : List ℕ) → Mem c C → T (add x c) → bump c x ≡ e → T (hits C x e p) × (get_or C p [] ≡ c)
-    hits-parent x p q c m t b = let n = mem_place [] m in go n.0 n.1 n.2
+    pub hits_parent : (x p : ℕ) → Cursor C add x (e ∷ R) p → (c : List ℕ) → Mem c C → T (add x c) → bump c x ≡ e → T (hits C x e p) × (get_or C p [] ≡ c)
+    hits_parent x p q c m t b = let n = mem_place [] m in go n.0 n.1 n.2
       where
         go : (i : ℕ) → i < length C → get_or C i [] ≡ c → T (hits C x e p) × (get_or C p [] ≡ c)
         go i l s = ⊎_elim
@@ -265,19 +265,19 @@ module _ {k : ℕ} {C E : List (List ℕ)} {add : ℕ → List ℕ → Bool} (g 
             (λ le. ⊎_elim
             (λ lt.
             let h = subst (Earlier (bump (get_or C p []) x)) (ap (λ z. bump z x) s ∙ b) (grown_earlier x p i lt l) in
-            absurd (h.1 (no_later_antisym h.0 (least-of-all x p q (omega arith)))))
+            absurd (h.1 (no_later_antisym h.0 (least_of_all x p q (omega arith)))))
             (λ ge.
             let j : i ≡ p = omega arith in
             let r = ap (λ z. get_or C z []) (sym j) ∙ s in
             (hits_of C x e p (omega arith) (ap (λ z. bump z x) r ∙ b), r)) (lt_or_le p i)) (lt_or_le i p)
 
     -- and where a cursor hits e, it stands at such a list
-    pub hits-child : (x p : ℕ) → Cursor C add x (e ∷ R) p → T (hits C x e p) → Mem (get_or C p []) C × T (add x (get_or C p [])) × (bump (get_or C p []) x ≡ e)
-    hits-child x p q t = let h = hits_at C x e p t in (mem_getd C p [] h.0, (q.stands h.0).0, h.1)
+    pub hits_child : (x p : ℕ) → Cursor C add x (e ∷ R) p → T (hits C x e p) → Mem (get_or C p []) C × T (add x (get_or C p [])) × (bump (get_or C p []) x ≡ e)
+    hits_child x p q t = let h = hits_at C x e p t in (mem_getd C p [] h.0, (q.stands h.0).0, h.1)
 
     -- the cursor moves on where it hits e, and stays where it does not
-    pub cursor-hit : (x p : ℕ) → x < k → Cursor C add x (e ∷ R) p → T (hits C x e p) → Cursor C add x R (seek (add x) C (suc p))
-    cursor-hit x p h q t =
+    pub cursor_hit : (x p : ℕ) → x < k → Cursor C add x (e ∷ R) p → T (hits C x e p) → Cursor C add x R (seek (add x) C (suc p))
+    cursor_hit x p h q t =
         let n = hits_at C x e p t in
         cursor_seek x R (suc p) (omega (arith, n.0))
         (λ j l a r m. ⊎_elim (λ lt. q.passed j lt a r (Memᴰ.tail m))
@@ -285,8 +285,8 @@ module _ {k : ℕ} {C E : List (List ℕ)} {add : ℕ → List ℕ → Bool} (g 
         (λ j le l a. sorted_after E₁ e R in_order (subst (Mem (bump (get_or C j []) x)) split (g.up (get_or C j []) x (mem_getd C j [] l) h a))
         (subst (λ z. Earlier z (bump (get_or C j []) x)) n.1 (grown_earlier x p j (omega arith) l)))
 
-    pub cursor-miss : (x p : ℕ) → Cursor C add x (e ∷ R) p → T (not (hits C x e p)) → Cursor C add x R p
-    cursor-miss x p q t = record {
+    pub cursor_miss : (x p : ℕ) → Cursor C add x (e ∷ R) p → T (not (hits C x e p)) → Cursor C add x R p
+    cursor_miss x p q t = record {
       inside = q.inside;
       passed = λ j l a r m. q.passed j l a r (Memᴰ.tail m);
       stands = λ l. (
@@ -295,16 +295,16 @@ module _ {k : ℕ} {C E : List (List ℕ)} {add : ℕ → List ℕ → Bool} (g 
       );
     }
 
-    pub cursor-next : (x p : ℕ) → x < k → Cursor C add x (e ∷ R) p → Cursor C add x R (cond (hits C x e p) (seek (add x) C (suc p)) p)
-    cursor-next x p h q = ⊎_elim
-        (λ t. subst (λ b. Cursor C add x R (cond b (seek (add x) C (suc p)) p)) (sym (is_true (hits C x e p) t)) (cursor-hit x p h q t))
-        (λ t. subst (λ b. Cursor C add x R (cond b (seek (add x) C (suc p)) p)) (sym (is_false (hits C x e p) t)) (cursor-miss x p q t)) (test (hits C x e p))
+    pub cursor_next : (x p : ℕ) → x < k → Cursor C add x (e ∷ R) p → Cursor C add x R (cond (hits C x e p) (seek (add x) C (suc p)) p)
+    cursor_next x p h q = ⊎_elim
+        (λ t. subst (λ b. Cursor C add x R (cond b (seek (add x) C (suc p)) p)) (sym (is_true (hits C x e p) t)) (cursor_hit x p h q t))
+        (λ t. subst (λ b. Cursor C add x R (cond b (seek (add x) C (suc p)) p)) (sym (is_false (hits C x e p) t)) (cursor_miss x p q t)) (test (hits C x e p))
 
     module _ (p : ℕ → ℕ) (q : (x : ℕ) → x < k → Cursor C add x (e ∷ R) (p x)) where
-      pub some-hits : (x : ℕ) × (x < k) × T (hits C x e (p x))
-      some-hits =
+      pub some_hits : (x : ℕ) × (x < k) × T (hits C x e (p x))
+      some_hits =
           let n = g.down e (subst (Mem e) (sym split) (Memᴰ.append_right E₁ (Memᴰ.head refl))) in
-          (n.1, n.3, (hits-parent n.1 (p n.1) (q n.1 n.3) n.0 n.2 n.4 (sym n.5)).0)
+          (n.1, n.3, (hits_parent n.1 (p n.1) (q n.1 n.3) n.0 n.2 n.4 (sym n.5)).0)
 
   -- ---- the way back
 
@@ -426,12 +426,12 @@ module _ (may : ℕ → ℕ → Bool) (letter : ℕ → ℕ) (distinct : (a b : 
           (total_prefix may letter k w c letters (prefixes_of may letter k w c (length_range f k 0) prefix) ∙ ap (λ h. length (marked letter w h)) (at_prefix p) ∙ l)
 
   pub level_first : level may letter k w 0 ≡ map (λ x. 0) (below k) ∷ []
-  level_first = level_only 0 (λ x. 0) (prefix-of-front may letter distinct (front_none may w)) (ap length (front-marked may letter distinct (front_none may w)).0)
+  level_first = level_only 0 (λ x. 0) (prefix_of_front may letter distinct (front_none may w)) (ap length (front_marked may letter distinct (front_none may w)).0)
       (λ h p l. sym (count_of_prefix may letter p) ∙ ap (count letter) (drop_of_length-le (marked letter w h) {i = 0} (omega arith)))
 
   pub level_whole : level may letter k w (length w) ≡ map (count letter w) (below k) ∷ []
   level_whole =
-      level_only (length w) (count letter w) (prefix-of-front may letter distinct (front_all may w)) (ap length (front-marked may letter distinct (front_all may w)).0)
+      level_only (length w) (count letter w) (prefix_of_front may letter distinct (front_all may w)) (ap length (front_marked may letter distinct (front_all may w)).0)
       (λ h p l.
       let f = front_of_prefix may letter p in
       let z = drop_of_length-le (unmarked letter w h) {i = 0} (omega (arith, front_length may f)) in
@@ -447,28 +447,28 @@ module _ (may : ℕ → ℕ → Bool) (letter : ℕ → ℕ) (distinct : (a b : 
       go c m (a ∷ r) e =
           let p = (level_at may letter k w n c letters m).1 in
           let i : Pick may (unmarked letter w (at c)) a r = rw e first in
-          let lt = ltb→lt (letter a) k (all-of-pick may letter distinct (λ a. ltb (letter a) k) p i letters) in
-          let t = addable-of may letter distinct (at c) (letter a) (more-of-pick may letter distinct p i).0 in
+          let lt = ltb→lt (letter a) k (all_of_pick may letter distinct (λ a. ltb (letter a) k) p i letters) in
+          let t = addable_of may letter distinct (at c) (letter a) (more_of_pick may letter distinct p i).0 in
           (bump c (letter a), level_next may letter distinct k w letters n (letter a) c m lt t)
 
   -- ---- the sets of states
 
   module _ (M : Automaton) (L : Lawful M) where
-    pub forward-first : forward may letter M w (at (map (λ x. 0) (below k))) ≡ M.start
-    forward-first = ap (forward may letter M w) (at_prefix (prefix-of-front may letter distinct (front_none may w))) ∙ forward-none may letter M L w distinct
+    pub forward_first : forward may letter M w (at (map (λ x. 0) (below k))) ≡ M.start
+    forward_first = ap (forward may letter M w) (at_prefix (prefix_of_front may letter distinct (front_none may w))) ∙ forward_none may letter M L w distinct
 
-    pub backward-whole : backward may letter M w (at (map (count letter w) (below k))) ≡ M.final
-    backward-whole = ap (backward may letter M w) (at_prefix (prefix-of-front may letter distinct (front_all may w)))
-        ∙ backward-all may letter M L w distinct (count letter w) (front-marked may letter distinct (front_all may w)).1
+    pub backward_whole : backward may letter M w (at (map (count letter w) (below k))) ≡ M.final
+    backward_whole = ap (backward may letter M w) (at_prefix (prefix_of_front may letter distinct (front_all may w)))
+        ∙ backward_all may letter M L w distinct (count letter w) (front_marked may letter distinct (front_all may w)).1
 
     -- forward of e from the prefixes at the cursors that hit it
-    pub forward-merge : (n : ℕ) (E₁ : List (List ℕ)) (e : List ℕ) (R : List (List ℕ)) → level may letter k w (suc n) ≡ E₁ ++ (e ∷ R) → (p : ℕ → ℕ)
+    pub forward_merge : (n : ℕ) (E₁ : List (List ℕ)) (e : List ℕ) (R : List (List ℕ)) → level may letter k w (suc n) ≡ E₁ ++ (e ∷ R) → (p : ℕ → ℕ)
         → ((x : ℕ) → x < k → Cursor (level may letter k w n) (extends? may letter w) x (e ∷ R) (p x))
         → forward may letter M w (at e)
         ≡ union (λ x. M.step (forward may letter M w (at (get_or (level may letter k w n) (p x) []))) x)
         (filter (λ x. hits (level may letter k w n) x e (p x)) (below k))
-    forward-merge n E₁ e R split p q =
-        forward-eq may letter M L w distinct k letters (at e) prefix some
+    forward_merge n E₁ e R split p q =
+        forward_eq may letter M L w distinct k letters (at e) prefix some
         ∙ ap (union (λ x. M.step (forward may letter M w (less (at e) x)) x))
         (filter_agree (removable? may letter w (at e)) (λ x. hits C x e (p x)) (below k)
         (λ x m. let l = below_at k x m in t_eq (removable? may letter w (at e) x) (hits C x e (p x)) (parent x l) (λ t. (child x l t).0)))
@@ -495,16 +495,16 @@ module _ (may : ℕ → ℕ → Bool) (letter : ℕ → ℕ) (distinct : (a b : 
           arith,
           level_marked may letter k w (suc n) e letters in_next,
           ap (λ h. length (marked letter w h)) z,
-          ap length (front-marked may letter distinct (front_none may w)).0,
+          ap length (front_marked may letter distinct (front_none may w)).0,
         )
 
         parent : (x : ℕ) → x < k → T (removable? may letter w (at e) x) → T (hits C x e (p x))
         parent x l t =
-            let r = removable-at may letter distinct prefix t in
+            let r = removable_at may letter distinct prefix t in
             let b = debump e x (less (at e) x) (omega (arith, counted)) (sym r.4) in
             let d = b.0 in
             let i : IsPrefix may letter w (at d) = subst (IsPrefix may letter w) (sym b.2) r.0 in
-            let a = addable-of may letter distinct (at d) x (subst (IsPrefix may letter w) (sym (ap (λ h. more h x) b.2 ∙ r.4)) prefix) in
+            let a = addable_of may letter distinct (at d) x (subst (IsPrefix may letter w) (sym (ap (λ h. more h x) b.2 ∙ r.4)) prefix) in
             let up = level_next may letter distinct k w letters (total d) x d (level_of may letter k w (total d) d (b.1 ∙ counted) i refl) l a in
             let s : total d ≡ n = omega (
               arith,
@@ -512,22 +512,22 @@ module _ (may : ℕ → ℕ → Bool) (letter : ℕ → ℕ) (distinct : (a b : 
               ap total b.3,
               (level_at may letter k w (suc n) e letters in_next).2,
             ) in
-            (hits-parent (level_grown n) E₁ e R split x (p x) (q x l) d (level_of may letter k w n d (b.1 ∙ counted) i s) a b.3).0
+            (hits_parent (level_grown n) E₁ e R split x (p x) (q x l) d (level_of may letter k w n d (b.1 ∙ counted) i s) a b.3).0
 
         child : (x : ℕ) → x < k → T (hits C x e (p x)) → T (removable? may letter w (at e) x) × (less (at e) x ≡ at (get_or C (p x) []))
         child x l t =
             let c = get_or C (p x) [] in
-            let h = hits-child (level_grown n) E₁ e R split x (p x) (q x l) t in
+            let h = hits_child (level_grown n) E₁ e R split x (p x) (q x l) t in
             let i = level_at may letter k w n c letters h.0 in
-            removable-of may letter distinct (at e) x i.1 (ap at (sym h.2) ∙ at_bump c x (omega (arith, i.0)))
+            removable_of may letter distinct (at e) x i.1 (ap at (sym h.2) ∙ at_bump c x (omega (arith, i.0)))
 
     -- backward of c from the prefixes with one letter more
-    pub backward-level : (n : ℕ) (c : List ℕ) → Mem c (level may letter k w n) → n < length w
+    pub backward_level : (n : ℕ) (c : List ℕ) → Mem c (level may letter k w n) → n < length w
         → backward may letter M w (at c)
         ≡ union (λ x. M.back (backward may letter M w (at (bump c x))) x) (filter (λ x. extends? may letter w x c) (below k))
-    backward-level n c m l =
+    backward_level n c m l =
         let p = level_at may letter k w n c letters m in
-        backward-eq may letter M L w distinct k letters (at c) p.1 (level_unmarked may letter k w n c letters m l)
+        backward_eq may letter M L w distinct k letters (at c) p.1 (level_unmarked may letter k w n c letters m l)
         ∙ union_agree (λ x. M.back (backward may letter M w (more (at c) x)) x) (λ x. M.back (backward may letter M w (at (bump c x))) x)
         (filter (addable? may letter w (at c)) (below k))
         (λ x h. ap (λ d. M.back (backward may letter M w d) x)

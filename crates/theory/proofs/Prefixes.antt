@@ -133,24 +133,24 @@ module _ (may : ℕ → ℕ → Bool) (letter : ℕ → ℕ) where
       go (suc n) e ih = rw (marked_suc may letter a w c e) (omega (arith, ih (less c (letter a)) (λ y. omega (arith, h y)) x, one_le c (letter a) x e))
 
   module _ (distinct : (a b : ℕ) → T (may a b) → letter a ≢ letter b) where
-    count-passed : (a : ℕ) (m : List ℕ) → T (all (may a) m) → count letter m (letter a) ≡ 0
-    count-passed a [] h = refl
-    count-passed a (b ∷ m) h =
-        omega (arith, one_other (letter b) (letter a) (λ e. distinct a b (fst_of (may a b) (all (may a) m) h) (sym e)), count-passed a m (snd_of (may a b) (all (may a) m) h))
+    count_passed : (a : ℕ) (m : List ℕ) → T (all (may a) m) → count letter m (letter a) ≡ 0
+    count_passed a [] h = refl
+    count_passed a (b ∷ m) h =
+        omega (arith, one_other (letter b) (letter a) (λ e. distinct a b (fst_of (may a b) (all (may a) m) h) (sym e)), count_passed a m (snd_of (may a b) (all (may a) m) h))
 
     -- the counts of the marked events say which they are
-    pub front-marked : {w m r : List ℕ} → Front may w m r → (marked letter w (count letter m) ≡ m) × (unmarked letter w (count letter m) ≡ r)
-    front-marked empty = (refl, refl)
-    front-marked (mark {a = a} {w = w} {m = m} f) =
-        let ih = front-marked f in
+    pub front_marked : {w m r : List ℕ} → Front may w m r → (marked letter w (count letter m) ≡ m) × (unmarked letter w (count letter m) ≡ r)
+    front_marked empty = (refl, refl)
+    front_marked (mark {a = a} {w = w} {m = m} f) =
+        let ih = front_marked f in
         let e : count letter (a ∷ m) (letter a) ≡ suc (count letter m (letter a)) = omega (arith, one_same (letter a)) in
         let d : less (count letter (a ∷ m)) (letter a) ≡ count letter m = fun_ext (λ y. omega arith) in (
           marked_suc may letter a w (count letter (a ∷ m)) e ∙ ap (λ c. a ∷ marked letter w c) d ∙ ap (◌∷◌ a) ih.0,
           unmarked_suc a w (count letter (a ∷ m)) e ∙ ap (λ c. unmarked letter w c) d ∙ ih.1,
         )
-    front-marked (keep {a = a} {w = w} {m = m} h f) =
-        let ih = front-marked f in
-        let e = count-passed a m h in
+    front_marked (keep {a = a} {w = w} {m = m} h f) =
+        let ih = front_marked f in
+        let e = count_passed a m h in
         (marked_zero may letter a w (count letter m) e ∙ ih.0, unmarked_zero a w (count letter m) e ∙ ap (◌∷◌ a) ih.1)
 
   -- ---- the test and Front say the same
@@ -178,45 +178,45 @@ module _ (may : ℕ → ℕ → Bool) (letter : ℕ → ℕ) where
   takes_of_prefix p t = takes_of_front may (front_of_prefix p) t
 
   module _ (distinct : (a b : ℕ) → T (may a b) → letter a ≢ letter b) where
-    test-of-front : {w m r : List ℕ} → Front may w m r → T (closed? may letter w (count letter m))
-    test-of-front empty = tt
-    test-of-front (mark {a = a} {w = w} {m = m} f) =
+    test_of_front : {w m r : List ℕ} → Front may w m r → T (closed? may letter w (count letter m))
+    test_of_front empty = tt
+    test_of_front (mark {a = a} {w = w} {m = m} f) =
         let e : count letter (a ∷ m) (letter a) ≡ suc (count letter m (letter a)) = omega (arith, one_same (letter a)) in
         let d : less (count letter (a ∷ m)) (letter a) ≡ count letter m = fun_ext (λ y. omega arith) in
-        rw (closed_suc may letter a w (count letter (a ∷ m)) e, d) (test-of-front f)
-    test-of-front (keep {a = a} {w = w} {m = m} h f) =
-        rw (closed_zero may letter a w (count letter m) (count-passed distinct a m h))
-        (both (all (may a) (marked letter w (count letter m))) (closed? may letter w (count letter m)) (rw (front-marked distinct f).0 h) (test-of-front f))
+        rw (closed_suc may letter a w (count letter (a ∷ m)) e, d) (test_of_front f)
+    test_of_front (keep {a = a} {w = w} {m = m} h f) =
+        rw (closed_zero may letter a w (count letter m) (count_passed distinct a m h))
+        (both (all (may a) (marked letter w (count letter m))) (closed? may letter w (count letter m)) (rw (front_marked distinct f).0 h) (test_of_front f))
 
-    pub prefix-of-front : {w m r : List ℕ} → Front may w m r → IsPrefix may letter w (count letter m)
-    prefix-of-front {w} {m} f = (prefix_test may letter w (count letter m)).1 ((λ x. omega (arith, count_front f x)), test-of-front f)
+    pub prefix_of_front : {w m r : List ℕ} → Front may w m r → IsPrefix may letter w (count letter m)
+    prefix_of_front {w} {m} f = (prefix_test may letter w (count letter m)).1 ((λ x. omega (arith, count_front f x)), test_of_front f)
 
     -- what is taken is a prefix, by its counts; its marked events and what is left are determined by these
-    pub prefix-of-takes : {w u r : List ℕ} → Takes may w u r
+    pub prefix_of_takes : {w u r : List ℕ} → Takes may w u r
         → IsPrefix may letter w (count letter u) × (unmarked letter w (count letter u) ≡ r) × Order may (marked letter w (count letter u)) u
-    prefix-of-takes {w} {u} {r} t =
+    prefix_of_takes {w} {u} {r} t =
         let n = front_of_takes may t in
         let e = count_order n.2 in
-        let k = front-marked distinct n.1 in
-        (subst (IsPrefix may letter w) e (prefix-of-front n.1), rw e at k.1, rw (← e, k.0) n.2)
+        let k = front_marked distinct n.1 in
+        (subst (IsPrefix may letter w) e (prefix_of_front n.1), rw e at k.1, rw (← e, k.0) n.2)
 
     -- ---- one letter more
 
     -- of two prefixes one inside the other, the rest of the larger is at the front of what the smaller leaves
-    front-between : {w m r m' r' : List ℕ} → Front may w m r → Front may w m' r' → ((x : ℕ) → count letter m x ≤ count letter m' x)
+    front_between : {w m r m' r' : List ℕ} → Front may w m r → Front may w m' r' → ((x : ℕ) → count letter m x ≤ count letter m' x)
         → (s : List ℕ) × Front may r s r' × ((x : ℕ) → count letter s x + count letter m x ≡ count letter m' x) × ((p : ℕ → Bool) → T (all p m') → T (all p s))
-    front-between empty empty le = ([], empty, (λ x. omega arith), λ p t. tt)
-    front-between (mark {a = a} f) (mark {m = m'} g) le =
-        let n = front-between f g (λ x. omega (arith, le x)) in
+    front_between empty empty le = ([], empty, (λ x. omega arith), λ p t. tt)
+    front_between (mark {a = a} f) (mark {m = m'} g) le =
+        let n = front_between f g (λ x. omega (arith, le x)) in
         (n.0, n.1, (λ x. omega (arith, n.2 x)), λ p t. n.3 p (snd_of (p a) (all p m') t))
-    front-between (mark {a = a} f) (keep {m = m'} h g) le =
-        absurd (omega (arith, le (letter a), count-passed distinct a m' h, one_same (letter a)))
-    front-between (keep {a = a} {m = m} h f) (mark {m = m'} g) le =
-        let n = front-between f g (λ x. ⊎_elim
-        (λ q. omega (arith, ap (count letter m) q, count-passed distinct a m h)) (λ z. omega (arith, le x)) (one_cases (letter a) x)) in
+    front_between (mark {a = a} f) (keep {m = m'} h g) le =
+        absurd (omega (arith, le (letter a), count_passed distinct a m' h, one_same (letter a)))
+    front_between (keep {a = a} {m = m} h f) (mark {m = m'} g) le =
+        let n = front_between f g (λ x. ⊎_elim
+        (λ q. omega (arith, ap (count letter m) q, count_passed distinct a m h)) (λ z. omega (arith, le x)) (one_cases (letter a) x)) in
         (a ∷ n.0, mark n.1, (λ x. omega (arith, n.2 x)), λ p t. both (p a) (all p n.0) (fst_of (p a) (all p m') t) (n.3 p (snd_of (p a) (all p m') t)))
-    front-between (keep {a = a} h f) (keep k g) le =
-        let n = front-between f g le in
+    front_between (keep {a = a} h f) (keep k g) le =
+        let n = front_between f g le in
         (n.0, keep (n.3 (may a) k) n.1, n.2, n.3)
 
     single : (s : List ℕ) (x : ℕ) → ((y : ℕ) → count letter s y ≡ one x y) → (a : ℕ) × (s ≡ a ∷ []) × (letter a ≡ x)
@@ -226,25 +226,25 @@ module _ (may : ℕ → ℕ → Bool) (letter : ℕ → ℕ) where
         (λ q. absurd (omega (arith, h (letter b), one_same (letter b), ap (λ z. one z (letter b)) q)))
         (λ z. absurd (omega (arith, h (letter a), one_same (letter a)))) (one_cases x (letter a))
 
-    pick-of-front : {w r : List ℕ} {a : ℕ} → Front may w (a ∷ []) r → Pick may w a r
-    pick-of-front {a = a} (mark {w = w} f) = subst (Pick may (a ∷ w) a) (front_nil may f) first
-    pick-of-front {a = a} (keep {a = b} h f) = later (fst_of (may b a) true h) (pick-of-front f)
+    pick_of_front : {w r : List ℕ} {a : ℕ} → Front may w (a ∷ []) r → Pick may w a r
+    pick_of_front {a = a} (mark {w = w} f) = subst (Pick may (a ∷ w) a) (front_nil may f) first
+    pick_of_front {a = a} (keep {a = b} h f) = later (fst_of (may b a) true h) (pick_of_front f)
 
     -- the counts with one x more are a prefix exactly when the next event of letter x may be picked from what is left
-    pub pick-of-more : {w : List ℕ} {c : ℕ → ℕ} {x : ℕ} → IsPrefix may letter w c → IsPrefix may letter w (more c x)
+    pub pick_of_more : {w : List ℕ} {c : ℕ → ℕ} {x : ℕ} → IsPrefix may letter w c → IsPrefix may letter w (more c x)
         → (a : ℕ) × (letter a ≡ x) × Pick may (unmarked letter w c) a (unmarked letter w (more c x))
-    pick-of-more {w} {c} {x} p q =
+    pick_of_more {w} {c} {x} p q =
         let ce = count_marked w c p.fits in
         let de = count_marked w (more c x) q.fits in
-        let n = front-between (front_of_prefix p) (front_of_prefix q) (λ y. omega (arith, ce y, de y)) in
+        let n = front_between (front_of_prefix p) (front_of_prefix q) (λ y. omega (arith, ce y, de y)) in
         let k = single n.0 x (λ y. omega (arith, n.2 y, ce y, de y)) in
-        (k.0, k.2, pick-of-front (rw k.1 at n.1))
+        (k.0, k.2, pick_of_front (rw k.1 at n.1))
 
-    pub more-of-pick : {w r : List ℕ} {c : ℕ → ℕ} {a : ℕ} → IsPrefix may letter w c → Pick may (unmarked letter w c) a r
+    pub more_of_pick : {w r : List ℕ} {c : ℕ → ℕ} {a : ℕ} → IsPrefix may letter w c → Pick may (unmarked letter w c) a r
         → IsPrefix may letter w (more c (letter a)) × (unmarked letter w (more c (letter a)) ≡ r)
-    more-of-pick {w} {r} {c} {a} p k =
+    more_of_pick {w} {r} {c} {a} p k =
         let m = marked letter w c in
-        let n = prefix-of-takes (takes_trans may (takes_of_prefix p (takes_refl may m)) (next k done)) in
+        let n = prefix_of_takes (takes_trans may (takes_of_prefix p (takes_refl may m)) (next k done)) in
         let e : count letter (m ++ (a ∷ [])) ≡ more c (letter a) =
         fun_ext (λ y. omega (arith, count_append m (a ∷ []) y, count_marked w c p.fits y)) in
         (rw e at n.0, rw e at n.1)
@@ -252,16 +252,16 @@ module _ (may : ℕ → ℕ → Bool) (letter : ℕ → ℕ) where
     -- ---- one letter less
 
     -- a prefix is empty, or some event was taken last
-    pub prefix-last : {w : List ℕ} {c : ℕ → ℕ} → IsPrefix may letter w c
+    pub prefix_last : {w : List ℕ} {c : ℕ → ℕ} → IsPrefix may letter w c
         → (c ≡ (λ x. 0)) ⊎ ((d : ℕ → ℕ) × (a : ℕ) × IsPrefix may letter w d × (c ≡ more d (letter a)) × Pick may (unmarked letter w d) a (unmarked letter w c))
-    prefix-last {w} {c} p = go (marked letter w c) refl (takes_of_prefix p (takes_refl may (marked letter w c)))
+    prefix_last {w} {c} p = go (marked letter w c) refl (takes_of_prefix p (takes_refl may (marked letter w c)))
       where
         go : (m : List ℕ) → marked letter w c ≡ m → Takes may w m (unmarked letter w c)
             → (c ≡ (λ x. 0)) ⊎ ((d : ℕ → ℕ) × (a : ℕ) × IsPrefix may letter w d × (c ≡ more d (letter a)) × Pick may (unmarked letter w d) a (unmarked letter w c))
         go [] e t = inl (fun_ext (λ x. sym (count_marked w c p.fits x) ∙ ap (λ l. count letter l x) e))
         go (b ∷ m) e t =
             let n = takes_last may t in
-            let k = prefix-of-takes n.4 in
+            let k = prefix_of_takes n.4 in
             inr (
               count letter n.0,
               n.2,
@@ -275,39 +275,39 @@ module _ (may : ℕ → ℕ → Bool) (letter : ℕ → ℕ) where
     less_more : (d : ℕ → ℕ) (x : ℕ) → less (more d x) x ≡ d
     less_more d x = fun_ext (λ y. omega arith)
 
-    more-less : (c : ℕ → ℕ) (x : ℕ) → T (not (eqb (c x) 0)) → more (less c x) x ≡ c
-    more-less c x t = fun_ext (λ y. go (c x) refl y)
+    more_less : (c : ℕ → ℕ) (x : ℕ) → T (not (eqb (c x) 0)) → more (less c x) x ≡ c
+    more_less c x t = fun_ext (λ y. go (c x) refl y)
       where
         go : (n : ℕ) → c x ≡ n → (y : ℕ) → more (less c x) x y ≡ c y
         go zero e y = absurd (rw e at t)
         go (suc n) e y = omega (arith, one_le c x y e)
 
-    pub addable-at : {w : List ℕ} {c : ℕ → ℕ} {x : ℕ} → IsPrefix may letter w c → T (addable? may letter w c x)
+    pub addable_at : {w : List ℕ} {c : ℕ → ℕ} {x : ℕ} → IsPrefix may letter w c → T (addable? may letter w c x)
         → IsPrefix may letter w (more c x) × (a : ℕ) × (letter a ≡ x) × Pick may (unmarked letter w c) a (unmarked letter w (more c x))
-    addable-at {w} {c} {x} p t =
+    addable_at {w} {c} {x} p t =
         let lt = ltb→lt (c x) (count letter w x) (fst_of (ltb (c x) (count letter w x)) (closed? may letter w (more c x)) t) in
         let q = (prefix_test may letter w (more c x)).1 (
           (λ y. ⊎_elim (λ e. omega (arith, ap c e, ap (count letter w) e, one_le_one x y)) (λ z. omega (arith, p.fits y)) (one_cases x y)),
           snd_of (ltb (c x) (count letter w x)) (closed? may letter w (more c x)) t,
         ) in
-        let n = pick-of-more p q in
+        let n = pick_of_more p q in
         (q, n.0, n.1, n.2)
 
-    pub addable-of : {w : List ℕ} (c : ℕ → ℕ) (x : ℕ) → IsPrefix may letter w (more c x) → T (addable? may letter w c x)
-    addable-of {w} c x q =
+    pub addable_of : {w : List ℕ} (c : ℕ → ℕ) (x : ℕ) → IsPrefix may letter w (more c x) → T (addable? may letter w c x)
+    addable_of {w} c x q =
         both (ltb (c x) (count letter w x)) (closed? may letter w (more c x))
         (lt→ltb (c x) (count letter w x) (omega (arith, q.fits x, one_same x))) ((prefix_test may letter w (more c x)).0 q).1
 
-    pub removable-at : {w : List ℕ} {c : ℕ → ℕ} {x : ℕ} → IsPrefix may letter w c → T (removable? may letter w c x)
+    pub removable_at : {w : List ℕ} {c : ℕ → ℕ} {x : ℕ} → IsPrefix may letter w c → T (removable? may letter w c x)
         → IsPrefix may letter w (less c x) × (a : ℕ) × (letter a ≡ x) × Pick may (unmarked letter w (less c x)) a (unmarked letter w c) × (more (less c x) x ≡ c)
-    removable-at {w} {c} {x} p t =
-        let e = more-less c x (fst_of (not (eqb (c x) 0)) (closed? may letter w (less c x)) t) in
+    removable_at {w} {c} {x} p t =
+        let e = more_less c x (fst_of (not (eqb (c x) 0)) (closed? may letter w (less c x)) t) in
         let q = (prefix_test may letter w (less c x)).1 ((λ y. omega (arith, p.fits y)), snd_of (not (eqb (c x) 0)) (closed? may letter w (less c x)) t) in
-        let n = pick-of-more {w = w} {c = less c x} {x = x} q (subst (IsPrefix may letter w) (sym e) p) in
+        let n = pick_of_more {w = w} {c = less c x} {x = x} q (subst (IsPrefix may letter w) (sym e) p) in
         (q, n.0, n.1, subst (λ d. Pick may (unmarked letter w (less c x)) n.0 (unmarked letter w d)) e n.2, e)
 
-    pub removable-of : {w : List ℕ} {d : ℕ → ℕ} (c : ℕ → ℕ) (x : ℕ) → IsPrefix may letter w d → c ≡ more d x → T (removable? may letter w c x) × (less c x ≡ d)
-    removable-of {w} {d} c x p e =
+    pub removable_of : {w : List ℕ} {d : ℕ → ℕ} (c : ℕ → ℕ) (x : ℕ) → IsPrefix may letter w d → c ≡ more d x → T (removable? may letter w c x) × (less c x ≡ d)
+    removable_of {w} {d} c x p e =
         let q = ap (λ g. less g x) e ∙ less_more d x in (
           both (not (eqb (c x) 0)) (closed? may letter w (less c x))
               (not_T (eqb (c x) 0) (λ z. omega (arith, eqb→eq (c x) 0 z, ap (λ g. g x) e, one_same x)))
@@ -316,20 +316,20 @@ module _ (may : ℕ → ℕ → Bool) (letter : ℕ → ℕ) where
         )
 
     -- what holds of every event of w holds of one that is picked
-    pub all-of-pick : (p : ℕ → Bool) {w r : List ℕ} {c : ℕ → ℕ} {a : ℕ} → IsPrefix may letter w c → Pick may (unmarked letter w c) a r → T (all p w) → T (p a)
-    all-of-pick p q k h = (all_picked may p k (front_rest may (front_of_prefix q) p h)).0
+    pub all_of_pick : (p : ℕ → Bool) {w r : List ℕ} {c : ℕ → ℕ} {a : ℕ} → IsPrefix may letter w c → Pick may (unmarked letter w c) a r → T (all p w) → T (p a)
+    all_of_pick p q k h = (all_picked may p k (front_rest may (front_of_prefix q) p h)).0
 
     -- ---- logs that are reachable
 
     -- a prefix of a reachable log is a prefix of the log, and leaves something from which the same is reachable
-    pub prefix-of-order : {w v : List ℕ} {c : ℕ → ℕ} → Order may w v → IsPrefix may letter v c
+    pub prefix_of_order : {w v : List ℕ} {c : ℕ → ℕ} → Order may w v → IsPrefix may letter v c
         → IsPrefix may letter w c × Order may (unmarked letter w c) (unmarked letter v c)
-    prefix-of-order {w} {v} {c} o p =
+    prefix_of_order {w} {v} {c} o p =
         let m = marked letter v c in
         let r = unmarked letter v c in
         let t = order_trans may o (takes_trans may (takes_of_prefix p (takes_refl may m)) (takes_refl may r)) in
         let n = takes_split may m t in
-        let k = prefix-of-takes n.1 in
+        let k = prefix_of_takes n.1 in
         (rw (count_of_prefix p) at k.0, subst (λ l. Order may l r) (sym (ap (unmarked letter w) (sym (count_of_prefix p)) ∙ k.1)) n.2)
 
     -- ---- letters say which events

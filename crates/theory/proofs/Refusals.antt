@@ -10,7 +10,7 @@ use native.Mathlib.Nat.{le-div_iff_mul-le, one-mul}
 use native.Mathlib.Omega.{arith}
 use lib.Pow.{pow_pos, shr-shr}
 use lib.Dec.{T, not_T, eqb, eqb→eq, ltb, lt→ltb, leb, leb→le, nleb→lt}
-use borrow.Author.Tests.{ltb-false, leb-false, eqb-true, not_false}
+use borrow.Author.Tests.{ltb-false, leb-false, eqb-true, not-false}
 use lib.ListN.{length, get_or, get_or-eq_default}
 use Rattle.profile.specs.Limits.{most_letters, most_states}
 use Rattle.profile.specs.Lists.{Mem, all, any}
@@ -132,7 +132,7 @@ letters_in_range : (k : ℕ) (masks : List ℕ) → letters_out_of_range k masks
 letters_in_range k masks e =
     let n = neither (ltb k 1) (ltb most_letters k || not (eqb (length masks) k)) e in
     let m = neither (ltb most_letters k) (not (eqb (length masks) k)) n.1 in
-    (ltb-false k 1 n.0, ltb-false most_letters k m.0, eqb-true (length masks) k (not_false (eqb (length masks) k) m.1))
+    (ltb-false k 1 n.0, ltb-false most_letters k m.0, eqb-true (length masks) k (not-false (eqb (length masks) k) m.1))
 
 relation_of : (k : ℕ) (masks : List ℕ) → letters_out_of_range k masks ≡ false → mask_bit k masks ≡ false → Relation k masks
 relation_of k masks e₂ e₄ = let n = letters_in_range k masks e₂ in record {
@@ -182,7 +182,7 @@ profile_at p e =
       relation = relation_of p.k p.masks n₁.0 (h _ (Memᴰ.tail (Memᴰ.head refl)));
       states = (ltb-false p.s 1 n₂.0, ltb-false most_states p.s n₃.0);
       starts = leb-false p.s p.start n₄.0;
-      long = eqb-true (length p.moves) (p.s * p.k) (not_false lens n₄.1);
+      long = eqb-true (length p.moves) (p.s * p.k) (not-false lens n₄.1);
       finals_inside = leb-false (2 ^ p.s) p.finals f.0;
       moves_inside = λ m i. leb-false (2 ^ p.s) m (is_false (bit_from p.s m) (not_T (bit_from p.s m) (none_of (bit_from p.s) f.1 i)));
     }

@@ -1,7 +1,7 @@
 -- Two logs reachable from each other: by the pairs that may be exchanged both ways, and by comparing what is left of each pair of letters that may not.
 -- Events are letters here.
 use mathlib.Core.Path.{◌≡◌, refl, sym, ◌∙◌, ap, subst}
-use mathlib.Core.Bool.{Bool, not, ◌||◌, or_false, or_self}
+use mathlib.Core.Bool.{Bool, not, ◌||◌, or-false, or_self}
 use mathlib.Core.Logic.{◌⊎◌, inl, inr, ⊎_elim, ◌↔◌}
 use mathlib.Core.List.Memᴰ
 use mathlib.Core.List.{List, [], ◌∷◌, ◌++◌, nil≢cons, head-eq_of_cons-eq, tail-eq_of_cons-eq}
@@ -174,7 +174,7 @@ module _ (may : ℕ → ℕ → Bool) (ir : (a : ℕ) → T (may a a) → ⊥) (
       -- a letter from k on leaves what is kept of the other letter alone
       left : (u : List ℕ) → T (letters_below (λ a. a) k u) → (x y : ℕ) → k ≤ y → project x y u ≡ project x x u
       left u l x y o = filter_agree (λ a. eqb a x || eqb a y) (λ a. eqb a x || eqb a x) u
-          (λ a m. ap (◌||◌ (eqb a x)) (is_false (eqb a y) (not_T (eqb a y) (other u l y o a m))) ∙ or_false (eqb a x) ∙ sym (or_self (eqb a x)))
+          (λ a m. ap (◌||◌ (eqb a x)) (is_false (eqb a y) (not_T (eqb a y) (other u l y o a m))) ∙ or-false (eqb a x) ∙ sym (or_self (eqb a x)))
 
       right : (u : List ℕ) → T (letters_below (λ a. a) k u) → (x y : ℕ) → k ≤ x → project x y u ≡ project y y u
       right u l x y o = filter_agree (λ a. eqb a x || eqb a y) (λ a. eqb a y || eqb a y) u

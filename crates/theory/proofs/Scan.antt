@@ -39,9 +39,9 @@ module _ (may : ℕ → ℕ → Bool) (letter : ℕ → ℕ) where
           (test (may b p.0))
 
   module _ (distinct : (a b : ℕ) → T (may a b) → letter a ≢ letter b) where
-    pub pick-of : {w r : List ℕ} {a : ℕ} → Pick may w a r → pick_first may letter w (letter a) ≡ some (a, r)
-    pick-of (first {a = a}) = rw (is_true (eqb (letter a) (letter a)) (eqb_refl (letter a)))
-    pick-of (later {a = a} {b = b} {w = w} {r = r} ok p) = go (test (eqb (letter b) (letter a))) (pick-of p)
+    pub pick_of : {w r : List ℕ} {a : ℕ} → Pick may w a r → pick_first may letter w (letter a) ≡ some (a, r)
+    pick_of (first {a = a}) = rw (is_true (eqb (letter a) (letter a)) (eqb_refl (letter a)))
+    pick_of (later {a = a} {b = b} {w = w} {r = r} ok p) = go (test (eqb (letter b) (letter a))) (pick_of p)
       where
         go : T (eqb (letter b) (letter a)) ⊎ T (not (eqb (letter b) (letter a))) → pick_first may letter w (letter a) ≡ some (a, r) → pick_first may letter (b ∷ w) (letter a) ≡ some (a, b ∷ r)
         go (inl t) q = absurd (distinct b a ok (eqb→eq (letter b) (letter a) t))

@@ -7,7 +7,7 @@ use Prim.Native.Nat.{ℕ, zero, suc, ◌+◌, ◌-◌, ◌/◌, ◌%◌, ◌≤�
 use native.Mathlib.Omega.{arith}
 use lib.Dec.{T, not_T, eqb, eqb→eq, eqb_refl, ltb, ltb→lt}
 use lib.ListN.{length, get_or, set, drop, length-append, length-map, length-set, drop_of_length-le}
-use lib.Seq.{drop-cons, length-sets, set_comm, set-set, sets, sets_eq}
+use lib.Seq.{drop-cons, length-sets, set_comm, set-set, sets, sets-eq}
 use Rattle.profile.specs.Limits.{longest}
 use Rattle.profile.specs.Lists.{all, below, flat_map, range}
 use Rattle.profile.specs.Traces.{letters_below}
@@ -130,9 +130,9 @@ module _ (w : List ℕ) (x : ℕ) where
 
   module _ (end : ℕ) (before : List ℕ) where
     -- behind the last event
-    pub put-start : 1 ≤ end → Put end (set before (end - 1) (turn past_terms (length w))) (set before (end - 1) (turn past_terms (length w))) (length w) (end - 1)
+    pub put_start : 1 ≤ end → Put end (set before (end - 1) (turn past_terms (length w))) (set before (end - 1) (turn past_terms (length w))) (length w) (end - 1)
         (turn past_terms (length w)) (length w)
-    put-start h =
+    put_start h =
         let all : length w ≤ length w = omega arith in
         let none_left : drop (length w) w ≡ [] = drop_of_length-le w all in
         let left : turns_left (length w) ≡ turn past_terms (length w) ∷ [] = ap (turns_from (length w) x) none_left in
@@ -179,15 +179,15 @@ module _ (w : List ℕ) (x : ℕ) where
             ∙ sym (ap₂ (λ f n. turn (code_term (get_or w i 0)) (cond (eqb (f / place_bound) (code_term (get_or w i 0))) (f % place_bound) n) ∷ turns_left (suc i)) q.first_is q.next_is)
 
         -- there is room for its turn
-        pub put-room : length (turns_of w x) ≤ end → 1 ≤ to
-        put-room le = omega (arith, ap length left, turns_left_most i, q.room)
+        pub put_room : length (turns_of w x) ≤ end → 1 ≤ to
+        put_room le = omega (arith, ap length left, turns_left_most i, q.room)
 
         -- an event of the letter: its turn is stored before those behind it
         pub put_yes : {v : ℕ} → v ≡ turn (code_term (get_or w i 0)) (cond (eqb (first / place_bound) (code_term (get_or w i 0))) (first % place_bound) next)
             → length (turns_of w x) ≤ end → end ≤ length before → Put end before (set turns (to - 1) v) i (to - 1) v i
         unfolding value
         put_yes {v} is le fits =
-            let r = put-room le in
+            let r = put_room le in
             let back : suc (to - 1) ≡ to = omega (arith, r) in
             let l = turns_left (suc i) in
             record {
@@ -253,18 +253,18 @@ module _ (w : List ℕ) where
       less : length (turn_table x w) ≡ length (turn_table (x - 1) w) + length (turns_of w (x - 1))
       less = let e : suc (x - 1) ≡ x = omega (arith, some) in subst (λ m. length (turn_table m w) ≡ length (turn_table (x - 1) w) + length (turns_of w (x - 1))) e (turn_table_more (x - 1))
 
-      all-long : to + length (turns_above x (k - x)) ≡ length (turn_table k w)
-      all-long =
+      all_long : to + length (turns_above x (k - x)) ≡ length (turn_table k w)
+      all_long =
           let e : x + (k - x) ≡ k = omega (arith, q.inside) in
           omega (arith, q.room, ap (λ m. length (turn_table m w)) e, ap length (table_split x (k - x)), length-append (turn_table x w) (turns_above x (k - x)))
 
       -- there is room for the turns of the letter before
       pub all_room : length (turn_table k w) ≤ length before → (length (turns_of w (x - 1)) ≤ to) × (to ≤ length turns)
-      all_room fits = (omega (arith, less, q.room), omega (arith, all-long, q.long, fits))
+      all_room fits = (omega (arith, less, q.room), omega (arith, all_long, q.long, fits))
 
-      pub all-step : {turns' : List ℕ} {to' : ℕ} → length (turn_table k w) ≤ length before → to' + length (turns_of w (x - 1)) ≡ to
+      pub all_step : {turns' : List ℕ} {to' : ℕ} → length (turn_table k w) ≤ length before → to' + length (turns_of w (x - 1)) ≡ to
           → turns' ≡ sets turns to' (turns_of w (x - 1)) → AllPut k before turns' to' (x - 1)
-      all-step {turns'} {to'} fits e is =
+      all_step {turns'} {to'} fits e is =
           let us = turns_of w (x - 1) in
           let vs = turns_above x (k - x) in
           let many : k - (x - 1) ≡ suc (k - x) = omega (arith, some, q.inside) in
@@ -274,7 +274,7 @@ module _ (w : List ℕ) where
             long = ap length is ∙ length-sets turns to' us ∙ q.long;
             room = omega (arith, e, q.room, less);
             put = is ∙ ap (λ l. sets l to' us) (q.put ∙ ap (λ n. sets before n vs) (sym e))
-                ∙ sets_joined us vs before to' (omega (arith, e, all-long, fits))
+                ∙ sets_joined us vs before to' (omega (arith, e, all_long, fits))
                 ∙ ap (λ m. sets before to' (us ++ turns_above m (k - x))) (sym back)
                 ∙ sym (ap (λ n. sets before to' (turns_above (x - 1) n)) many);
           }
@@ -284,4 +284,4 @@ module _ (w : List ℕ) where
     all_done fits q =
         let z : k - 0 ≡ k = omega arith in
         let s : 0 + length (turn_table k w) ≡ length (turn_table k w) = omega arith in
-        q.put ∙ ap₂ (λ n m. sets before n (turns_above 0 m)) q.room z ∙ sets_eq (turn_table k w) before 0 (omega (arith, fits)) ∙ ap (λ n. turn_table k w ++ drop n before) s
+        q.put ∙ ap₂ (λ n m. sets before n (turns_above 0 m)) q.room z ∙ sets-eq (turn_table k w) before 0 (omega (arith, fits)) ∙ ap (λ n. turn_table k w ++ drop n before) s

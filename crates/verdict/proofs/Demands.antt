@@ -2,7 +2,7 @@
 -- was lent `order` and `table`, whatever these held, left `order'` and `table'`, and answered r. They are those of any rules (Promises), for letters.
 use mathlib.Core.Path.{◌≡◌, sym, ◌∙◌, subst}
 use mathlib.Core.Logic.{◌⊎◌, ◌↔◌, ◌≢◌}
-use mathlib.Core.List.{List, map_id}
+use mathlib.Core.List.{List, map-id}
 use mathlib.Core.Option.{none, some}
 use Prim.Native.Nat.{ℕ, ◌+◌, ◌*◌, ◌≤◌, ◌<◌}
 use lib.ListN.{length, get_or, take, drop}
@@ -21,7 +21,7 @@ use Rattle.verdict.specs.Verdict.{Promise, verdict_number}
 use Rattle.verdict.specs.declared.Judged.{Judged}
 use Rattle.verdict.specs.declared.Judged.TheVariants.{Refused}
 use Rattle.verdict.proofs.Judging.{admitted}
-use Rattle.verdict.proofs.Promises.{counted-reach-by, fields-same-by, judged-reach-by, judged-same-by, no-order-exactly-by, order-exactly-by, refused_exactly_by, told_looks, told_prefixes, verdict-cases-by}
+use Rattle.verdict.proofs.Promises.{counted_reach_by, fields_same_by, judged_reach_by, judged_same_by, no_order_exactly_by, order_exactly_by, refused_exactly_by, told_looks, told_prefixes, verdict_cases_by}
 
 -- ---- demand 1
 
@@ -40,20 +40,20 @@ module _ (p : Profile) (w order order' table table' : List ℕ) where
 module _ (p : Profile) (w order order' table table' : List ℕ) (unrefused : judge_refusal p w (length order) (length table) ≡ none) where
   -- there is a verdict, 0 or 1
   pub verdict_cases : (j : Judged) → Promise p w order order' table table' j → (verdict_number j ≡ some 0) ⊎ (verdict_number j ≡ some 1)
-  verdict_cases = verdict-cases-by (plain p) w order order' table table' (judge_refusal p w (length order) (length table)) unrefused
+  verdict_cases = verdict_cases_by (plain p) w order order' table table' (judge_refusal p w (length order) (length table)) unrefused
 
   -- "The log gets 'no order' exactly when no log reachable from it by exchanges is accepted."
   pub no_order_exactly : (j : Judged) → Promise p w order order' table table' j → (verdict_number j ≡ some 0) ↔ ((v : List ℕ) → Witness p w v → ⊥)
-  no_order_exactly = no-order-exactly-by (plain p) w order order' table table' (judge_refusal p w (length order) (length table)) unrefused
+  no_order_exactly = no_order_exactly_by (plain p) w order order' table table' (judge_refusal p w (length order) (length table)) unrefused
 
   -- "Otherwise the order returned is reachable from it, accepted, and earlier in letter order than every other log that is both"; the other bytes stay
   pub order_exactly : (j : Judged) → Promise p w order order' table table' j → verdict_number j ≡ some 1
       → Witness p w (take (length w) order') × ((u : List ℕ) → Witness p w u → u ≢ take (length w) order' → Earlier (take (length w) order') u)
       × (drop (length w) order' ≡ drop (length w) order)
   order_exactly j h e =
-      let x = order-exactly-by (plain p) w order order' table table' (judge_refusal p w (length order) (length table)) unrefused j h e in (
-        subst (Witness p w) (sym (map_id x.0.0) ∙ x.0.1) x.0.2,
-        (λ u a ne. subst (Earlier (take (length w) order')) (map_id u) (x.1 u a (λ i. ne (sym (map_id u) ∙ i)))),
+      let x = order_exactly_by (plain p) w order order' table table' (judge_refusal p w (length order) (length table)) unrefused j h e in (
+        subst (Witness p w) (sym (map-id x.0.0) ∙ x.0.1) x.0.2,
+        (λ u a ne. subst (Earlier (take (length w) order')) (map-id u) (x.1 u a (λ i. ne (sym (map-id u) ∙ i)))),
         x.2,
       )
 
@@ -73,20 +73,20 @@ module _ (p : Profile) (v w : List ℕ) (order₁ order₁' table₁ table₁' o
     pub judged_same : (i j : Judged) → Promise p v order₁ order₁' table₁ table₁' i → Promise p w order₂ order₂' table₂ table₂' j
         → (verdict_number i ≡ verdict_number j) × (told_prefixes i ≡ told_prefixes j) × (told_looks i ≡ told_looks j)
         × (verdict_number i ≡ some 1 → take (length v) order₁' ≡ take (length w) order₂')
-    judged_same = judged-same-by (plain p) v w good good' order₁ order₁' table₁ table₁' order₂ order₂' table₂ table₂' _ _ first second same
+    judged_same = judged_same_by (plain p) v w good good' order₁ order₁' table₁ table₁' order₂ order₂' table₂ table₂' _ _ first second same
 
     -- Paper 5: "Logs reachable from each other in both directions must, where both get a verdict, leave equal count fields, record by record"
-    pub fields-same : (i j : Judged) → Promise p v order₁ order₁' table₁ table₁' i → Promise p w order₂ order₂' table₂ table₂' j
+    pub fields_same : (i j : Judged) → Promise p v order₁ order₁' table₁ table₁' i → Promise p w order₂ order₂' table₂ table₂' j
         → (r n : ℕ) → r < prefixes_of p v → n < layout.numbers
         → get_or table₁' (record_length layout * r + n) 0 ≡ get_or table₂' (record_length layout * r + n) 0
-    fields-same = fields-same-by (plain p) v w good good' order₁ order₁' table₁ table₁' order₂ order₂' table₂ table₂' _ _ first second same
+    fields_same = fields_same_by (plain p) v w good good' order₁ order₁' table₁ table₁' order₂ order₂' table₂ table₂' _ _ first second same
 
   -- Paper 4: "If log v is reachable from log w and v has an accepted order, then w has one that is no later in letter order". P of v is at most P of w
   module _ (reach : Reachable (independent p.masks) w v) where
     pub judged_reach : (i j : Judged) → Promise p v order₁ order₁' table₁ table₁' i → Promise p w order₂ order₂' table₂ table₂' j → verdict_number i ≡ some 1
         → (verdict_number j ≡ some 1) × NoLater (take (length w) order₂') (take (length v) order₁')
-    judged_reach = judged-reach-by (plain p) v w good good' order₁ order₁' table₁ table₁' order₂ order₂' table₂ table₂' _ _ first second reach
+    judged_reach = judged_reach_by (plain p) v w good good' order₁ order₁' table₁ table₁' order₂ order₂' table₂ table₂' _ _ first second reach
 
-    pub counted-reach : (i j : Judged) → Promise p v order₁ order₁' table₁ table₁' i → Promise p w order₂ order₂' table₂ table₂' j
+    pub counted_reach : (i j : Judged) → Promise p v order₁ order₁' table₁ table₁' i → Promise p w order₂ order₂' table₂ table₂' j
         → (P Q : ℕ) → told_prefixes i ≡ some P → told_prefixes j ≡ some Q → P ≤ Q
-    counted-reach = counted-reach-by (plain p) v w good good' order₁ order₁' table₁ table₁' order₂ order₂' table₂ table₂' _ _ first second reach
+    counted_reach = counted_reach_by (plain p) v w good good' order₁ order₁' table₁ table₁' order₂ order₂' table₂ table₂' _ _ first second reach

@@ -16,7 +16,7 @@ use Rattle.profile.specs.Tables.{layout, packed, record_length}
 use Rattle.profile.specs.Orders.{Earlier, NoLater, Same}
 use Rattle.profile.specs.declared.Refusal.{Refusal}
 use Rattle.theory.proofs.Calls.{WitnessBy, no_order_by, order_by_earliest, order_by_length, order_by_reach, prefixes_by_reach, same_answer_by}
-use Rattle.theory.proofs.Comparison.{by-total-same}
+use Rattle.theory.proofs.Comparison.{by_total_same}
 use Rattle.theory.proofs.Refusals.{GoodEvents}
 use Rattle.theory.proofs.Tables.{Holds, holds_counts}
 use Rattle.verdict.specs.Verdict.{Counted, PromiseBy, judged, refused_by, verdict_number}
@@ -55,27 +55,27 @@ module _ (p : Rules) (w order order' table table' : List ℕ) (q : Option Refusa
   -- the call is not refused
   module _ (unrefused : q ≡ none) where
     -- there is a verdict, 0 or 1
-    pub verdict-cases-by : (j : Judged) → PromiseBy p w order order' table table' q j → (verdict_number j ≡ some 0) ⊎ (verdict_number j ≡ some 1)
-    verdict-cases-by (Refused r) h = absurd (some-ne-none r (h.refused ∙ unrefused))
-    verdict-cases-by (NoOrder P n) h = inl refl
-    verdict-cases-by (Order P n) h = inr refl
+    pub verdict_cases_by : (j : Judged) → PromiseBy p w order order' table table' q j → (verdict_number j ≡ some 0) ⊎ (verdict_number j ≡ some 1)
+    verdict_cases_by (Refused r) h = absurd (some-ne-none r (h.refused ∙ unrefused))
+    verdict_cases_by (NoOrder P n) h = inl refl
+    verdict_cases_by (Order P n) h = inr refl
 
     -- "The log gets 'no order' exactly when no log reachable from it by exchanges is accepted."
-    pub no-order-exactly-by : (j : Judged) → PromiseBy p w order order' table table' q j → (verdict_number j ≡ some 0) ↔ ((v : List ℕ) → WitnessBy p w v → ⊥)
-    no-order-exactly-by (Refused r) h = absurd (some-ne-none r (h.refused ∙ unrefused))
-    no-order-exactly-by (NoOrder P n) h = ((λ e. (no_order_by p w).0 h.told.0), λ f. refl)
-    no-order-exactly-by (Order P n) h =
+    pub no_order_exactly_by : (j : Judged) → PromiseBy p w order order' table table' q j → (verdict_number j ≡ some 0) ↔ ((v : List ℕ) → WitnessBy p w v → ⊥)
+    no_order_exactly_by (Refused r) h = absurd (some-ne-none r (h.refused ∙ unrefused))
+    no_order_exactly_by (NoOrder P n) h = ((λ e. (no_order_by p w).0 h.told.0), λ f. refl)
+    no_order_exactly_by (Order P n) h =
         let x = (order_by_earliest p w h.told.1).0 in ((λ e. absurd (zero_one (sym e))), λ f. absurd (f x.0 x.2))
 
     -- "Otherwise the order returned is reachable from it, accepted, and earlier in letter order than every other log that is both": it is the letters of such
     -- a log, and earlier than the letters of every other; the other bytes stay
-    pub order-exactly-by : (j : Judged) → PromiseBy p w order order' table table' q j → verdict_number j ≡ some 1
+    pub order_exactly_by : (j : Judged) → PromiseBy p w order order' table table' q j → verdict_number j ≡ some 1
         → ((x : List ℕ) × (map p.letter x ≡ take (length w) order') × WitnessBy p w x)
         × ((u : List ℕ) → WitnessBy p w u → map p.letter u ≢ take (length w) order' → Earlier (take (length w) order') (map p.letter u))
         × (drop (length w) order' ≡ drop (length w) order)
-    order-exactly-by (Refused r) h e = absurd (none-ne-some 1 e)
-    order-exactly-by (NoOrder P n) h e = absurd (zero_one e)
-    order-exactly-by (Order P n) h e =
+    order_exactly_by (Refused r) h e = absurd (none-ne-some 1 e)
+    order_exactly_by (NoOrder P n) h e = absurd (zero_one e)
+    order_exactly_by (Order P n) h e =
         let front = sym (order_bytes P n h) in
         let x = order_by_earliest p w h.told.1 in (
           (x.0.0, x.0.1 ∙ front, x.0.2),
@@ -124,17 +124,17 @@ module _ (p : Rules) (v w : List ℕ) (good : GoodEvents p v) (good' : GoodEvent
     counted_same : {P Q n m : ℕ} → Counted p v table₁ table₁' P n → Counted p w table₂ table₂' Q m → (P ≡ Q) × (n ≡ m)
     counted_same g h = (g.prefixes ∙ answers.1 ∙ sym h.prefixes, g.looks ∙ answers.2 ∙ sym h.looks)
 
-    pub judged-same-by : (i j : Judged) → PromiseBy p v order₁ order₁' table₁ table₁' q₁ i → PromiseBy p w order₂ order₂' table₂ table₂' q₂ j
+    pub judged_same_by : (i j : Judged) → PromiseBy p v order₁ order₁' table₁ table₁' q₁ i → PromiseBy p w order₂ order₂' table₂ table₂' q₂ j
         → (verdict_number i ≡ verdict_number j) × (told_prefixes i ≡ told_prefixes j) × (told_looks i ≡ told_looks j)
         × (verdict_number i ≡ some 1 → take (length v) order₁' ≡ take (length w) order₂')
-    judged-same-by (Refused r) j g h = absurd (some-ne-none r (g.refused ∙ first))
-    judged-same-by (NoOrder P n) (Refused r) g h = absurd (some-ne-none r (h.refused ∙ second))
-    judged-same-by (NoOrder P n) (NoOrder Q m) g h =
+    judged_same_by (Refused r) j g h = absurd (some-ne-none r (g.refused ∙ first))
+    judged_same_by (NoOrder P n) (Refused r) g h = absurd (some-ne-none r (h.refused ∙ second))
+    judged_same_by (NoOrder P n) (NoOrder Q m) g h =
         let c = counted_same g.told.2 h.told.2 in (refl, ap some c.0, ap some c.1, λ e. absurd (zero_one e))
-    judged-same-by (NoOrder P n) (Order Q m) g h = absurd (none-ne-some _ (sym g.told.0 ∙ answers.0 ∙ h.told.1))
-    judged-same-by (Order P n) (Refused r) g h = absurd (some-ne-none r (h.refused ∙ second))
-    judged-same-by (Order P n) (NoOrder Q m) g h = absurd (none-ne-some _ (sym h.told.0 ∙ sym answers.0 ∙ g.told.1))
-    judged-same-by (Order P n) (Order Q m) g h = let c = counted_same g.told.3 h.told.3 in (refl, ap some c.0, ap some c.1, λ e. bytes)
+    judged_same_by (NoOrder P n) (Order Q m) g h = absurd (none-ne-some _ (sym g.told.0 ∙ answers.0 ∙ h.told.1))
+    judged_same_by (Order P n) (Refused r) g h = absurd (some-ne-none r (h.refused ∙ second))
+    judged_same_by (Order P n) (NoOrder Q m) g h = absurd (none-ne-some _ (sym h.told.0 ∙ sym answers.0 ∙ g.told.1))
+    judged_same_by (Order P n) (Order Q m) g h = let c = counted_same g.told.3 h.told.3 in (refl, ap some c.0, ap some c.1, λ e. bytes)
       where
         bytes : take (length v) order₁' ≡ take (length w) order₂'
         bytes =
@@ -142,32 +142,32 @@ module _ (p : Rules) (v w : List ℕ) (good : GoodEvents p v) (good' : GoodEvent
             ∙ sym (order_bytes p w order₂ order₂' table₂ table₂' q₂ Q m h)
 
     -- Paper 5: "Logs reachable from each other in both directions must, where both get a verdict, leave equal count fields, record by record"
-    pub fields-same-by : (i j : Judged) → PromiseBy p v order₁ order₁' table₁ table₁' q₁ i → PromiseBy p w order₂ order₂' table₂ table₂' q₂ j
+    pub fields_same_by : (i j : Judged) → PromiseBy p v order₁ order₁' table₁ table₁' q₁ i → PromiseBy p w order₂ order₂' table₂ table₂' q₂ j
         → (r n : ℕ) → r < prefixes_by p v → n < layout.numbers
         → get_or table₁' (record_length layout * r + n) 0 ≡ get_or table₂' (record_length layout * r + n) 0
-    fields-same-by i j g h r n hr hn =
+    fields_same_by i j g h r n hr hn =
         holds_counts (held p v order₁ order₁' table₁ table₁' q₁ first good i g) r n hr hn
         ∙ ap (λ l. get_or (packed layout (get_or l r [])) n 0)
-        (by-total-same p.letter (automaton p.profile) p.may same.0 same.1 good.apart p.profile.k good.letters good'.letters)
+        (by_total_same p.letter (automaton p.profile) p.may same.0 same.1 good.apart p.profile.k good.letters good'.letters)
         ∙ sym (holds_counts (held p w order₂ order₂' table₂ table₂' q₂ second good' j h) r n (omega (arith, answers.1)) hn)
 
   -- Paper 4: "If log v is reachable from log w and v has an accepted order, then w has one that is no later in letter order"; P of v is at most P of w
   module _ (reach : Reachable p.may w v) where
-    pub judged-reach-by : (i j : Judged) → PromiseBy p v order₁ order₁' table₁ table₁' q₁ i → PromiseBy p w order₂ order₂' table₂ table₂' q₂ j → verdict_number i ≡ some 1
+    pub judged_reach_by : (i j : Judged) → PromiseBy p v order₁ order₁' table₁ table₁' q₁ i → PromiseBy p w order₂ order₂' table₂ table₂' q₂ j → verdict_number i ≡ some 1
         → (verdict_number j ≡ some 1) × NoLater (take (length w) order₂') (take (length v) order₁')
-    judged-reach-by (Refused r) j g h e = absurd (none-ne-some 1 e)
-    judged-reach-by (NoOrder P n) j g h e = absurd (zero_one e)
-    judged-reach-by (Order P n) (Refused r) g h e = absurd (some-ne-none r (h.refused ∙ second))
-    judged-reach-by (Order P n) (NoOrder Q m) g h e = absurd (none-ne-some _ (sym h.told.0 ∙ (order_by_reach p v w reach g.told.1).1))
-    judged-reach-by (Order P n) (Order Q m) g h e =
+    judged_reach_by (Refused r) j g h e = absurd (none-ne-some 1 e)
+    judged_reach_by (NoOrder P n) j g h e = absurd (zero_one e)
+    judged_reach_by (Order P n) (Refused r) g h e = absurd (some-ne-none r (h.refused ∙ second))
+    judged_reach_by (Order P n) (NoOrder Q m) g h e = absurd (none-ne-some _ (sym h.told.0 ∙ (order_by_reach p v w reach g.told.1).1))
+    judged_reach_by (Order P n) (Order Q m) g h e =
         let x = order_by_reach p v w reach g.told.1 in
         let a = order_bytes p v order₁ order₁' table₁ table₁' q₁ P n g in
         let b = order_bytes p w order₂ order₂' table₂ table₂' q₂ Q m h ∙ some-injective h.told.0 x.0 (sym h.told.1 ∙ x.1) in
         (refl, subst₂ NoLater (sym b) (sym a) x.2)
 
-    pub counted-reach-by : (i j : Judged) → PromiseBy p v order₁ order₁' table₁ table₁' q₁ i → PromiseBy p w order₂ order₂' table₂ table₂' q₂ j
+    pub counted_reach_by : (i j : Judged) → PromiseBy p v order₁ order₁' table₁ table₁' q₁ i → PromiseBy p w order₂ order₂' table₂ table₂' q₂ j
         → (P Q : ℕ) → told_prefixes i ≡ some P → told_prefixes j ≡ some Q → P ≤ Q
-    counted-reach-by i j g h P Q d e = omega (
+    counted_reach_by i j g h P Q d e = omega (
       arith,
       count p v order₁ order₁' table₁ table₁' q₁ i g P d,
       count p w order₂ order₂' table₂ table₂' q₂ j h Q e,

@@ -19,7 +19,7 @@ use Rattle.profile.specs.Refusals.{bit_from, log_refusals, lowest, profile_refus
 use Rattle.profile.specs.declared.Refusal.{Refusal}
 use Rattle.profile.specs.declared.Refusal.TheVariants.{ViewBit}
 use Rattle.profile.proofs.Traces.{order_of_reach, takes_length}
-use Rattle.theory.proofs.Comparison.{accepted-order-same, by-total-same, prefix-count-same}
+use Rattle.theory.proofs.Comparison.{accepted_order_same, by_total_same, prefix_count_same}
 use Rattle.theory.proofs.Looks.{looks_same}
 use Rattle.theory.proofs.Profiles.{distinct}
 use Rattle.theory.proofs.Refusals.{GoodProfile, log_at, lowest_append, lowest_first, profile_at}
@@ -105,20 +105,20 @@ module _ (p : Profile) (visible : ℕ) (w order order' table table' : List ℕ) 
         go none e = e
         go (some r) e = absurd (some-ne-none r (sym (lowest_first (entry_refusals p visible w) (buffer_refusals p (seen visible w) (length order) (length table)) e) ∙ unrefused))
 
-    pub call-good : GoodProfile p
-    call-good = profile_at p (entry_profile p visible w entry)
+    pub call_good : GoodProfile p
+    call_good = profile_at p (entry_profile p visible w entry)
 
-    pub call-letters : T (letters_below (λ a. a) p.k w)
-    call-letters = (log_at p.k w (entry_log p visible w entry)).letters
+    pub call_letters : T (letters_below (λ a. a) p.k w)
+    call_letters = (log_at p.k w (entry_log p visible w entry)).letters
 
-    pub call-told : j ≡ told_as none (view_order p visible w) (view_prefixes p visible w) (view_looks p visible w)
-    call-told = call.told ∙ ap (λ o. told_as o (view_order p visible w) (view_prefixes p visible w) (view_looks p visible w)) unrefused
+    pub call_told : j ≡ told_as none (view_order p visible w) (view_prefixes p visible w) (view_looks p visible w)
+    call_told = call.told ∙ ap (λ o. told_as o (view_order p visible w) (view_prefixes p visible w) (view_looks p visible w)) unrefused
 
     told_with : (o : Option (List ℕ)) → view_order p visible w ≡ o → j ≡ told_as none o (view_prefixes p visible w) (view_looks p visible w)
-    told_with o e = call-told ∙ ap (λ x. told_as none x (view_prefixes p visible w) (view_looks p visible w)) e
+    told_with o e = call_told ∙ ap (λ x. told_as none x (view_prefixes p visible w) (view_looks p visible w)) e
 
-    call-order : order' ≡ order_as none (view_order p visible w) order
-    call-order = call.order_is ∙ ap (λ o. order_as o (view_order p visible w) order) unrefused
+    call_order : order' ≡ order_as none (view_order p visible w) order
+    call_order = call.order_is ∙ ap (λ o. order_as o (view_order p visible w) order) unrefused
 
     -- there is a verdict, 0 or 1
     pub verdict_cases : (verdict_number j ≡ some 0) ⊎ (verdict_number j ≡ some 1)
@@ -129,8 +129,8 @@ module _ (p : Profile) (visible : ℕ) (w order order' table table' : List ℕ) 
         go (some v) e = inr (ap verdict_number (told_with (some v) e))
 
     -- the order of a call that tells verdict 1
-    pub order-of-one : verdict_number j ≡ some 1 → (v : List ℕ) × (view_order p visible w ≡ some v)
-    order-of-one h = go (view_order p visible w) refl
+    pub order_of_one : verdict_number j ≡ some 1 → (v : List ℕ) × (view_order p visible w ≡ some v)
+    order_of_one h = go (view_order p visible w) refl
       where
         go : (o : Option (List ℕ)) → view_order p visible w ≡ o → (v : List ℕ) × (view_order p visible w ≡ some v)
         go none e = absurd (zero_one (sym (ap verdict_number (told_with none e)) ∙ h))
@@ -142,19 +142,19 @@ module _ (p : Profile) (visible : ℕ) (w order order' table table' : List ℕ) 
     no_order_exactly = go (view_order p visible w) refl
       where
         go : (o : Option (List ℕ)) → view_order p visible w ≡ o → (verdict_number j ≡ some 0) ↔ ((u : List ℕ) → Shown p visible w u → ⊥)
-        go none e = ((λ q. (view_none p call-good visible w call-letters).0 e), λ f. ap verdict_number (told_with none e))
+        go none e = ((λ q. (view_none p call_good visible w call_letters).0 e), λ f. ap verdict_number (told_with none e))
         go (some v) e = (
           (λ q. absurd (zero_one (sym q ∙ ap verdict_number (told_with (some v) e)))),
-          λ f. absurd (f v (view_earliest p call-good visible w call-letters e).0),
+          λ f. absurd (f v (view_earliest p call_good visible w call_letters e).0),
         )
 
     -- the bytes of the order, as many as the visible part has
     pub order_bytes : {v : List ℕ} → view_order p visible w ≡ some v
         → (take (length (seen visible w)) order' ≡ v) × (drop (length (seen visible w)) order' ≡ drop (length (seen visible w)) order)
     order_bytes {v} e =
-        let x = view_earliest p call-good visible w call-letters e in
+        let x = view_earliest p call_good visible w call_letters e in
         let l : length v ≡ length (seen visible w) = omega (arith, takes_length (independent p.masks) (order_of_reach (independent p.masks) x.0.reached)) in
-        let f = call-order ∙ ap (λ o. order_as none o order) e in (
+        let f = call_order ∙ ap (λ o. order_as none o order) e in (
           ap (take (length (seen visible w))) f ∙ take_at v (drop (length v) order) (length (seen visible w)) l,
           ap (drop (length (seen visible w))) f ∙ drop_at v (drop (length v) order) (length (seen visible w)) l ∙ ap (λ n. drop n order) l,
         )
@@ -165,8 +165,8 @@ module _ (p : Profile) (visible : ℕ) (w order order' table table' : List ℕ) 
         × ((u : List ℕ) → Shown p visible w u → u ≢ take (length (seen visible w)) order' → Earlier (take (length (seen visible w)) order') u)
         × (drop (length (seen visible w)) order' ≡ drop (length (seen visible w)) order)
     order_exactly h =
-        let o = order-of-one h in
-        let x = view_earliest p call-good visible w call-letters o.1 in
+        let o = order_of_one h in
+        let x = view_earliest p call_good visible w call_letters o.1 in
         let q = order_bytes o.1 in (
           subst (Shown p visible w) (sym q.0) x.0,
           (λ u a ne. subst (λ z. Earlier z u) (sym q.0) (x.1 u a (λ i. ne (i ∙ sym q.0)))),
@@ -174,8 +174,8 @@ module _ (p : Profile) (visible : ℕ) (w order order' table table' : List ℕ) 
         )
 
     -- the table is that of the visible part, by the automaton with hidden letters anywhere
-    pub call-table : table' ≡ table_of layout (independent p.masks) (λ a. a) (view p visible) p.k (seen visible w) table
-    call-table = call.table_is ∙ ap (λ o. table_as o (table_of layout (independent p.masks) (λ a. a) (view p visible) p.k (seen visible w) table) table) unrefused
+    pub call_table : table' ≡ table_of layout (independent p.masks) (λ a. a) (view p visible) p.k (seen visible w) table
+    call_table = call.table_is ∙ ap (λ o. table_as o (table_of layout (independent p.masks) (λ a. a) (view p visible) p.k (seen visible w) table) table) unrefused
 
 -- "demand 3 is read of visible parts …, with one mask for both logs": logs whose visible parts are reachable from each other get the same verdict, the same
 -- order if there is one, the same P and the same looks, whatever buffers each was lent; and "leave equal count fields, record by record" (Paper 5)
@@ -184,28 +184,28 @@ module _ (p : Profile) (visible : ℕ) (v w order₁ order₁' table₁ table₁
     (first : view_refusal p visible v (length order₁) (length table₁) ≡ none) (second : view_refusal p visible w (length order₂) (length table₂) ≡ none)
     (same : Same (independent p.masks) (seen visible v) (seen visible w)) where
   low : (u o t o' t' : List ℕ) (k : Judged) → Viewed p visible u o o' t t' k → view_refusal p visible u (length o) (length t) ≡ none → T (letters_below (λ a. a) p.k (seen visible u))
-  low u o t o' t' k c e = filter_keeps (λ a. ltb a p.k) (bit visible) u (call-letters p visible u o o' t t' k c e)
+  low u o t o' t' k c e = filter_keeps (λ a. ltb a p.k) (bit visible) u (call_letters p visible u o o' t t' k c e)
 
   own : (a b : ℕ) → T (independent p.masks a b) → a ≢ b
-  own = distinct p.masks (call-good p visible v order₁ order₁' table₁ table₁' i g first).relation.own
+  own = distinct p.masks (call_good p visible v order₁ order₁' table₁ table₁' i g first).relation.own
 
   orders_same : view_order p visible v ≡ view_order p visible w
-  orders_same = accepted-order-same (λ a. a) (view p visible) (independent p.masks) same.0 same.1
+  orders_same = accepted_order_same (λ a. a) (view p visible) (independent p.masks) same.0 same.1
 
   -- verdict, P and looks
   pub viewed_same : i ≡ j
   viewed_same =
       let a = low v order₁ table₁ order₁' table₁' i g first in
       let b = low w order₂ table₂ order₂' table₂' j h second in
-      call-told p visible v order₁ order₁' table₁ table₁' i g first
+      call_told p visible v order₁ order₁' table₁ table₁' i g first
       ∙ ap (λ o. told_as none o (view_prefixes p visible v) (view_looks p visible v)) orders_same
-      ∙ ap₂ (λ P n. told_as none (view_order p visible w) P n) (prefix-count-same (λ a. a) (view p visible) (independent p.masks) same.0 same.1 own p.k a b) (looks_same (λ a. a) (view p visible) (independent p.masks) same.0 same.1 own p.k a b)
-      ∙ sym (call-told p visible w order₂ order₂' table₂ table₂' j h second)
+      ∙ ap₂ (λ P n. told_as none (view_order p visible w) P n) (prefix_count_same (λ a. a) (view p visible) (independent p.masks) same.0 same.1 own p.k a b) (looks_same (λ a. a) (view p visible) (independent p.masks) same.0 same.1 own p.k a b)
+      ∙ sym (call_told p visible w order₂ order₂' table₂ table₂' j h second)
 
   -- the order
   pub viewed_order_same : verdict_number i ≡ some 1 → take (length (seen visible v)) order₁' ≡ take (length (seen visible w)) order₂'
   viewed_order_same e =
-      let o = order-of-one p visible v order₁ order₁' table₁ table₁' i g first e in
+      let o = order_of_one p visible v order₁ order₁' table₁ table₁' i g first e in
       (order_bytes p visible v order₁ order₁' table₁ table₁' i g first o.1).0
       ∙ sym (order_bytes p visible w order₂ order₂' table₂ table₂' j h second (sym orders_same ∙ o.1)).0
 
@@ -214,9 +214,9 @@ module _ (p : Profile) (visible : ℕ) (v w order₁ order₁' table₁ table₁
   viewed_fields_same r n hr hn =
       let a = low v order₁ table₁ order₁' table₁' i g first in
       let b = low w order₂ table₂ order₂' table₂' j h second in
-      let q = prefix-count-same (λ a. a) (view p visible) (independent p.masks) same.0 same.1 own p.k a b in
-      let x : Holds layout (independent p.masks) (λ a. a) (view p visible) p.k (seen visible v) table₁ table₁' = record { letters = a; written = call-table p visible v order₁ order₁' table₁ table₁' i g first } in
-      let y : Holds layout (independent p.masks) (λ a. a) (view p visible) p.k (seen visible w) table₂ table₂' = record { letters = b; written = call-table p visible w order₂ order₂' table₂ table₂' j h second } in
+      let q = prefix_count_same (λ a. a) (view p visible) (independent p.masks) same.0 same.1 own p.k a b in
+      let x : Holds layout (independent p.masks) (λ a. a) (view p visible) p.k (seen visible v) table₁ table₁' = record { letters = a; written = call_table p visible v order₁ order₁' table₁ table₁' i g first } in
+      let y : Holds layout (independent p.masks) (λ a. a) (view p visible) p.k (seen visible w) table₂ table₂' = record { letters = b; written = call_table p visible w order₂ order₂' table₂ table₂' j h second } in
       holds_counts x r n hr hn
-      ∙ ap (λ l. get_or (packed layout (get_or l r [])) n 0) (by-total-same (λ a. a) (view p visible) (independent p.masks) same.0 same.1 own p.k a b)
+      ∙ ap (λ l. get_or (packed layout (get_or l r [])) n 0) (by_total_same (λ a. a) (view p visible) (independent p.masks) same.0 same.1 own p.k a b)
       ∙ sym (holds_counts y r n (omega (arith, q)) hn)

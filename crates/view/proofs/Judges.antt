@@ -23,7 +23,7 @@ use Rattle.verdict.specs.declared.Judged.{Judged}
 use Rattle.verdict.proofs.Promises.{told_prefixes}
 use Rattle.verdict.proofs.Judging.{order_length}
 use Rattle.views.specs.Views.{buffer_refusals, entry_refusals, seen, view, view_looks, view_order, view_prefixes, view_refusal}
-use Rattle.views.proofs.Masks.{all-order, all-table, none_prefixes, none_verdict, seen_whole}
+use Rattle.views.proofs.Masks.{all_order, all_table, none_prefixes, none_verdict, seen_whole}
 use Rattle.views.proofs.Refused.{view_buffers}
 use Rattle.views.proofs.Said.{view_earliest}
 use Rattle.cleared.specs.Cleared.{cleared, order_as, table_as, told_as}
@@ -31,7 +31,7 @@ use Rattle.cleared.proofs.Cleared.{cleared_spared}
 use Rattle.view.specs.Viewing.{Viewed}
 use Rattle.seeing.proofs.Told.{prefixes_told}
 use Rattle.view.proofs.Viewed.{entry_not_ten}
-use Rattle.view.proofs.Demands.{call-good, call-letters, call-told, lowest_skip, order-of-one}
+use Rattle.view.proofs.Demands.{call_good, call_letters, call_told, lowest_skip, order_of_one}
 
 -- the lowest of two lists, by the lowest of the second
 lowest_tail : {A : Type 0} (x y z : List (Bool × A)) → lowest y ≡ lowest z → lowest (x ++ y) ≡ lowest (x ++ z)
@@ -79,8 +79,8 @@ module _ (p : Profile) (visible : ℕ) (whole : (x : ℕ) → x < p.k → T (bit
     abbrev F : List ℕ → List ℕ
     F u = table_of layout may (λ a. a) (view p visible) p.k u table
 
-    all-refused : (r : Refusal) → view_refusal p visible w (length order) (length table) ≡ some r → Promise p w order order' table table' j
-    all-refused r e = subst (Promise p w order order' table table') (sym (call.told ∙ ap (λ o. told_as o (view_order p visible w) (P (seen visible w)) (L (seen visible w))) e)) (record {
+    all_refused : (r : Refusal) → view_refusal p visible w (length order) (length table) ≡ some r → Promise p w order order' table table' j
+    all_refused r e = subst (Promise p w order order' table table') (sym (call.told ∙ ap (λ o. told_as o (view_order p visible w) (P (seen visible w)) (L (seen visible w))) e)) (record {
       refused = sym e ∙ all_refusal (length order) (length table);
       told = (call.order_is ∙ ap (λ o. order_as o (view_order p visible w) order) e, λ ne. kept ne (eqb (refusal_number r) 10) refl, subst (Spared table) (sym left) (spared (eqb (refusal_number r) 10)));
     })
@@ -96,27 +96,27 @@ module _ (p : Profile) (visible : ℕ) (whole : (x : ℕ) → x < p.k → T (bit
         kept ne true q = absurd (ne (ten_full p visible w (length order) (length table) e q))
         kept ne false q = left ∙ ap (λ b. cond b (cleared table) table) q
 
-    all-answered : view_refusal p visible w (length order) (length table) ≡ none → Promise p w order order' table table' j
-    all-answered e = go (accepted_order may (λ a. a) (automaton p) w) refl
+    all_answered : view_refusal p visible w (length order) (length table) ≡ none → Promise p w order order' table table' j
+    all_answered e = go (accepted_order may (λ a. a) (automaton p) w) refl
       where
         good : GoodProfile p
-        good = call-good p visible w order order' table table' j call e
+        good = call_good p visible w order order' table table' j call e
 
         letters : T (letters_below (λ a. a) p.k w)
-        letters = call-letters p visible w order order' table table' j call e
+        letters = call_letters p visible w order order' table table' j call e
 
         same : seen visible w ≡ w
         same = seen_whole p.k visible whole w letters
 
         answer : (o : Option (List ℕ)) → accepted_order may (λ a. a) (automaton p) w ≡ o → j ≡ told_as none o (P w) (L w)
         answer o q = call.told ∙ ap (λ x. told_as x (view_order p visible w) (P (seen visible w)) (L (seen visible w))) e
-            ∙ ap (λ u. told_as none (view_order p visible w) (P u) (L u)) same ∙ ap (λ x. told_as none x (P w) (L w)) (all-order p good visible whole w letters ∙ q)
+            ∙ ap (λ u. told_as none (view_order p visible w) (P u) (L u)) same ∙ ap (λ x. told_as none x (P w) (L w)) (all_order p good visible whole w letters ∙ q)
 
         order-eq : (o : Option (List ℕ)) → accepted_order may (λ a. a) (automaton p) w ≡ o → order' ≡ order_as none o order
-        order-eq o q = call.order_is ∙ ap (λ x. order_as x (view_order p visible w) order) e ∙ ap (λ x. order_as none x order) (all-order p good visible whole w letters ∙ q)
+        order-eq o q = call.order_is ∙ ap (λ x. order_as x (view_order p visible w) order) e ∙ ap (λ x. order_as none x order) (all_order p good visible whole w letters ∙ q)
 
         table_eq : table' ≡ table_of layout may (λ a. a) (automaton p) p.k w table
-        table_eq = call.table_is ∙ ap (λ x. table_as x (F (seen visible w)) table) e ∙ ap F same ∙ all-table p good visible whole w letters table
+        table_eq = call.table_is ∙ ap (λ x. table_as x (F (seen visible w)) table) e ∙ ap F same ∙ all_table p good visible whole w letters table
 
         go : (o : Option (List ℕ)) → accepted_order may (λ a. a) (automaton p) w ≡ o → Promise p w order order' table table' j
         go none q = subst (Promise p w order order' table table') (sym (answer none q)) (record {
@@ -129,30 +129,30 @@ module _ (p : Profile) (visible : ℕ) (whole : (x : ℕ) → x < p.k → T (bit
         })
 
     -- the answer, the order and the table are those of the judge
-    pub all-judge : Promise p w order order' table table' j
-    all-judge = go (view_refusal p visible w (length order) (length table)) refl
+    pub all_judge : Promise p w order order' table table' j
+    all_judge = go (view_refusal p visible w (length order) (length table)) refl
       where
         go : (o : Option Refusal) → view_refusal p visible w (length order) (length table) ≡ o → Promise p w order order' table table' j
-        go none e = all-answered e
-        go (some r) e = all-refused r e
+        go none e = all_answered e
+        go (some r) e = all_refused r e
 
 -- no letter is visible: P is 1, and verdict 1 exactly when some list of letters leads from the start to a final state
 module _ (p : Profile) (w order order' table table' : List ℕ) (j : Judged) (call : Viewed p 0 w order order' table table' j)
     (unrefused : view_refusal p 0 w (length order) (length table) ≡ none) where
   pub none_told : told_prefixes j ≡ some 1
-  none_told = ap told_prefixes (call-told p 0 w order order' table table' j call unrefused) ∙ prefixes_told (view_order p 0 w) (view_prefixes p 0 w) (view_looks p 0 w) ∙ ap some (none_prefixes p w)
+  none_told = ap told_prefixes (call_told p 0 w order order' table table' j call unrefused) ∙ prefixes_told (view_order p 0 w) (view_prefixes p 0 w) (view_looks p 0 w) ∙ ap some (none_prefixes p w)
 
   pub none_judged : (verdict_number j ≡ some 1) ↔ ((l : List ℕ) × T (letters_below (λ a. a) p.k l) × Accepted (automaton p) (λ a. a) l)
   none_judged = (
     λ h.
-        let o = order-of-one p 0 w order order' table table' j call unrefused h in
+        let o = order_of_one p 0 w order order' table table' j call unrefused h in
         let b = (view_earliest p good 0 w letters o.1).0.behind in
         (b.list, b.letters, b.accepted),
-    λ l. ap verdict_number (call-told p 0 w order order' table table' j call unrefused ∙ ap (λ o. told_as none o (view_prefixes p 0 w) (view_looks p 0 w)) ((none_verdict p good w letters).1 l)),
+    λ l. ap verdict_number (call_told p 0 w order order' table table' j call unrefused ∙ ap (λ o. told_as none o (view_prefixes p 0 w) (view_looks p 0 w)) ((none_verdict p good w letters).1 l)),
   )
     where
       good : GoodProfile p
-      good = call-good p 0 w order order' table table' j call unrefused
+      good = call_good p 0 w order order' table table' j call unrefused
 
       letters : T (letters_below (λ a. a) p.k w)
-      letters = call-letters p 0 w order order' table table' j call unrefused
+      letters = call_letters p 0 w order order' table table' j call unrefused

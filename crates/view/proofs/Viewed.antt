@@ -48,8 +48,8 @@ module _ (p : Profile) (visible : ℕ) (w : List ℕ) where
           table_is = sym (ap (λ o. table_as o F t) e ∙ ap (λ b. cond b (cleared t) t) h);
         }
 
-    pub told-entry : {r : Refusal} → lowest (entry_refusals p visible w) ≡ some r → Viewed p visible w order order t t (Refused r)
-    told-entry e = refused_as (lowest_first (entry_refusals p visible w) (buffer_refusals p (seen visible w) (length order) (length t)) e) (entry_not_ten e)
+    pub told_entry : {r : Refusal} → lowest (entry_refusals p visible w) ≡ some r → Viewed p visible w order order t t (Refused r)
+    told_entry e = refused_as (lowest_first (entry_refusals p visible w) (buffer_refusals p (seen visible w) (length order) (length t)) e) (entry_not_ten e)
 
     module _ (clean : lowest (entry_refusals p visible w) ≡ none) where
       pub told_short : length order < length (seen visible w) → Viewed p visible w order order t t (Refused ShortBuffer)
@@ -57,9 +57,9 @@ module _ (p : Profile) (visible : ℕ) (w : List ℕ) where
           (view_buffers p visible w clean (length order) (length t)
           ∙ ap (λ b. lowest ((b, ShortBuffer) ∷ (full_table (prefix_count (independent p.masks) (λ a. a) p.k (seen visible w)) (length t), FullTable) ∷ [])) (lt-ltb (length order) (length (seen visible w)) h)) refl
 
-      pub told-seen : (u : List ℕ) → u ≡ seen visible w → (j : Judged) (order' t' : List ℕ)
+      pub told_seen : (u : List ℕ) → u ≡ seen visible w → (j : Judged) (order' t' : List ℕ)
           → j ≡ answer p (view p visible) u (length order) (length t) → order' ≡ order_left p (view p visible) u (length t) order → t' ≡ table_left p (view p visible) u (length order) t → Viewed p visible w order order' t t' j
-      told-seen u e j order' t' a b c =
+      told_seen u e j order' t' a b c =
           let v = accepted_order (independent p.masks) (λ a. a) (view p visible) (seen visible w) in
           let P = prefix_count (independent p.masks) (λ a. a) p.k (seen visible w) in
           let L = looks (independent p.masks) (λ a. a) p.k (seen visible w) in
@@ -72,11 +72,11 @@ module _ (p : Profile) (visible : ℕ) (w : List ℕ) where
 
   -- what the checks leave
   module _ (clean : lowest (entry_refusals p visible w) ≡ none) where
-    pub entry-good : GoodLog p.k w
-    entry-good = log_at p.k w (entry_log p visible w clean)
+    pub entry_good : GoodLog p.k w
+    entry_good = log_at p.k w (entry_log p visible w clean)
 
-    pub entry-few : p.k ≤ 16
-    entry-few = (profile_at p (entry_profile p visible w clean)).relation.most
+    pub entry_few : p.k ≤ 16
+    entry_few = (profile_at p (entry_profile p visible w clean)).relation.most
 
-    pub entry-clean : (u : List ℕ) → u ≡ seen visible w → Clean p u
-    entry-clean u e = subst (Clean p) (sym e) (record { profile = entry_profile p visible w clean; log = seen_passes p.k visible w (entry_log p visible w clean) })
+    pub entry_clean : (u : List ℕ) → u ≡ seen visible w → Clean p u
+    entry_clean u e = subst (Clean p) (sym e) (record { profile = entry_profile p visible w clean; log = seen_passes p.k visible w (entry_log p visible w clean) })

@@ -128,8 +128,8 @@ module _ (p : Profile) (good : GoodProfile p) (visible : ℕ) where
     order_below v x h m = reach_all (λ a. ltb a p.k) h (reach_of_order may (order_of_mem may v m))
 
     -- "forward … allow hidden letters anywhere, at either end too"
-    pub late-forward : (c : ℕ → ℕ) → forward may (λ a. a) (view p visible) u c ≡ hull p visible (forward may (λ a. a) (automaton (late p visible)) u c)
-    late-forward c = sets_eq (union runs (orders may l)) (hull p visible (union runs' (orders may l)))
+    pub late_forward : (c : ℕ → ℕ) → forward may (λ a. a) (view p visible) u c ≡ hull p visible (forward may (λ a. a) (automaton (late p visible)) u c)
+    late_forward c = sets_eq (union runs (orders may l)) (hull p visible (union runs' (orders may l)))
         (λ r t.
         let n = union_at runs (orders may l) r t in
         let m = hull_at p visible (runs' n.0) r (subst (λ z. T (bit z r)) (late_run (2 ^ p.start) n.0 (order_below l n.0 low n.1)) n.2) in
@@ -151,15 +151,15 @@ module _ (p : Profile) (good : GoodProfile p) (visible : ℕ) where
         runs' : List ℕ → ℕ
         runs' = run (automaton (late p visible)) (λ a. a) (2 ^ p.start)
 
-    union-same : {A : Type 0} (f g : A → ℕ) (l : List A) → ((x : A) → Mem x l → f x ≡ g x) → union f l ≡ union g l
-    union-same f g [] h = refl
-    union-same f g (a ∷ l) h = ap₂ (λ x y. bit_or x y) (h a (Memᴰ.head refl)) (union-same f g l (λ x m. h x (Memᴰ.tail m)))
+    union_same : {A : Type 0} (f g : A → ℕ) (l : List A) → ((x : A) → Mem x l → f x ≡ g x) → union f l ≡ union g l
+    union_same f g [] h = refl
+    union_same f g (a ∷ l) h = ap₂ (λ x y. bit_or x y) (h a (Memᴰ.head refl)) (union_same f g l (λ x m. h x (Memᴰ.tail m)))
 
-    pub late-backward : (c : ℕ → ℕ) → backward may (λ a. a) (view p visible) u c ≡ backward may (λ a. a) (automaton (late p visible)) u c
-    late-backward c = union-same (run_back (view p visible) (λ a. a) (finals_late p visible)) (run_back (automaton (late p visible)) (λ a. a) (finals_late p visible)) (orders may (unmarked (λ a. a) u c))
+    pub late_backward : (c : ℕ → ℕ) → backward may (λ a. a) (view p visible) u c ≡ backward may (λ a. a) (automaton (late p visible)) u c
+    late_backward c = union_same (run_back (view p visible) (λ a. a) (finals_late p visible)) (run_back (automaton (late p visible)) (λ a. a) (finals_late p visible)) (orders may (unmarked (λ a. a) u c))
         (λ x m. (late_run_back x (order_below (unmarked (λ a. a) u c) x (unmarked_all (λ a. ltb a p.k) u c letters) m)).0)
 
-    pub late-order : accepted_order may (λ a. a) (view p visible) u ≡ accepted_order may (λ a. a) (automaton (late p visible)) u
-    late-order = ap (λ l. earliest (map (map (λ a. a)) l)) (filter_agree (accepted? (view p visible) (λ a. a)) (accepted? (automaton (late p visible)) (λ a. a)) (orders may u)
+    pub late_order : accepted_order may (λ a. a) (view p visible) u ≡ accepted_order may (λ a. a) (automaton (late p visible)) u
+    late_order = ap (λ l. earliest (map (map (λ a. a)) l)) (filter_agree (accepted? (view p visible) (λ a. a)) (accepted? (automaton (late p visible)) (λ a. a)) (orders may u)
         (λ x m. ap (λ S. meets S (finals_late p visible)) (late_run (2 ^ p.start) x (order_below u x letters m))
         ∙ backed_meets (run (automaton (late p visible)) (λ a. a) (2 ^ p.start) x) (finals_late p visible) (λ q t h. (view_ends_at p good visible q h).0) late_finals))

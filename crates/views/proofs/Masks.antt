@@ -75,8 +75,8 @@ module _ (p : Profile) (good : GoodProfile p) (visible : ℕ) (whole : (x : ℕ)
     may = independent p.masks
 
     -- forward and backward are those of the judge
-    pub all-forward : (c : ℕ → ℕ) → forward may (λ a. a) (view p visible) w c ≡ forward may (λ a. a) (automaton p) w c
-    all-forward c = sets_eq (forward may (λ a. a) (view p visible) w c) (forward may (λ a. a) (automaton p) w c)
+    pub all_forward : (c : ℕ → ℕ) → forward may (λ a. a) (view p visible) w c ≡ forward may (λ a. a) (automaton p) w c
+    all_forward c = sets_eq (forward may (λ a. a) (view p visible) w c) (forward may (λ a. a) (automaton p) w c)
         (λ r t.
         let n = (view_forward p good visible w letters c r).0 (subst (λ u. T (bit (forward may (λ a. a) (view p visible) u c) r)) (sym (seen_all w letters)) t) in
         let o = subst (λ u. Reachable may (marked (λ a. a) u c) n.list) (seen_all w letters) (subst (Reachable may (marked (λ a. a) (seen visible w) c)) (seen_all n.list n.letters) n.reached) in
@@ -93,19 +93,19 @@ module _ (p : Profile) (good : GoodProfile p) (visible : ℕ) (whole : (x : ℕ)
         } in
         subst (λ u. T (bit (forward may (λ a. a) (view p visible) u c) r)) (seen_all w letters) ((view_forward p good visible w letters c r).1 h))
 
-    from-inside : {q r : ℕ} {u : List ℕ} → PathOf (view p visible) (λ a. a) q u r → r < p.s → q < p.s
-    from-inside stop h = h
-    from-inside (goes {q = q} {a = a} {r = m} t l) h = ((view_move p good visible q a m).0 t).0
+    from_inside : {q r : ℕ} {u : List ℕ} → PathOf (view p visible) (λ a. a) q u r → r < p.s → q < p.s
+    from_inside stop h = h
+    from_inside (goes {q = q} {a = a} {r = m} t l) h = ((view_move p good visible q a m).0 t).0
 
-    path-from : {q r : ℕ} {u : List ℕ} → PathOf (automaton p) (λ a. a) q u r → r < p.s → q < p.s
-    path-from stop h = h
-    path-from (goes {q = q} {a = a} {r = m} t l) h = (move_inside p good visible q a m t).0
+    path_from : {q r : ℕ} {u : List ℕ} → PathOf (automaton p) (λ a. a) q u r → r < p.s → q < p.s
+    path_from stop h = h
+    path_from (goes {q = q} {a = a} {r = m} t l) h = (move_inside p good visible q a m t).0
 
-    pub all-backward : (c : ℕ → ℕ) → backward may (λ a. a) (view p visible) w c ≡ backward may (λ a. a) (automaton p) w c
-    all-backward c = sets_eq (backward may (λ a. a) (view p visible) w c) (backward may (λ a. a) (automaton p) w c)
+    pub all_backward : (c : ℕ → ℕ) → backward may (λ a. a) (view p visible) w c ≡ backward may (λ a. a) (automaton p) w c
+    all_backward c = sets_eq (backward may (λ a. a) (view p visible) w c) (backward may (λ a. a) (automaton p) w c)
         (λ q t.
         let z = backward_at may (λ a. a) (view p visible) (view_lawful p good visible) w c q t in
-        let lt = from-inside z.3 (view_ends_at p good visible z.1 z.4).0 in
+        let lt = from_inside z.3 (view_ends_at p good visible z.1 z.4).0 in
         let n = (view_backward p good visible w letters c q lt).0 (subst (λ u. T (bit (backward may (λ a. a) (view p visible) u c) q)) (sym (seen_all w letters)) t) in
         let o = subst (λ u. Reachable may (unmarked (λ a. a) u c) n.list) (seen_all w letters) (subst (Reachable may (unmarked (λ a. a) (seen visible w) c)) (seen_all n.list n.letters) n.reached) in
         backward_of may (λ a. a) (automaton p) (lawful p) w c (order_of_reach may o) n.leads n.ends)
@@ -113,7 +113,7 @@ module _ (p : Profile) (good : GoodProfile p) (visible : ℕ) (whole : (x : ℕ)
         let n = backward_at may (λ a. a) (automaton p) (lawful p) w c q t in
         let o = reach_of_order may n.2 in
         let k = reach_all (λ a. ltb a p.k) (unmarked_all (λ a. ltb a p.k) w c letters) o in
-        let lt = path-from n.3 (bit_below p.s p.finals n.1 good.finals_inside n.4) in
+        let lt = path_from n.3 (bit_below p.s p.finals n.1 good.finals_inside n.4) in
         let h : InBackward p visible w c q = record {
           list = n.0;
           letters = k;
@@ -125,8 +125,8 @@ module _ (p : Profile) (good : GoodProfile p) (visible : ℕ) (whole : (x : ℕ)
         subst (λ u. T (bit (backward may (λ a. a) (view p visible) u c) q)) (seen_all w letters) ((view_backward p good visible w letters c q lt).1 h))
 
     -- the order is that of the judge
-    pub all-order : view_order p visible w ≡ accepted_order may (λ a. a) (automaton p) w
-    all-order = ap (accepted_order may (λ a. a) (view p visible)) (seen_all w letters)
+    pub all_order : view_order p visible w ≡ accepted_order may (λ a. a) (automaton p) w
+    all_order = ap (accepted_order may (λ a. a) (view p visible)) (seen_all w letters)
         ∙ ap (λ l. earliest (map (map (λ a. a)) l)) (filter_agree (accepted? (view p visible) (λ a. a)) (accepted? (automaton p) (λ a. a)) (orders may w) (λ u m.
         let k = reach_all (λ a. ltb a p.k) letters (reach_of_order may (order_of_mem may w m)) in
         let v = subst (λ z. T (all (bit visible) z)) (seen_all u k) (seen_visible visible u) in
@@ -137,7 +137,7 @@ module _ (p : Profile) (good : GoodProfile p) (visible : ℕ) (whole : (x : ℕ)
         (λ t. accepted_of (view p visible) (view_lawful p good visible) (λ a. a) (behind_at p good visible (record { list = u; letters = k; accepted = accepted_at (automaton p) (lawful p) (λ a. a) u t; shows = seen_all u k })))))
 
     -- and so is the table
-    pub all-table : (t : List ℕ) → table_of layout may (λ a. a) (view p visible) p.k w t ≡ table_of layout may (λ a. a) (automaton p) p.k w t
-    all-table t = ap (λ l. l ++ drop (record_length layout * prefix_count may (λ a. a) p.k w) t)
+    pub all_table : (t : List ℕ) → table_of layout may (λ a. a) (view p visible) p.k w t ≡ table_of layout may (λ a. a) (automaton p) p.k w t
+    all_table t = ap (λ l. l ++ drop (record_length layout * prefix_count may (λ a. a) p.k w) t)
         (flat_map_agree (record_of layout may (λ a. a) (view p visible) w) (record_of layout may (λ a. a) (automaton p) w) (by_total may (λ a. a) p.k w)
-        (λ c m. ap₂ (λ x y. packed layout c ++ (x ∷ y ∷ [])) (all-forward (at c)) (all-backward (at c))))
+        (λ c m. ap₂ (λ x y. packed layout c ++ (x ∷ y ∷ [])) (all_forward (at c)) (all_backward (at c))))

@@ -9,7 +9,7 @@ use native.Mathlib.Numerals.{add-one}
 use lib.Bits.{bit_or, or_self}
 use lib.Dec.{T, eqb, eqb→eq, leb, ltb, leb→le, ltb→lt}
 use lib.ListN.{drop, get_or, length, length-append, length-drop}
-use lib.Seq.{drop-append_seam, drop-cons, drop_drop}
+use lib.Seq.{drop-append_seam, drop-cons, drop-drop}
 use Rattle.profile.specs.Limits.{most_letters, most_states}
 use Rattle.profile.specs.Traces.{bit}
 use Rattle.profile.proofs.Lists.{either, fst_of, is_false, or_right, snd_of}
@@ -25,7 +25,7 @@ use Rattle.walk.specs.Walk.{Comes, Reads, Walked, stops}
 -- ---- places of the text
 
 after_part : (text : List ℕ) (at : ℕ) (u w : List ℕ) → drop at text ≡ u ++ w → drop (at + length u) text ≡ w
-after_part text at u w e = sym (drop_drop (length u) at text) ∙ (ap (drop (length u)) e ∙ drop-append_seam u w)
+after_part text at u w e = sym (drop-drop (length u) at text) ∙ (ap (drop (length u)) e ∙ drop-append_seam u w)
 
 here_inside : (text : List ℕ) (i c : ℕ) (w : List ℕ) → drop i text ≡ c ∷ w → i < length text
 here_inside text i c w e = omega (arith, ap length e, length-drop i text)
@@ -142,8 +142,8 @@ module _ (text : List ℕ) (at n : ℕ) where
       go (inr (u, v, e, f, t, r, p, q)) = exp_front s u v e f t p q
 
   module _ (x : Part) (t0 t1 : List ℕ) (w : Walked sequence text at n x t0 t1) where
-    pub exp-only : (s : Comes expression text at n) → (x.at < length text → get_or text x.at 0 ≡ 124 → ⊥) → Reads n s.tree (at + length s.part) x t0 t1
-    exp-only s h = go (exp_split s.typed)
+    pub exp_only : (s : Comes expression text at n) → (x.at < length text → get_or text x.at 0 ≡ 124 → ⊥) → Reads n s.tree (at + length s.part) x t0 t1
+    exp_only s h = go (exp_split s.typed)
       where
         go : Typed s.k sequence s.part s.tree
             ⊎ ((u1 v : List ℕ) × (e1 f : Expr) × Typed s.k sequence u1 e1 × Typed s.k expression v f × (s.part ≡ u1 ++ (124 ∷ v)) × (s.tree ≡ choice e1 f))
@@ -155,18 +155,18 @@ module _ (text : List ℕ) (at n : ℕ) where
             let d : drop x.at text ≡ 124 ∷ (v ++ s.rest) = ap (λ j. drop j text) i ∙ after_part text at u (124 ∷ (v ++ s.rest)) s1.here in
             absurd (h (here_inside text x.at 124 (v ++ s.rest) d) (here_byte text x.at 124 (v ++ s.rest) d))
 
-    abbrev Choice-more : Comes expression text at n → Type 0
-    Choice-more s =
+    abbrev choice_more : Comes expression text at n → Type 0
+    choice_more s =
         (s2 : Comes expression text (x.at + 1) x.next)
         × (at < x.at)
         × ((y z : Part) (t2 : List ℕ) → Reads x.next s2.tree (x.at + 1 + length s2.part) y t1 t2 → z ≡ choice_part_of x y → Reads n s.tree (at + length s.part) z t0 t2)
 
-    pub exp-more : (s : Comes expression text at n) → x.at < length text → get_or text x.at 0 ≡ 124 → Choice-more s
-    exp-more s h g = go (exp_split s.typed)
+    pub exp_more : (s : Comes expression text at n) → x.at < length text → get_or text x.at 0 ≡ 124 → choice_more s
+    exp_more s h g = go (exp_split s.typed)
       where
         go : Typed s.k sequence s.part s.tree
             ⊎ ((u1 v : List ℕ) × (e1 f : Expr) × Typed s.k sequence u1 e1 × Typed s.k expression v f × (s.part ≡ u1 ++ (124 ∷ v)) × (s.tree ≡ choice e1 f))
-            → Choice-more s
+            → choice_more s
         go (inl t) =
             let i : x.at ≡ at + length s.part = ap (λ p. p.at) (w (exp_alone s t)).value in
             absurd (stop_no_bar text x.at s.rest (ap (λ j. drop j text) i ∙ after_part text at s.part s.rest s.here) s.stop h g)
@@ -240,8 +240,8 @@ module _ (text : List ℕ) (at n : ℕ) where
       go (inr (u, v, e, f, t, r, p, q)) = seq_front s u v e f t r p q
 
   module _ (x : Part) (t0 t1 : List ℕ) (w : Walked factor text at n x t0 t1) where
-    pub seq-only : (s : Comes sequence text at n) → (x.at < length text → (get_or text x.at 0 ≡ 124) ⊎ (get_or text x.at 0 ≡ 41)) → Reads n s.tree (at + length s.part) x t0 t1
-    seq-only s h = go (seq_split s.typed)
+    pub seq_only : (s : Comes sequence text at n) → (x.at < length text → (get_or text x.at 0 ≡ 124) ⊎ (get_or text x.at 0 ≡ 41)) → Reads n s.tree (at + length s.part) x t0 t1
+    seq_only s h = go (seq_split s.typed)
       where
         go : Typed s.k factor s.part s.tree
             ⊎ ((u1 v : List ℕ) × (e1 f : Expr) × Typed s.k factor u1 e1 × Typed s.k sequence v f × (s.part ≡ u1 ++ v) × (s.tree ≡ seq e1 f))
@@ -256,19 +256,19 @@ module _ (text : List ℕ) (at n : ℕ) where
             let e = here_byte text x.at b.0 (b.1 ++ s.rest) d in
             absurd (⊎_elim (λ g. far.2 (sym e ∙ g)) (λ g. far.0 (sym e ∙ g)) (h (here_inside text x.at b.0 (b.1 ++ s.rest) d)))
 
-    abbrev Follow-more : Comes sequence text at n → Type 0
-    Follow-more s =
+    abbrev follow_more : Comes sequence text at n → Type 0
+    follow_more s =
         (s2 : Comes sequence text x.at x.next)
         × (at < x.at)
         × ((y z : Part) (t2 t3 : List ℕ) → Reads x.next s2.tree (x.at + length s2.part) y t1 t2 → t3 ≡ linked t2 x.last y.first → z ≡ sequence_part_of x y
         → Reads n s.tree (at + length s.part) z t0 t3)
 
-    pub seq_more : (s : Comes sequence text at n) → x.at < length text → (get_or text x.at 0 ≡ 124 → ⊥) → (get_or text x.at 0 ≡ 41 → ⊥) → Follow-more s
+    pub seq_more : (s : Comes sequence text at n) → x.at < length text → (get_or text x.at 0 ≡ 124 → ⊥) → (get_or text x.at 0 ≡ 41 → ⊥) → follow_more s
     seq_more s h g k = go (seq_split s.typed)
       where
         go : Typed s.k factor s.part s.tree
             ⊎ ((u1 v : List ℕ) × (e1 f : Expr) × Typed s.k factor u1 e1 × Typed s.k sequence v f × (s.part ≡ u1 ++ v) × (s.tree ≡ seq e1 f))
-            → Follow-more s
+            → follow_more s
         go (inl t) =
             let i : x.at ≡ at + length s.part = ap (λ p. p.at) (w (seq_alone s t)).value in
             absurd (stop_sign text x.at s.rest (ap (λ j. drop j text) i ∙ after_part text at s.part s.rest s.here) s.stop h g k)

@@ -9,7 +9,7 @@ use Rattle.profile.specs.Tables.{layout, record_length}
 use Rattle.theory.proofs.Refusals.{GoodEvents}
 use Rattle.records.specs.Drafts.{in_order}
 use Rattle.backward.specs.Backward.{Inside, done_at, filled_all}
-use Rattle.backward.proofs.Swept.{Swept, cleared_all, done_behind, records-any, records-are, swept-back, swept-inside, swept-next, swept-start}
+use Rattle.backward.proofs.Swept.{Swept, cleared_all, done_behind, records_any, records_are, swept_back, swept_inside, swept_next, swept_start}
 use Rattle.backward.proofs.fill_backward.Statement.{statement}
 use Rattle.backward.proofs.fill_backward.Tie as tie
 
@@ -29,7 +29,7 @@ abbrev word : tie.Start invariant-loop decreases-loop → List ℕ
 word s = s.args.log.now
 
 some : (s : tie.Start invariant-loop decreases-loop) → 1 ≤ s.args.records
-some s = records-any s.requires.profile s.requires.log s.args.table.now s.args.records s.requires
+some s = records_any s.requires.profile s.requires.log s.args.table.now s.args.records s.requires
 
 -- the last record done, what stands behind the records is as it was
 kept : (c : tie.After-put-done invariant-loop decreases-loop)
@@ -44,7 +44,7 @@ down : (c : tie.In-loop invariant-loop decreases-loop) (good : GoodEvents (rules
 down c good = let e : c.before.loop.j ≡ suc (c.before.loop.j - 1) = omega arith in rw e at (c.before.loop.invariant.3 good)
 
 inside : (c : tie.In-loop invariant-loop decreases-loop) → Inside c.before.loop.table (c.before.loop.j - 1) c.before.before.before.before.before.before.before.before.before.before.before.before.args.shape.k (λ x. get_or c.before.loop.cursors x 0)
-inside c = let s = c.before.before.before.before.before.before.before.before.before.before.before.before in swept-inside s.requires.profile s.requires.log c.before.loop.table _ (c.before.loop.j - 1) _ (down c s.requires.log)
+inside c = let s = c.before.before.before.before.before.before.before.before.before.before.before.before in swept_inside s.requires.profile s.requires.log c.before.loop.table _ (c.before.loop.j - 1) _ (down c s.requires.log)
 
 by-letter-requires : tie.Need-by-letter-requires invariant-loop decreases-loop
 by-letter-requires c κs = search rules
@@ -64,7 +64,7 @@ loop-holds c =
       refl,
       refl,
       λ good. subst₂ (λ t r. Swept good t r (a.records - 1) from) (sym c.before.before.put-done.ensures) (sym (kept c.before.before))
-          (swept-start s.requires.profile good a.table.now a.records s.requires from (λ x h. get_or-replicate most_letters x a.records 0 (omega (arith, s.requires.profile.relation.most)))),
+          (swept_start s.requires.profile good a.table.now a.records s.requires from (λ x h. get_or-replicate most_letters x a.records 0 (omega (arith, s.requires.profile.relation.most)))),
     )
 
 sub-j-2 : tie.Need-overflow-sub-j-2 invariant-loop decreases-loop
@@ -92,14 +92,14 @@ loop-again c =
     let b = c.before.before.before.before.before.back-of in
     let from : ℕ → ℕ = λ x. get_or l.cursors x 0 in
     let after : ℕ → ℕ = λ x. get_or b.new.1.1.1.1.1.1.0 x 0 in
-    let before : suc (l.j - 1) < length (in_order (rules s) (word s)) = omega (arith, records-are s.requires.profile s.requires.log s.args.table.now s.args.records s.requires) in
+    let before : suc (l.j - 1) < length (in_order (rules s) (word s)) = omega (arith, records_are s.requires.profile s.requires.log s.args.table.now s.args.records s.requires) in
     let put = c.before.before.put-done2.ensures
-    ∙ ap (done_at l.table (l.j - 1)) (b.ensures.0 ∙ swept-back s.requires.profile s.requires.log l.table _ (l.j - 1) from (down i s.requires.log) before) in (
+    ∙ ap (done_at l.table (l.j - 1)) (b.ensures.0 ∙ swept_back s.requires.profile s.requires.log l.table _ (l.j - 1) from (down i s.requires.log) before) in (
       omega arith,
       c.before.before.put-done2.auto.0 ∙ l.invariant.1,
       b.auto.1.1.1.1.1.1.0 ∙ l.invariant.2,
       λ good. subst (λ t. Swept good t (drop (record_length layout * s.args.records) i.before.before.before.before.put-done.new.0) (l.j - 1) after) (sym put)
-          (swept-next s.requires.profile good l.table _ (l.j - 1) from (down i good) after b.ensures.1),
+          (swept_next s.requires.profile good l.table _ (l.j - 1) from (down i good) after b.ensures.1),
     )
 
 clear-flags-requires : tie.Need-clear-flags-requires invariant-loop decreases-loop
@@ -117,7 +117,7 @@ returns c =
     let z : l.j ≡ 0 = omega arith in
     let from : ℕ → ℕ = λ x. get_or l.cursors x 0 in
     c.before.before.clear-flags.ensures
-    ∙ cleared_all s.requires.profile s.requires.log l.table _ from (rw z at (l.invariant.3 s.requires.log)) s.args.records (records-are s.requires.profile s.requires.log s.args.table.now s.args.records s.requires)
+    ∙ cleared_all s.requires.profile s.requires.log l.table _ from (rw z at (l.invariant.3 s.requires.log)) s.args.records (records_are s.requires.profile s.requires.log s.args.table.now s.args.records s.requires)
     ∙ ap (λ r. filled_all (rules s) (word s) ++ r) (kept c.before.before.before.before.before.before.before.before)
 
 pub fill-backward-spec : {M : Type 1} → statement M

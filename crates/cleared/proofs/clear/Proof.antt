@@ -4,7 +4,7 @@ use mathlib.Core.List.{◌++◌, map, append-nil}
 use Prim.Native.Nat.{ℕ, ◌-◌, ◌≤◌, ◌<◌}
 use native.Mathlib.Omega.{arith}
 use lib.ListN.{drop, length, replicate, set, length-set}
-use lib.Seq.{drop_length}
+use lib.Seq.{drop-length}
 use Rattle.profile.specs.Lists.{below}
 use Rattle.theory.proofs.Fronts.{front_put}
 use Rattle.cleared.proofs.Cleared.{map_zero}
@@ -48,7 +48,7 @@ returns c =
     let a = c.before.before.args in
     let l = c.before.loop in
     let e : l.i ≡ length a.part.now = omega arith in
-    l.invariant.2 ∙ ap (λ n. map {B = ℕ} (λ (x : ℕ). 0) (below n) ++ drop n a.part.now) e ∙ ap₂ (λ x y. x ++ y) (map_zero (length a.part.now) 0) (drop_length a.part.now) ∙ append-nil (replicate (length a.part.now) 0)
+    l.invariant.2 ∙ ap (λ n. map {B = ℕ} (λ (x : ℕ). 0) (below n) ++ drop n a.part.now) e ∙ ap₂ (λ x y. x ++ y) (map_zero (length a.part.now) 0) (drop-length a.part.now) ∙ append-nil (replicate (length a.part.now) 0)
 
 pub clear_spec : {M : Type 1} → statement M
 clear_spec =

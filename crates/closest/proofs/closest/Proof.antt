@@ -1,7 +1,7 @@
 -- `closest::closest` meets its contract.
 use borrow.Author.Rules.{rules}
 use mathlib.Core.Path.{subst}
-use mathlib.Core.List.{map_id}
+use mathlib.Core.List.{map-id}
 use Rattle.profile.specs.Automata.{profile_of}
 use Rattle.table.specs.Table as Built
 use Rattle.verdict.proofs.Judging.{ready}
@@ -33,7 +33,7 @@ answer-requires c κs =
     let t = b.new.1.1.1.1.0 in
     let g = c.before.before.before.before.built2.given in
     let h = subst (Built.Promise (profile_of a.shape a.masks.now a.moves.now) a.log.now a.work.now t) g.1 b.ensures in
-    (ready (profile_of a.shape a.masks.now a.moves.now) a.log.now a.order.now a.work.now c.before.before.before.before.before.before.before.before.before.before.if1.false t g.0.0 g.0.1.0 h b.auto.1.1.1.1.0, (h.table.0, (map_id a.log.now, c.before.before.before.before.before.before.before.before.before.before.if1.false)))
+    (ready (profile_of a.shape a.masks.now a.moves.now) a.log.now a.order.now a.work.now c.before.before.before.before.before.before.before.before.before.before.if1.false t g.0.0 g.0.1.0 h b.auto.1.1.1.1.0, (h.table.0, (map-id a.log.now, c.before.before.before.before.before.before.before.before.before.before.if1.false)))
 
 same_length : tie.Need-same-length
 same_length c = search rules

@@ -1,6 +1,6 @@
 -- `closestfilled::answer` meets its contract.
 use borrow.Author.Rules.{rules}
-use borrow.Author.Tests.{not_false, not-true}
+use borrow.Author.Tests.{not-false, not-true}
 use mathlib.Core.Path.{◌≡◌, refl, sym, ◌∙◌, ap, subst}
 use Prim.Native.Nat.{◌*◌, ◌-◌, ◌≤◌}
 use native.Mathlib.Omega.{arith}
@@ -50,7 +50,7 @@ put-order-requires c κs =
     let tab = c.before.before.before.before.before.before.before.before.before.before.before.before.before.requires.0 in
     let end : record_length layout * a.prefixes - 0 ≡ record_length layout * record_count (rules_of (profile_of a.shape a.masks.now a.moves.now) a.termed) a.codes.now = omega (arith, c.before.before.before.before.before.before.before.before.before.before.before.before.before.requires.1.0) in
     let h = held tab c.before.before.before.before.before.before.before.before.before.before.before.before.before.requires.1.1.0 (ap (λ n. take n a.work.now) end) in
-    let found = sym c.before.before.before.before.has-order.ensures ∙ not_false c.before.before.before.before.has-order.result c.before.before.before.if2.false in
+    let found = sym c.before.before.before.before.has-order.ensures ∙ not-false c.before.before.before.before.has-order.result c.before.before.before.if2.false in
     let room = enough (length a.costs.now) a.shape.s a.prefixes tab.profile.states.0 c.before.before.before.before.before.if1.false in
     (h, (found, (c.before.before.before.before.before.before.before.before.before.before.before.before.before.requires.1.1.1, subst (λ n. n * a.shape.s ≤ length a.costs.now) (c.before.before.before.before.before.before.before.before.before.before.before.before.before.requires.1.0 ∙ sym (count_records h)) room)))
 

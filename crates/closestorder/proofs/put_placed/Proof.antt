@@ -6,7 +6,7 @@ use native.Mathlib.Omega.{arith}
 use Rattle.terms.specs.Coded.{event_letter, may_of}
 use Rattle.costwalk.proofs.Rows.{some_record}
 use Rattle.costwalk.proofs.Trying.{row_room}
-use Rattle.closestorder.proofs.Closing.{close-best, close-judges, fewest_below, fewest_is, lent, rows_of}
+use Rattle.closestorder.proofs.Closing.{close_best, close_judges, fewest_below, fewest_is, lent, rows_of}
 use Rattle.closestorder.proofs.put_placed.Statement.{statement}
 use Rattle.closestorder.proofs.put_placed.Tie as tie
 
@@ -69,7 +69,7 @@ returns c =
     let e = ap (λ n. n * a.shape.s) c.before.before.before.before.before.before.before.before.before.before.before.records-in.ensures in
     let few = fewest_is h c.before.before.before.before.before.before.before.before.before.before.before.before.before.before.before.before.before.before.before.before.before.before.before.before.before.requires.1.1.0 c.before.before.before.before.before.before.before.before.before.before.before.before.before.before.before.before.before.before.before.before.before.before.before.before.before.requires.1.0 r c.before.before.before.before.before.before.before.before.before.least-in.result _ (ap (λ n. n - a.shape.s) e) c.before.before.before.before.before.before.before.before.before.least-in.ensures in
     let o = c.before.before.put-judges in
-    close-judges h c.before.before.before.before.before.before.before.before.before.before.before.before.before.before.before.before.before.before.before.before.before.before.before.before.before.requires.1.1.0 c.before.before.before.before.before.before.before.before.before.before.before.before.before.before.before.before.before.before.before.before.before.before.before.before.before.requires.1.0 r a.budget _ c.before.before.before.before.before.before.before.before.before.least-in.result e few a.order.now o.new.1.1.1.1.1.1.1.1.0 c.before.before.before.before.floor.result o.result
+    close_judges h c.before.before.before.before.before.before.before.before.before.before.before.before.before.before.before.before.before.before.before.before.before.before.before.before.before.requires.1.1.0 c.before.before.before.before.before.before.before.before.before.before.before.before.before.before.before.before.before.before.before.before.before.before.before.before.before.requires.1.0 r a.budget _ c.before.before.before.before.before.before.before.before.before.least-in.result e few a.order.now o.new.1.1.1.1.1.1.1.1.0 c.before.before.before.before.floor.result o.result
     (subst (λ n. a.budget < n) c.before.before.before.before.before.before.before.pairs.ensures c.before.before.before.before.before.before.if1.true) c.before.before.before.before.floor.ensures o.ensures.0 o.ensures.1
 
 put-best-requires : tie.Need-put-best-requires
@@ -98,7 +98,7 @@ returns-2 c =
     let r = rows_of g c.before.before.before.before.before.before.before.before.before.before.before.before.before.before.before.before.before.before.before.before.before.before.before.before.before.before.requires.1.1.1.1 (f.ensures a.masks.now (may_of a.masks.now a.termed) (event_letter a.termed) a.codes.now g) in
     let e = ap (λ n. n * a.shape.s) c.before.before.before.before.before.before.before.before.before.before.before.before.records-in.ensures in
     let few = fewest_is h c.before.before.before.before.before.before.before.before.before.before.before.before.before.before.before.before.before.before.before.before.before.before.before.before.before.before.requires.1.1.0 c.before.before.before.before.before.before.before.before.before.before.before.before.before.before.before.before.before.before.before.before.before.before.before.before.before.before.requires.1.0 r c.before.before.before.before.before.before.before.before.before.before.least-in.result _ (ap (λ n. n - a.shape.s) e) c.before.before.before.before.before.before.before.before.before.before.least-in.ensures in
-    close-best h c.before.before.before.before.before.before.before.before.before.before.before.before.before.before.before.before.before.before.before.before.before.before.before.before.before.before.requires.1.1.0 c.before.before.before.before.before.before.before.before.before.before.before.before.before.before.before.before.before.before.before.before.before.before.before.before.before.before.requires.1.0 r a.budget _ c.before.before.before.before.before.before.before.before.before.before.least-in.result e few a.order.now c.before.before.before.before.put-best.new.1.1.1.1.1.1.1.0
+    close_best h c.before.before.before.before.before.before.before.before.before.before.before.before.before.before.before.before.before.before.before.before.before.before.before.before.before.before.requires.1.1.0 c.before.before.before.before.before.before.before.before.before.before.before.before.before.before.before.before.before.before.before.before.before.before.before.before.before.before.requires.1.0 r a.budget _ c.before.before.before.before.before.before.before.before.before.before.least-in.result e few a.order.now c.before.before.before.before.put-best.new.1.1.1.1.1.1.1.0
     (subst (λ n. n ≤ a.budget) c.before.before.before.before.before.before.before.before.pairs.ensures c.before.before.before.before.before.before.before.if1.false) (c.before.before.before.before.put-best.ensures a.masks.now (may_of a.masks.now a.termed) (event_letter a.termed) a.codes.now g few)
 
 pub put-placed-spec : {M : Type 1} → statement M

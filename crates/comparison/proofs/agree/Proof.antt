@@ -2,7 +2,7 @@
 use borrow.Author.Rules.{rules}
 use Prim.Native.Nat.{◌-◌}
 use lib.ListN.{length}
-use Rattle.comparison.proofs.Projections.{Compares, compares-end, compares-other, compares-short, compares-start, compares-step, kept?}
+use Rattle.comparison.proofs.Projections.{Compares, compares_end, compares_other, compares_short, compares_start, compares_step, kept?}
 use mathlib.Core.Path.{sym}
 use native.Mathlib.Omega.{arith}
 use Rattle.comparison.proofs.agree.Statement.{statement}
@@ -23,13 +23,13 @@ next-kept-requires-2 c κs = search rules
 loop-holds : tie.Need-loop-init invariant-loop decreases-loop
 loop-holds c =
     let a = c.before.before.before.before.args in
-    compares-start (kept? a.x a.y) a.first.now a.second.now c.before.next-kept.result c.next-kept2.result c.before.next-kept.ensures c.next-kept2.ensures
+    compares_start (kept? a.x a.y) a.first.now a.second.now c.before.next-kept.result c.next-kept2.result c.before.next-kept.ensures c.next-kept2.ensures
 
 returns : tie.Need-returns invariant-loop decreases-loop
 returns c =
     let a = c.before.before.before.before.before.before.before.args in
     let l = c.before.before.loop in
-    sym (compares-short (kept? a.x a.y) a.first.now a.second.now l.i l.j l.invariant (omega arith) (omega arith))
+    sym (compares_short (kept? a.x a.y) a.first.now a.second.now l.i l.j l.invariant (omega arith) (omega arith))
 
 shared-slice-read-a : tie.Need-shared-slice-read-a invariant-loop decreases-loop
 shared-slice-read-a c = search rules
@@ -41,7 +41,7 @@ returns-2 : tie.Need-returns-2 invariant-loop decreases-loop
 returns-2 c =
     let a = c.before.before.before.before.before.before.before.before.before.before.args in
     let l = c.before.before.before.before.before.loop in
-    sym (compares-other (kept? a.x a.y) a.first.now a.second.now l.i l.j l.invariant (omega arith) (omega arith) c.if2.true)
+    sym (compares_other (kept? a.x a.y) a.first.now a.second.now l.i l.j l.invariant (omega arith) (omega arith) c.if2.true)
 
 add-next-kept : tie.Need-overflow-add-next-kept invariant-loop decreases-loop
 add-next-kept c = search rules
@@ -62,14 +62,14 @@ loop-again : tie.Need-loop-preserved invariant-loop decreases-loop
 loop-again c =
     let a = c.before.before.before.before.before.before.before.before.before.before.before.before.args in
     let l = c.before.before.before.before.before.before.before.loop in
-    compares-step (kept? a.x a.y) a.first.now a.second.now l.i l.j l.invariant (omega arith)
+    compares_step (kept? a.x a.y) a.first.now a.second.now l.i l.j l.invariant (omega arith)
     c.before.next-kept3.result c.next-kept4.result (omega arith) c.before.before.if2.false c.before.next-kept3.ensures c.next-kept4.ensures
 
 returns-3 : tie.Need-returns-3 invariant-loop decreases-loop
 returns-3 c =
     let a = c.before.before.before.before.before.before.args in
     let l = c.before.loop in
-    sym (compares-end (kept? a.x a.y) a.first.now a.second.now l.i l.j l.invariant (omega arith))
+    sym (compares_end (kept? a.x a.y) a.first.now a.second.now l.i l.j l.invariant (omega arith))
 
 pub agree-spec : {M : Type 1} → statement M
 agree-spec =

@@ -1,7 +1,7 @@
 -- `comparison::all_agree` meets its contract: one order of each pair is enough. The loop's invariant: the letters from x on decide.
 use borrow.Author.Rules.{rules}
 use Prim.Native.Nat.{◌-◌}
-use borrow.Author.Tests.{not_false, not-true}
+use borrow.Author.Tests.{not-false, not-true}
 use mathlib.Core.Path.{◌≡◌, sym, ◌∙◌, ap}
 use Rattle.profile.specs.Lists.{all, below, range}
 use Rattle.comparison.proofs.Projections.{from_letter, range_end, range_no, range_yes, same_half}
@@ -39,7 +39,7 @@ loop-again c =
     let a = c.before.before.before.before.before.before.before.args in
     let l = c.before.before.before.loop in
     let q = from_letter a.k a.masks.now a.first.now a.second.now in
-    l.invariant ∙ range_yes q a.k l.x (omega arith) (sym c.before.pairs-agree.ensures ∙ not_false c.before.pairs-agree.result c.if1.false)
+    l.invariant ∙ range_yes q a.k l.x (omega arith) (sym c.before.pairs-agree.ensures ∙ not-false c.before.pairs-agree.result c.if1.false)
 
 returns-2 : tie.Need-returns-2 invariant-loop decreases-loop
 returns-2 c =

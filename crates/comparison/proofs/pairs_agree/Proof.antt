@@ -5,7 +5,7 @@ use mathlib.Core.Path.{◌≡◌, refl, sym, ◌∙◌}
 use Rattle.profile.specs.Lists.{all, range}
 use Rattle.comparison.specs.Comparison.{pair_agrees?}
 use Rattle.comparison.proofs.Projections.{range_end, range_no, range_yes}
-use borrow.Author.Tests.{not_false, not-true}
+use borrow.Author.Tests.{not-false, not-true}
 use native.Mathlib.Omega.{arith}
 use Rattle.comparison.proofs.pairs_agree.Statement.{statement}
 use Rattle.comparison.proofs.pairs_agree.Tie as tie
@@ -40,7 +40,7 @@ loop-again c =
     let a = c.before.before.before.before.before.before.before.args in
     let l = c.before.before.before.loop in
     let p = pair_agrees? a.masks.now a.first.now a.second.now a.x in
-    l.invariant ∙ range_yes p a.k l.y (omega arith) (sym c.before.pair-agrees.ensures ∙ not_false c.before.pair-agrees.result c.if1.false)
+    l.invariant ∙ range_yes p a.k l.y (omega arith) (sym c.before.pair-agrees.ensures ∙ not-false c.before.pair-agrees.result c.if1.false)
 
 returns-2 : tie.Need-returns-2 invariant-loop decreases-loop
 returns-2 c =

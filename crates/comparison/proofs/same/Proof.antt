@@ -2,7 +2,7 @@
 use borrow.Author.Rules.{rules}
 use mathlib.Core.Path.{sym, ◌∙◌, ap}
 use Rattle.profile.specs.Refusals.{checked}
-use Rattle.comparison.proofs.Answers.{compared-first, compared_relation, compared_same, compared-second}
+use Rattle.comparison.proofs.Answers.{compared_first, compared_relation, compared_same, compared_second}
 use Rattle.comparison.proofs.same.Statement.{statement}
 use Rattle.comparison.proofs.same.Tie as tie
 
@@ -29,7 +29,7 @@ enum-known-one c = search rules
 returns-2 : tie.Need-returns-2
 returns-2 c =
     let a = c.before.before.before.before.before.before.before.before.before.before.args in
-    sym (compared-first a.k a.masks.now a.first.now a.second.now (sym c.before.before.before.before.before.before.check-relation.ensures ∙ ap checked c.before.before.before.before.enum_told.given.1)
+    sym (compared_first a.k a.masks.now a.first.now a.second.now (sym c.before.before.before.before.before.before.check-relation.ensures ∙ ap checked c.before.before.before.before.enum_told.given.1)
     (sym c.before.before.before.check-log.ensures ∙ ap checked c.before.one.given.1))
 
 enum-told-2 : tie.Need-enum-told-2
@@ -44,7 +44,7 @@ enum-known-two c = search rules
 returns-3 : tie.Need-returns-3
 returns-3 c =
     let a = c.before.before.before.before.before.before.before.before.before.before.before.before.before.args in
-    sym (compared-second a.k a.masks.now a.first.now a.second.now (sym c.before.before.before.before.before.before.before.before.before.check-relation.ensures ∙ ap checked c.before.before.before.before.before.before.before.enum_told.given.1) (sym c.before.before.before.before.before.before.check-log.ensures ∙ ap checked c.before.before.before.before.enum-told2.given.1)
+    sym (compared_second a.k a.masks.now a.first.now a.second.now (sym c.before.before.before.before.before.before.before.before.before.check-relation.ensures ∙ ap checked c.before.before.before.before.before.before.before.enum_told.given.1) (sym c.before.before.before.before.before.before.check-log.ensures ∙ ap checked c.before.before.before.before.enum-told2.given.1)
     (sym c.before.before.before.check-log2.ensures ∙ ap checked c.before.two.given.1))
 
 enum-told-3 : tie.Need-enum-told-3

@@ -10,7 +10,7 @@ use Rattle.profile.specs.Limits.{most_letters}
 use Rattle.records.specs.Records.{counts_at, records_in}
 use Rattle.costcells.specs.Cells.{Cleared, Lowered}
 use Rattle.costtable.proofs.Filling.{backward_fills}
-use Rattle.costtable.proofs.Backward.{Backward, backward-start}
+use Rattle.costtable.proofs.Backward.{Backward, backward_start}
 use Rattle.costtable.proofs.Stepping.{HighAll, given_as_long, given_laid, high_record, high_start, row_fits}
 use Rattle.costpasses.proofs.fill_rest.Statement.{statement}
 use Rattle.costpasses.proofs.fill_rest.Tie as tie
@@ -132,7 +132,7 @@ returns c =
     let v = c.before.before.before.before.lower-all.new.0 in
     let down : c.before.before.before.before.before.before.before.before.before.before.before.before.before.records-in.result - 1 ≡ records_in a.t.now - 1 = ap (λ m. m - 1) n in
     let row = c.before.before.before.before.before.before.before.before.before.before.row_of.ensures ∙ ap (λ m. m * a.shape.s) down in
-    let begun = backward-start a.shape a.moves.now a.log.now a.t.now (given_laid a.shape a.moves.now a.t.now a.log.now a.starts.now a.places.now a.costs.now b.requires) a.costs.now u v (records_in a.t.now - 1) a.shape.k
+    let begun = backward_start a.shape a.moves.now a.log.now a.t.now (given_laid a.shape a.moves.now a.t.now a.log.now a.starts.now a.places.now a.costs.now b.requires) a.costs.now u v (records_in a.t.now - 1) a.shape.k
     (omega (arith, (given_laid a.shape a.moves.now a.t.now a.log.now a.starts.now a.places.now a.costs.now b.requires).some)) (subst (λ m. Cleared a.costs.now u m a.shape.s) row c.before.before.before.before.before.before.before.before.clear.ensures)
     (subst (λ m. Lowered u v m a.shape.finals 0) row c.before.before.before.before.lower-all.ensures) in
     let none : l.j ≡ 0 = omega arith in

@@ -11,7 +11,7 @@ use Rattle.profile.specs.Limits.{most_letters}
 use Rattle.records.specs.Records.{counts_at, records_in}
 use Rattle.costcells.specs.Cells.{Cleared}
 use Rattle.costtable.proofs.Filling.{onward_fills}
-use Rattle.costtable.proofs.Onward.{Onward, onward-start}
+use Rattle.costtable.proofs.Onward.{Onward, onward_start}
 use Rattle.costtable.proofs.Stepping.{LowAll, given_as_long, given_laid, low_record, low_start, row_fits}
 use Rattle.costpasses.proofs.fill_there.Statement.{statement}
 use Rattle.costpasses.proofs.fill_there.Tie as tie
@@ -121,7 +121,7 @@ returns c =
     let b = c.before.before.before.before.before.before.before.before.before.before.before.before.before.before.before.before.before.before.before.before in
     let a = b.args in
     let l = c.before.loop in
-    let begun = onward-start a.shape a.moves.now a.log.now a.t.now (given_laid a.shape a.moves.now a.t.now a.log.now a.starts.now a.places.now a.costs.now b.requires) a.costs.now c.before.before.before.before.before.before.before.before.clear.new.0 c.before.before.before.before.lower.new.0
+    let begun = onward_start a.shape a.moves.now a.log.now a.t.now (given_laid a.shape a.moves.now a.t.now a.log.now a.starts.now a.places.now a.costs.now b.requires) a.costs.now c.before.before.before.before.before.before.before.before.clear.new.0 c.before.before.before.before.lower.new.0
     (subst (λ m. Cleared a.costs.now c.before.before.before.before.before.before.before.before.clear.new.0 0 m) (c.before.before.before.before.before.before.before.before.before.before.row_of.ensures ∙ ap (λ m. m * a.shape.s) c.before.before.before.before.before.before.before.before.before.before.before.before.before.records-in.ensures) c.before.before.before.before.before.before.before.before.clear.ensures)
     c.before.before.before.before.lower.ensures b.requires.room in
     λ masks may letter w g. onward_fills a.shape masks a.moves.now may letter w a.t.now a.log.now a.starts.now a.places.now g

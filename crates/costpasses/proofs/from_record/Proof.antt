@@ -7,7 +7,7 @@ use mathlib.Core.List.{List}
 use Prim.Native.Nat.{ℕ, ◌-◌, ◌≤◌, ◌<◌}
 use lib.ListN.{length, length-set}
 use Rattle.profile.specs.Limits.{most_letters}
-use Rattle.costtable.proofs.Onward.{Onward, onward-record}
+use Rattle.costtable.proofs.Onward.{Onward, onward_record}
 use Rattle.costtable.proofs.Stepping.{LowAll, given_as_long, given_laid, low_set}
 use Rattle.costpasses.proofs.from_record.Statement.{statement}
 use Rattle.costpasses.proofs.from_record.Tie as tie
@@ -83,7 +83,7 @@ returns c =
     let l = c.before.before.loop in
     let all : a.shape.k ≤ l.x = omega arith in (
       l.invariant.3,
-      λ before o. onward-record a.shape a.moves.now a.log.now a.t.now (given_laid a.shape a.moves.now a.t.now a.log.now a.starts.now a.places.now a.costs.now b.requires.0) before l.costs a.j l.x all (l.invariant.4 before o),
+      λ before o. onward_record a.shape a.moves.now a.log.now a.t.now (given_laid a.shape a.moves.now a.t.now a.log.now a.starts.now a.places.now a.costs.now b.requires.0) before l.costs a.j l.x all (l.invariant.4 before o),
     )
 
 pub from-record-spec : {M : Type 1} → statement M

@@ -11,8 +11,8 @@ use Rattle.swaps.specs.Swaps.{step_cost}
 use Rattle.costcursors.specs.Cursors.{Low, Splits}
 use Rattle.costrows.specs.Rows.{LedOn, Rows}
 use Rattle.costtable.proofs.Ways.{Next, cost_after}
-use Rattle.costtable.proofs.Onward.{onward-led, onward-none}
-use Rattle.costtable.proofs.Stepping.{found-next, given_laid, next-rows, next-within, no-next, row_fits}
+use Rattle.costtable.proofs.Onward.{onward_led, onward_none}
+use Rattle.costtable.proofs.Stepping.{found_next, given_laid, next_rows, next_within, no_next, row_fits}
 use Rattle.costpasses.proofs.lead_from.Statement.{statement}
 use Rattle.costpasses.proofs.lead_from.Tie as tie
 
@@ -44,13 +44,13 @@ step-cost-requires c κs =
     c.before.before.before.before.before.one_more.ensures ∙ ap (λ v. add_count layout v a.step.letter) c.before.before.before.before.before.before.counts-at.ensures in
     let r = c.before.before.before.before.forth.result in
     let next : Next a.shape a.moves.now a.log.now a.t.now a.step.record a.step.letter r =
-    found-next a.shape a.moves.now a.t.now a.log.now a.starts.now a.places.now a.costs.now b.requires.0 a.step.record a.step.letter r (words c.before.before.before.before.before.one_more.result) b.requires.1.1.0 b.requires.1.1.1 want
+    found_next a.shape a.moves.now a.t.now a.log.now a.starts.now a.places.now a.costs.now b.requires.0 a.step.record a.step.letter r (words c.before.before.before.before.before.one_more.result) b.requires.1.1.0 b.requires.1.1.1 want
     (sym c.before.before.before.stands_at.ensures ∙ c.before.before.if1.true) in
     let own = c.before.numbers.ensures ∙ c.before.before.before.before.before.before.counts-at.ensures in (
       b.requires.0.lent.placed,
       subst (λ v. Within a.shape.k a.log.now v a.whole.now a.step.letter) (sym own)
           (subst (λ v. Within a.shape.k a.log.now (counts_at a.t.now a.step.record) v a.step.letter) (sym b.requires.1.0)
-          (next-within a.shape a.moves.now a.t.now a.log.now a.starts.now a.places.now a.costs.now b.requires.0 a.step.record a.step.letter r (words c.before.before.before.before.before.one_more.result) b.requires.1.1.0 b.requires.1.1.1 want next)),
+          (next_within a.shape a.moves.now a.t.now a.log.now a.starts.now a.places.now a.costs.now b.requires.0 a.step.record a.step.letter r (words c.before.before.before.before.before.one_more.result) b.requires.1.1.0 b.requires.1.1.1 want next)),
     )
 
 row-of-requires : tie.Need-row-of-requires
@@ -67,7 +67,7 @@ row-of-requires-2 c κs =
     c.before.before.before.before.before.before.before.one_more.ensures ∙ ap (λ v. add_count layout v a.step.letter) c.before.before.before.before.before.before.before.before.counts-at.ensures in
     let r = c.before.before.before.before.before.before.forth.result in
     let next : Next a.shape a.moves.now a.log.now a.t.now a.step.record a.step.letter r =
-    found-next a.shape a.moves.now a.t.now a.log.now a.starts.now a.places.now a.costs.now b.requires.0 a.step.record a.step.letter r (words c.before.before.before.before.before.before.before.one_more.result) b.requires.1.1.0 b.requires.1.1.1 want
+    found_next a.shape a.moves.now a.t.now a.log.now a.starts.now a.places.now a.costs.now b.requires.0 a.step.record a.step.letter r (words c.before.before.before.before.before.before.before.one_more.result) b.requires.1.1.0 b.requires.1.1.1 want
     (sym c.before.before.before.before.before.stands_at.ensures ∙ c.before.before.before.before.if1.true) in
     omega (arith, row_fits a.shape a.moves.now a.t.now a.log.now a.starts.now a.places.now a.costs.now b.requires.0 r next.inside, b.well-formed)
 
@@ -79,9 +79,9 @@ lead-on-requires c κs =
     c.before.before.before.before.before.before.before.before.before.one_more.ensures ∙ ap (λ v. add_count layout v a.step.letter) c.before.before.before.before.before.before.before.before.before.before.counts-at.ensures in
     let r = c.before.before.before.before.before.before.before.before.forth.result in
     let next : Next a.shape a.moves.now a.log.now a.t.now a.step.record a.step.letter r =
-    found-next a.shape a.moves.now a.t.now a.log.now a.starts.now a.places.now a.costs.now b.requires.0 a.step.record a.step.letter r (words c.before.before.before.before.before.before.before.before.before.one_more.result) b.requires.1.1.0 b.requires.1.1.1 want
+    found_next a.shape a.moves.now a.t.now a.log.now a.starts.now a.places.now a.costs.now b.requires.0 a.step.record a.step.letter r (words c.before.before.before.before.before.before.before.before.before.one_more.result) b.requires.1.1.0 b.requires.1.1.1 want
     (sym c.before.before.before.before.before.before.before.stands_at.ensures ∙ c.before.before.before.before.before.before.if1.true) in
-    let rows = next-rows a.shape a.moves.now a.t.now a.log.now a.starts.now a.places.now a.costs.now b.requires.0 a.step.record a.step.letter r (words c.before.before.before.before.before.before.before.before.before.one_more.result) b.requires.1.1.0 b.requires.1.1.1 want next in
+    let rows = next_rows a.shape a.moves.now a.t.now a.log.now a.starts.now a.places.now a.costs.now b.requires.0 a.step.record a.step.letter r (words c.before.before.before.before.before.before.before.before.before.one_more.result) b.requires.1.1.0 b.requires.1.1.1 want next in
     subst (λ f. Rows a.costs.now f c.before.row-of2.result a.shape.k a.shape.s a.moves.now a.step.letter) (sym c.before.before.row_of.ensures)
     (subst (λ f. Rows a.costs.now (a.step.record * a.shape.s) f a.shape.k a.shape.s a.moves.now a.step.letter) (sym c.before.row-of2.ensures) rows)
 
@@ -96,7 +96,7 @@ returns c =
     c.before.before.before.before.before.before.before.before.before.before.before.before.one_more.ensures ∙ ap (λ v. add_count layout v a.step.letter) c.before.before.before.before.before.before.before.before.before.before.before.before.before.counts-at.ensures in
     let r = c.before.before.before.before.before.before.before.before.before.before.before.forth.result in
     let next : Next a.shape a.moves.now a.log.now a.t.now a.step.record a.step.letter r =
-    found-next a.shape a.moves.now a.t.now a.log.now a.starts.now a.places.now a.costs.now b.requires.0 a.step.record a.step.letter r (words c.before.before.before.before.before.before.before.before.before.before.before.before.one_more.result) b.requires.1.1.0 b.requires.1.1.1 want
+    found_next a.shape a.moves.now a.t.now a.log.now a.starts.now a.places.now a.costs.now b.requires.0 a.step.record a.step.letter r (words c.before.before.before.before.before.before.before.before.before.before.before.before.one_more.result) b.requires.1.1.0 b.requires.1.1.1 want
     (sym c.before.before.before.before.before.before.before.before.before.before.stands_at.ensures ∙ c.before.before.before.before.before.before.before.before.before.if1.true) in
     let splits = c.before.before.before.before.before.before.before.before.before.before.before.forth.ensures b.requires.0.lent.records.ordered in
     let u = c.before.before.lead-on.new.0 in
@@ -112,7 +112,7 @@ returns c =
     (subst (λ m. LedOn a.costs.now u m c.before.before.before.before.row-of2.result a.shape.k a.shape.s a.moves.now a.step.letter c.before.before.before.before.before.before.step-cost.result a.shape.s) from
     c.before.before.lead-on.ensures)) in (
       subst (λ v. Splits a.t.now v r) want splits,
-      λ before o. onward-led a.shape a.moves.now a.log.now a.t.now (given_laid a.shape a.moves.now a.t.now a.log.now a.starts.now a.places.now a.costs.now b.requires.0) before a.costs.now u a.step.record a.step.letter r next led o,
+      λ before o. onward_led a.shape a.moves.now a.log.now a.t.now (given_laid a.shape a.moves.now a.t.now a.log.now a.starts.now a.places.now a.costs.now b.requires.0) before a.costs.now u a.step.record a.step.letter r next led o,
     )
 
 returns-2 : tie.Need-returns-2
@@ -124,8 +124,8 @@ returns-2 c =
     let r = c.before.before.forth.result in
     let splits = c.before.before.forth.ensures b.requires.0.lent.records.ordered in (
       subst (λ v. Splits a.t.now v r) want splits,
-      λ before o. onward-none a.shape a.moves.now a.log.now a.t.now (given_laid a.shape a.moves.now a.t.now a.log.now a.starts.now a.places.now a.costs.now b.requires.0) before a.costs.now a.step.record a.step.letter
-          (no-next a.shape a.moves.now a.t.now a.log.now a.starts.now a.places.now a.costs.now b.requires.0 a.step.record a.step.letter r (words c.before.before.before.one_more.result) b.requires.1.1.0 b.requires.1.1.1 want (sym c.before.stands_at.ensures ∙ c.if1.false) splits) o,
+      λ before o. onward_none a.shape a.moves.now a.log.now a.t.now (given_laid a.shape a.moves.now a.t.now a.log.now a.starts.now a.places.now a.costs.now b.requires.0) before a.costs.now a.step.record a.step.letter
+          (no_next a.shape a.moves.now a.t.now a.log.now a.starts.now a.places.now a.costs.now b.requires.0 a.step.record a.step.letter r (words c.before.before.before.one_more.result) b.requires.1.1.0 b.requires.1.1.1 want (sym c.before.stands_at.ensures ∙ c.if1.false) splits) o,
     )
 
 pub lead-from-spec : {M : Type 1} → statement M

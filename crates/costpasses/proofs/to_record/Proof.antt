@@ -9,7 +9,7 @@ use lib.ListN.{length, length-set}
 use Rattle.profile.specs.Limits.{most_letters}
 use Rattle.records.specs.Records.{records_in}
 use Rattle.costcells.specs.Cells.{Cleared}
-use Rattle.costtable.proofs.Backward.{Backward, backward-row}
+use Rattle.costtable.proofs.Backward.{Backward, backward_row}
 use Rattle.costtable.proofs.Stepping.{HighAll, given_as_long, given_laid, high_set, row_fits}
 use Rattle.costpasses.proofs.to_record.Statement.{statement}
 use Rattle.costpasses.proofs.to_record.Tie as tie
@@ -104,7 +104,7 @@ returns c =
     subst (λ m. Cleared a.costs.now c.before.before.before.before.before.clear.new.0 m a.shape.s) c.before.before.before.before.before.before.before.row_of.ensures c.before.before.before.before.before.clear.ensures in (
       l.invariant.3,
       λ before o. subst (λ n. Backward a.shape a.moves.now a.log.now a.t.now before l.costs a.j n) all
-          (l.invariant.4 before (backward-row a.shape a.moves.now a.log.now a.t.now (given_laid a.shape a.moves.now a.t.now a.log.now a.starts.now a.places.now a.costs.now b.requires.0) before a.costs.now c.before.before.before.before.before.clear.new.0 a.j a.shape.k
+          (l.invariant.4 before (backward_row a.shape a.moves.now a.log.now a.t.now (given_laid a.shape a.moves.now a.t.now a.log.now a.starts.now a.places.now a.costs.now b.requires.0) before a.costs.now c.before.before.before.before.before.clear.new.0 a.j a.shape.k
           (omega arith) b.requires.1.1.0 cleared o)),
     )
 

@@ -5,7 +5,7 @@ use Prim.Native.Nat.{◌-◌, ◌≤◌}
 use native.Mathlib.Omega.{arith}
 use lib.ListN.{length, length-set}
 use Rattle.counts.specs.Counts.{words}
-use Rattle.costwalk.proofs.Walking.{Walks, walks_all, walks-below, walks-lead, walks_next, walks_none}
+use Rattle.costwalk.proofs.Walking.{Walks, walks_all, walks_below, walks_lead, walks_next, walks_none}
 use Rattle.costwalk.proofs.put_closest.Statement.{statement}
 use Rattle.costwalk.proofs.put_closest.Tie as tie
 
@@ -34,13 +34,13 @@ choose-requires : tie.Need-choose-requires invariant-loop decreases-loop
 choose-requires c κs =
     let a = c.before.before.before.before.before.before.before.before.before.before.before.args in
     let l = c.before.loop in
-    walks-lead a.shape a.moves.now a.t.now a.log.now a.starts.now a.places.now a.costs.now a.fewest a.order.now l.invariant.2 c.before.before.before.before.before.before.before.before.before.before.before.requires.0 c.loop-test.true
+    walks_lead a.shape a.moves.now a.t.now a.log.now a.starts.now a.places.now a.costs.now a.fewest a.order.now l.invariant.2 c.before.before.before.before.before.before.before.before.before.before.before.requires.0 c.loop-test.true
 
 cast-order : tie.Need-overflow-cast-order invariant-loop decreases-loop
 cast-order c =
     let a = c.before.before.before.before.before.before.before.before.before.before.before.before.args in
     let l = c.before.before.loop in
-    let b = walks-below a.shape a.moves.now a.t.now a.log.now a.starts.now a.places.now a.costs.now a.fewest a.order.now l.invariant.2 c.before.loop-test.true c.before.before.before.before.before.before.before.before.before.before.before.before.requires.1 c.choose.result c.choose.ensures c.before.before.before.before.before.before.before.before.before.before.before.before.requires.0 in
+    let b = walks_below a.shape a.moves.now a.t.now a.log.now a.starts.now a.places.now a.costs.now a.fewest a.order.now l.invariant.2 c.before.loop-test.true c.before.before.before.before.before.before.before.before.before.before.before.before.requires.1 c.choose.result c.choose.ensures c.before.before.before.before.before.before.before.before.before.before.before.before.requires.0 in
     omega (arith, b.0, b.1)
 
 slice-write-order : tie.Need-slice-write-order invariant-loop decreases-loop
@@ -50,7 +50,7 @@ take-letter-requires : tie.Need-take-letter-requires invariant-loop decreases-lo
 take-letter-requires c κs =
     let a = c.before.before.before.before.before.before.before.before.before.before.before.before.args in
     let l = c.before.before.loop in
-    let b = walks-below a.shape a.moves.now a.t.now a.log.now a.starts.now a.places.now a.costs.now a.fewest a.order.now l.invariant.2 c.before.loop-test.true c.before.before.before.before.before.before.before.before.before.before.before.before.requires.1 c.choose.result c.choose.ensures c.before.before.before.before.before.before.before.before.before.before.before.before.requires.0 in
+    let b = walks_below a.shape a.moves.now a.t.now a.log.now a.starts.now a.places.now a.costs.now a.fewest a.order.now l.invariant.2 c.before.loop-test.true c.before.before.before.before.before.before.before.before.before.before.before.before.requires.1 c.choose.result c.choose.ensures c.before.before.before.before.before.before.before.before.before.before.before.before.requires.0 in
     (b.1, b.2, b.3)
 
 add-i : tie.Need-overflow-add-i invariant-loop decreases-loop

@@ -6,7 +6,7 @@ use Rattle.profile.specs.Automata.{automaton, profile_of}
 use Rattle.search.specs.Search.{found_in}
 use Rattle.costwalk.specs.Walk.{Tested}
 use Rattle.costwalk.proofs.Rows.{some_record}
-use Rattle.costwalk.proofs.Trying.{absent-ends, ends-not, ends_of, own-cost, row_fits, step_inside, within}
+use Rattle.costwalk.proofs.Trying.{absent_ends, ends_not, ends_of, own_cost, row_fits, step_inside, within}
 use Rattle.costwalk.proofs.try_letter.Statement.{statement}
 use Rattle.costwalk.proofs.try_letter.Tie as tie
 
@@ -41,7 +41,7 @@ returns : tie.Need-returns
 returns c masks may letter w z =
     let a = c.before.before.before.before.before.before.before.before.before.before.before.before.before.before.before.before.before.before.before.args in
     let f = ap (found_in a.t.now) (sym c.before.before.before.before.before.before.before.before.before.before.before.one_more.ensures) ∙ sym (c.before.before.before.before.before.before.before.before.before.before.find.ensures z.lent.records.ordered) ∙ c.before.before.before.before.before.before.before.before.found.given.1 in
-    let e = c.before.before.step-cost.ensures ∙ own-cost z a.x c.before.before.before.before.before.before.before.before.before.before.before.before.before.before.before.before.before.before.before.requires.1 c.before.before.before.before.before.before.before.before.found.given.0.0 f c.before.before.before.before.before.before.numbers.result c.before.before.before.before.before.before.numbers.ensures in
+    let e = c.before.before.step-cost.ensures ∙ own_cost z a.x c.before.before.before.before.before.before.before.before.before.before.before.before.before.before.before.before.before.before.before.requires.1 c.before.before.before.before.before.before.before.before.found.given.0.0 f c.before.before.before.before.before.before.numbers.result c.before.before.before.before.before.before.numbers.ensures in
     (ends_of z a.x c.before.before.before.before.before.before.before.before.before.before.before.before.before.before.before.before.before.before.before.requires.1 c.before.before.before.before.before.before.before.before.found.given.0.0 f a.taken.states e (subst (λ b. Tested a.costs.now (c.before.before.before.before.before.before.before.before.found.given.0.0 * a.shape.s) ((automaton (profile_of a.shape masks a.moves.now)).step a.taken.states a.x) c.before.before.step-cost.result a.taken.left b) c.if1.true c.before.fits2.ensures), e)
 
 enum_told : tie.Need-enum-told
@@ -51,14 +51,14 @@ returns-2 : tie.Need-returns-2
 returns-2 c masks may letter w z =
     let a = c.before.before.before.before.before.before.before.before.before.before.before.before.before.before.before.before.before.before.before.args in
     let f = ap (found_in a.t.now) (sym c.before.before.before.before.before.before.before.before.before.before.before.one_more.ensures) ∙ sym (c.before.before.before.before.before.before.before.before.before.before.find.ensures z.lent.records.ordered) ∙ c.before.before.before.before.before.before.before.before.found.given.1 in
-    let e = c.before.before.step-cost.ensures ∙ own-cost z a.x c.before.before.before.before.before.before.before.before.before.before.before.before.before.before.before.before.before.before.before.requires.1 c.before.before.before.before.before.before.before.before.found.given.0.0 f c.before.before.before.before.before.before.numbers.result c.before.before.before.before.before.before.numbers.ensures in
-    ends-not z a.x c.before.before.before.before.before.before.before.before.before.before.before.before.before.before.before.before.before.before.before.requires.1 c.before.before.before.before.before.before.before.before.found.given.0.0 f a.taken.states e (subst (λ b. Tested a.costs.now (c.before.before.before.before.before.before.before.before.found.given.0.0 * a.shape.s) ((automaton (profile_of a.shape masks a.moves.now)).step a.taken.states a.x) c.before.before.step-cost.result a.taken.left b) c.if1.false c.before.fits2.ensures)
+    let e = c.before.before.step-cost.ensures ∙ own_cost z a.x c.before.before.before.before.before.before.before.before.before.before.before.before.before.before.before.before.before.before.before.requires.1 c.before.before.before.before.before.before.before.before.found.given.0.0 f c.before.before.before.before.before.before.numbers.result c.before.before.before.before.before.before.numbers.ensures in
+    ends_not z a.x c.before.before.before.before.before.before.before.before.before.before.before.before.before.before.before.before.before.before.before.requires.1 c.before.before.before.before.before.before.before.before.found.given.0.0 f a.taken.states e (subst (λ b. Tested a.costs.now (c.before.before.before.before.before.before.before.before.found.given.0.0 * a.shape.s) ((automaton (profile_of a.shape masks a.moves.now)).step a.taken.states a.x) c.before.before.step-cost.result a.taken.left b) c.if1.false c.before.fits2.ensures)
 
 returns-3 : tie.Need-returns-3
 returns-3 c masks may letter w z =
     let a = c.before.before.before.before.before.before.before.before.before.before.before.args in
     let f = ap (found_in a.t.now) (sym c.before.before.before.one_more.ensures) ∙ sym (c.before.before.find.ensures z.lent.records.ordered) ∙ c.enum_told.given.1 in
-    absent-ends z a.x c.before.before.before.before.before.before.before.before.before.before.before.requires.1 c.enum_told.given.0.0 a.taken.states f
+    absent_ends z a.x c.before.before.before.before.before.before.before.before.before.before.before.requires.1 c.enum_told.given.0.0 a.taken.states f
 
 pub try-letter-spec : {M : Type 1} → statement M
 try-letter-spec =

@@ -10,7 +10,7 @@ use lib.Count.{trailing_le, count_trailing_zeros}
 use Rattle.profile.specs.Prefixes.{at}
 use Rattle.records.specs.Records.{records_in}
 use Rattle.cursors.specs.Cursors.{seek_from}
-use Rattle.cursors.proofs.Moving.{Moving, moving_end, moving-from, moving-in, moving-next, moving-skip, moving_start}
+use Rattle.cursors.proofs.Moving.{Moving, moving_end, moving_from, moving_in, moving_next, moving_skip, moving_start}
 use borrow.Author.Rules.{rules}
 use Rattle.cursors.proofs.advance.Statement.{statement}
 use Rattle.cursors.proofs.advance.Tie as tie
@@ -38,8 +38,8 @@ inside : (c : tie.After-slice-known2 invariant-loop decreases-loop) → at c.bef
 inside c =
     let a = c.before.before.before.before.before.before.args in
     let l = c.before.before.before.loop in
-    let first = moving-in a.level.now a.k a.cursors.now a.set l.left (omega arith) l.cursors l.invariant in
-    let from = moving-from a.level.now a.k a.cursors.now a.set l.left (omega arith) l.cursors l.invariant in
+    let first = moving_in a.level.now a.k a.cursors.now a.set l.left (omega arith) l.cursors l.invariant in
+    let from = moving_from a.level.now a.k a.cursors.now a.set l.left (omega arith) l.cursors l.invariant in
     omega (arith, from, c.before.before.before.before.before.before.requires.1 (count_trailing_zeros 32 l.left) c.before.if1.true first)
 
 add-seek : tie.Need-overflow-add-seek invariant-loop decreases-loop
@@ -68,13 +68,13 @@ loop-again c =
     let l = c.before.before.loop in
     let x = count_trailing_zeros 32 l.left in
     let some : 0 < l.left = omega arith in
-    let from = moving-from t a.k cs a.set l.left some l.cursors l.invariant in ⊎_elim
+    let from = moving_from t a.k cs a.set l.left some l.cursors l.invariant in ⊎_elim
     (λ w.
     let e = w.2.ensures ∙ ap (λ i. seek_from t i x) (add-one (at l.cursors x) ∙ ap suc from) in
     subst (Moving t a.k cs a.set (bit_and l.left (l.left - 1))) (sym w.3)
-    (moving-next t a.k cs a.set l.left some l.cursors l.invariant w.0.taken (omega arith) w.2.result e))
+    (moving_next t a.k cs a.set l.left some l.cursors l.invariant w.0.taken (omega arith) w.2.result e))
     (λ w. subst (Moving t a.k cs a.set (bit_and l.left (l.left - 1))) (sym w.1)
-    (moving-skip t a.k cs a.set l.left some l.cursors l.invariant w.0.left))
+    (moving_skip t a.k cs a.set l.left some l.cursors l.invariant w.0.left))
     c.if1.branch
 
 same_length : tie.Need-same-length invariant-loop decreases-loop

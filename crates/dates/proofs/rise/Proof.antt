@@ -1,7 +1,7 @@
 -- `dates::rise` meets its contract. The loop's invariant: the terms before i rise.
 use borrow.Author.Rules.{rules}
 use borrow.Author.Count.{below_more, below_none}
-use borrow.Author.Tests.{not_false, not-true}
+use borrow.Author.Tests.{not-false, not-true}
 use mathlib.Core.Path.{◌≡◌, refl, sym, ◌∙◌}
 use mathlib.Core.Bool.{true}
 use Prim.Native.Nat.{ℕ, ◌-◌, ◌≤◌, ◌<◌}
@@ -36,7 +36,7 @@ loop-less : tie.Need-loop-smaller invariant-loop decreases-loop
 loop-less c = search rules
 
 loop-again : tie.Need-loop-preserved invariant-loop decreases-loop
-loop-again c = ((omega arith, refl), below_more _ _ c.before.before.before.loop.invariant.1 (sym c.before.rises.ensures ∙ not_false c.before.rises.result c.if1.false))
+loop-again c = ((omega arith, refl), below_more _ _ c.before.before.before.loop.invariant.1 (sym c.before.rises.ensures ∙ not-false c.before.rises.result c.if1.false))
 
 returns-2 : tie.Need-returns-2 invariant-loop decreases-loop
 returns-2 c =

@@ -5,7 +5,7 @@ use Prim.Native.Nat.{suc, ◌+◌, ◌*◌}
 use native.Mathlib.Omega.{arith}
 use lib.Dec.{ltb}
 use lib.ListN.{get_or}
-use Rattle.dates.proofs.Codes.{last-rises, next-after, turned_back}
+use Rattle.dates.proofs.Codes.{last_rises, next_after, turned_back}
 use Rattle.dates.proofs.rises.Statement.{statement}
 use Rattle.dates.proofs.rises.Tie as tie
 
@@ -35,7 +35,7 @@ add-if2 c = search rules
 returns-2 : tie.Need-returns-2
 returns-2 c =
     let a = c.before.before.before.before.before.args in
-    last-rises a.terms.now a.i (omega (arith, c.before.if1.false, c.before.before.before.number_at.ensures, c.before.before.number-at2.ensures)) (omega arith)
+    last_rises a.terms.now a.i (omega (arith, c.before.if1.false, c.before.before.before.number_at.ensures, c.before.before.number-at2.ensures)) (omega arith)
 
 mul-number-at-3 : tie.Need-overflow-mul-number-at-3
 mul-number-at-3 c = search rules
@@ -51,7 +51,7 @@ returns-3 c =
     let a = c.before.before.before.before.before.before.args in
     let e : 2 * a.i + 2 ≡ 2 * suc a.i = omega arith in
     ap₂ ltb c.before.before.before.before.number_at.ensures (c.number-at3.ensures ∙ ap (λ m. get_or a.terms.now m 0) e)
-    ∙ next-after a.terms.now a.i (omega (arith, c.before.before.if1.false, c.before.before.before.before.number_at.ensures, c.before.before.before.number-at2.ensures)) (omega arith)
+    ∙ next_after a.terms.now a.i (omega (arith, c.before.before.if1.false, c.before.before.before.before.number_at.ensures, c.before.before.before.number-at2.ensures)) (omega arith)
 
 pub rises-spec : {M : Type 1} → statement M
 rises-spec =

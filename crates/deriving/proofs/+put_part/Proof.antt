@@ -3,7 +3,7 @@ use mathlib.Core.Path.{◌∙◌, subst}
 use native.Mathlib.Omega.{arith}
 use borrow.Author.Rules.{rules}
 use Prim.Native.Nat.{ℕ, ◌-◌, ◌<◌}
-use Rattle.deriving.proofs.Orders.{Going, going-leaf, going-left, going-right, going_start, leaf_room, less_left, less_right}
+use Rattle.deriving.proofs.Orders.{Going, going_leaf, going_left, going_right, going_start, leaf_room, less_left, less_right}
 use lib.ListN.{length-set}
 use Rattle.parts.specs.Parts.{StepIs}
 use borrow.Fn.Kinds.{In}
@@ -109,7 +109,7 @@ put_part_returns t c =
     let l = c.before.before.before.before.loop in
     let e = c.before.step.given in
     let x = subst (StepIs a.k a.masks.now a.rules.now a.log.now l.from l.to l.n) e.1 c.before.before.before.next-step.ensures in
-    going-leaf a.k a.masks.now a.log.now a.table.now a.records S.requires.1.0.0 a.rules.now a.i a.j a.name q.1 a.order.now q.2 l.n l.from l.to l.order l.invariant e.0.0 e.0.1.0 x
+    going_leaf a.k a.masks.now a.log.now a.table.now a.records S.requires.1.0.0 a.rules.now a.i a.j a.name q.1 a.order.now q.2 l.n l.from l.to l.order l.invariant e.0.0 e.0.1.0 x
 
 put_part_enum_known_step_2 : (t : ℕ) → put-part-lts.Need-enum-known-step-2 (
   next-step-reads.Asked,
@@ -162,7 +162,7 @@ put_part_loop_again t c =
     let l = c.before.before.before.before.before.before.before.before.before.loop in
     let e = c.before.before.before.before.before.before.step2.given in
     let x = subst (StepIs a.k a.masks.now a.rules.now a.log.now l.from l.to l.n) e.1 c.before.before.before.before.before.before.before.before.next-step.ensures in
-    going-left a.k a.masks.now a.log.now a.table.now a.records S.requires.1.0.0 a.rules.now a.i a.j a.name q.1 a.order.now q.2 l.n l.from l.to l.order l.invariant e.0.0 e.0.1.0 x _ c.before.before.put-part.ensures
+    going_left a.k a.masks.now a.log.now a.table.now a.records S.requires.1.0.0 a.rules.now a.i a.j a.name q.1 a.order.now q.2 l.n l.from l.to l.order l.invariant e.0.0 e.0.1.0 x _ c.before.before.put-part.ensures
 
 put_part_put_part_requires_2 : (t : ℕ) → put-part-lts.Need-put-part-requires-2 (
   next-step-reads.Asked,
@@ -207,7 +207,7 @@ put_part_loop_again_2 t c =
     let l = c.before.before.before.before.before.before.before.before.before.loop in
     let e = c.before.before.before.before.before.before.step2.given in
     let x = subst (StepIs a.k a.masks.now a.rules.now a.log.now l.from l.to l.n) e.1 c.before.before.before.before.before.before.before.before.next-step.ensures in
-    going-right a.k a.masks.now a.log.now a.table.now a.records S.requires.1.0.0 a.rules.now a.i a.j a.name q.1 a.order.now q.2 l.n l.from l.to l.order l.invariant e.0.0 e.0.1.0 x _ c.before.before.put-part2.ensures
+    going_right a.k a.masks.now a.log.now a.table.now a.records S.requires.1.0.0 a.rules.now a.i a.j a.name q.1 a.order.now q.2 l.n l.from l.to l.order l.invariant e.0.0 e.0.1.0 x _ c.before.before.put-part2.ensures
 
 pub +put-part-spec : {M : Type 1} → statement M
 +put-part-spec = close μ_put_part λ t. put-part-lts.spec (

@@ -9,7 +9,7 @@ use Rattle.profile.specs.Tables.{layout}
 use Rattle.counts.specs.Counts.{add_count, words}
 use Rattle.records.specs.Records.{records_in}
 use Rattle.earliest.specs.Earliest.{Enclosed}
-use Rattle.earliest.proofs.Choices.{Bounded, Passed, bounded-first, bounded-next, passed-next, taken_here}
+use Rattle.earliest.proofs.Choices.{Bounded, Passed, bounded_first, bounded_next, passed_next, taken_here}
 use Rattle.earliest.proofs.choose.Statement.{statement}
 use Rattle.earliest.proofs.choose.Tie as tie
 
@@ -30,7 +30,7 @@ loop-holds : tie.Need-loop-init invariant-loop decreases-loop
 loop-holds c =
     let a = c.before.before.before.before.args in
     let step = forward_step a.shape.k a.shape.s a.moves.now in
-    (omega arith, bounded-first step a.t.now a.at a.states a.shape.k c.before.before.before.before.requires.0.0 c.records-in.result c.records-in.ensures, λ y r l k. absurd (omega arith))
+    (omega arith, bounded_first step a.t.now a.at a.states a.shape.k c.before.before.before.before.requires.0.0 c.records-in.result c.records-in.ensures, λ y r l k. absurd (omega arith))
 
 one-more-requires : tie.Need-one-more-requires invariant-loop decreases-loop
 one-more-requires c κs = search rules
@@ -74,9 +74,9 @@ loop-again c =
     let own = c.before.before.before.one_more.ensures ∙ ap (λ v. add_count layout v l.x) c.before.before.before.before.before.before.before.counts-at.ensures in
     let inside : c.before.before.place-for.result.end ≤ records_in a.t.now = omega (arith, r.0.2, (l.invariant.1 l.x (omega arith) c.before.before.before.before.loop-test.true).inside) in (
       omega arith,
-      bounded-next step a.t.now a.at a.states a.shape.k q l.x c.before.led-to.result c.before.before.place-for.result.place c.before.before.place-for.result.end (words c.before.before.before.one_more.result)
+      bounded_next step a.t.now a.at a.states a.shape.k q l.x c.before.led-to.result c.before.before.place-for.result.place c.before.before.place-for.result.end (words c.before.before.before.one_more.result)
           c.before.before.before.before.loop-test.true own r.0.1 inside (r.1.0 q.ordered) (r.1.1 q.ordered) c.before.led-to.ensures,
-      passed-next step a.t.now a.at a.states a.shape.k q l.x c.before.led-to.result c.before.before.place-for.result.place c.before.before.place-for.result.end (words c.before.before.before.one_more.result)
+      passed_next step a.t.now a.at a.states a.shape.k q l.x c.before.led-to.result c.before.before.place-for.result.place c.before.before.place-for.result.end (words c.before.before.before.one_more.result)
           c.before.before.before.before.loop-test.true own r.0.1 inside (r.1.0 q.ordered) (r.1.1 q.ordered) c.before.led-to.ensures l.invariant.2 c.if1.false,
     )
 

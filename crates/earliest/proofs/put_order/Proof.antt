@@ -12,7 +12,7 @@ use Rattle.successors.specs.Successors.{Stands}
 use Rattle.successors.proofs.More.{stands_at}
 use Rattle.earliest.specs.Earliest.{Smallest, Some, Table}
 use Rattle.earliest.proofs.Records.{recorded, used}
-use Rattle.earliest.proofs.Extraction.{Written, start_set, written_all, written_length, written_next, written_none, written-some}
+use Rattle.earliest.proofs.Extraction.{Written, start_set, written_all, written_length, written_next, written_none, written_some}
 use Rattle.earliest.proofs.put_order.Statement.{statement}
 use Rattle.earliest.proofs.put_order.Tie as tie
 
@@ -60,7 +60,7 @@ choose-requires c κs =
     let tab = l.invariant.1 in
     let part : take (record_length layout * a.records - 0) a.table.now ≡ used tab = ap (λ n. take n a.table.now) (whole a.records q.1.0) in (
       (subst (λ u. Stands u a.shape.k l.at) (sym part) (stands_at (recorded tab) l.at l.invariant.2.inside), q.0.profile.states.1),
-      subst (λ u. Some (forward_step a.shape.k a.shape.s a.moves.now) u l.at l.states a.shape.k) (sym part) (written-some tab l.invariant.2 c.before.loop-test.true),
+      subst (λ u. Some (forward_step a.shape.k a.shape.s a.moves.now) u l.at l.states a.shape.k) (sym part) (written_some tab l.invariant.2 c.before.loop-test.true),
     )
 
 -- the letter chosen, in the words of the law of the next letter

@@ -13,7 +13,7 @@ use Rattle.profile.specs.Prefixes.{at}
 use Rattle.profile.specs.Traces.{independent}
 use Rattle.profile.proofs.Lists.{both, is_false, is_true, snd_of}
 use Rattle.events.specs.Events.{keepers, lets_by?}
-use Rattle.events.proofs.Keepers.{Left, keepers_own, left-first, left-next, left_none, left-stops}
+use Rattle.events.proofs.Keepers.{Left, keepers_own, left_first, left_next, left_none, left_stops}
 use Rattle.events.proofs.comes_next.Statement.{statement}
 use Rattle.events.proofs.comes_next.Tie as tie
 
@@ -47,7 +47,7 @@ loop-holds c =
     let a = s.args in
     let may = independent a.masks.now in
     let e : at a.keepers.now a.x ≡ keepers may a.k a.x = ap (λ l. at l a.x) s.requires.1 ∙ keepers_own may a.k a.x (omega arith) in
-    subst (Left may a.k a.x (at a.next.now)) (sym e) (left-first may a.k a.x (at a.next.now) s.requires.0.0)
+    subst (Left may a.k a.x (at a.next.now)) (sym e) (left_first may a.k a.x (at a.next.now) s.requires.0.0)
 
 cast-y : tie.Need-overflow-cast-y invariant-loop decreases-loop
 cast-y c = omega (arith, trailing_le 32 c.before.loop.rest)
@@ -63,7 +63,7 @@ returns-2 c =
     let q = ltb (at a.next.now a.x) a.n in
     let h : at a.next.now (count_trailing_zeros 32 l.rest) ≤ at a.next.now a.x = omega (arith, c.before.place-at2.ensures, c.before.before.before.before.before.before.place_at.ensures) in
     sym (is_false (q && all p (below a.k)) (not_T (q && all p (below a.k)) (λ t.
-    left-stops (independent a.masks.now) a.k a.x (at a.next.now) l.rest (omega arith) l.invariant h (snd_of q (all p (below a.k)) t))))
+    left_stops (independent a.masks.now) a.k a.x (at a.next.now) l.rest (omega arith) l.invariant h (snd_of q (all p (below a.k)) t))))
 
 sub-rest : tie.Need-overflow-sub-rest invariant-loop decreases-loop
 sub-rest c = search rules
@@ -76,7 +76,7 @@ loop-again c =
     let a = c.before.before.before.before.before.before.before.before.before.args in
     let l = c.before.before.before.loop in
     let h : at a.next.now a.x < at a.next.now (count_trailing_zeros 32 l.rest) = omega (arith, c.before.place-at2.ensures, c.before.before.before.before.before.before.place_at.ensures) in
-    left-next (independent a.masks.now) a.k a.x (at a.next.now) l.rest (omega arith) l.invariant h
+    left_next (independent a.masks.now) a.k a.x (at a.next.now) l.rest (omega arith) l.invariant h
 
 returns-3 : tie.Need-returns-3 invariant-loop decreases-loop
 returns-3 c =

@@ -1,6 +1,6 @@
 -- `expression::make` meets its contract.
 use mathlib.Core.Path.{sym, ◌∙◌}
-use Rattle.expression.proofs.Answers.{makes-broken, makes_equal, makes_high, makes_low}
+use Rattle.expression.proofs.Answers.{makes_broken, makes_equal, makes_high, makes_low}
 use borrow.Author.Rules.{rules}
 use Rattle.expression.proofs.make.Statement.{statement}
 use Rattle.expression.proofs.make.Tie as tie
@@ -40,7 +40,7 @@ returns-3 c =
     let a = S.args in
     let u = a.text.now in
     let v = a.moves.now in
-    makes_equal a.k u v _ _ (makes-broken a.k u v c.before.before.before.before.before.if1.false c.before.before.before.before.if2.false _ (sym c.before.before.before.scan.ensures ∙ c.before.scanned.given.1))
+    makes_equal a.k u v _ _ (makes_broken a.k u v c.before.before.before.before.before.if1.false c.before.before.before.before.if2.false _ (sym c.before.before.before.scan.ensures ∙ c.before.scanned.given.1))
 
 same_length : tie.Need-same-length
 same_length c = search rules

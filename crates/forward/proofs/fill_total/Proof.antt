@@ -9,7 +9,7 @@ use Rattle.terms.specs.Coded.{rules_of}
 use Rattle.profile.specs.Automata.{profile_of}
 use Rattle.forward.specs.Forward.{Ready}
 use Rattle.forward.specs.Merging.{Steps}
-use Rattle.forward.proofs.Fills.{Filling, filling-done, filling-few, filling-merging, filling-next, filling_start}
+use Rattle.forward.proofs.Fills.{Filling, filling_done, filling_few, filling_merging, filling_next, filling_start}
 use Rattle.forward.proofs.fill_total.Statement.{statement}
 use Rattle.forward.proofs.fill_total.Tie as tie
 
@@ -38,7 +38,7 @@ merge-next-requires c κs =
     let a = c.before.before.before.before.before.before.before.before.before.before.before.before.args in
     let h = c.before.before.before.before.before.before.before.before.before.before.before.before.requires.0 in
     let f = c.before.before.loop.invariant in (
-      (subst (λ m. Ready (rules_of (profile_of a.part.shape a.masks.now a.moves.now) a.termed) a.log.now m a.part.room a.starts.now a.places.now a.turns.now a.termed) (sym f.kept) h.0, filling-merging h.0 h.1 f),
+      (subst (λ m. Ready (rules_of (profile_of a.part.shape a.masks.now a.moves.now) a.termed) a.log.now m a.part.room a.starts.now a.places.now a.turns.now a.termed) (sym f.kept) h.0, filling_merging h.0 h.1 f),
       c.before.before.before.before.before.before.before.before.before.before.before.before.requires.1,
     )
 
@@ -55,7 +55,7 @@ returns c =
     let l = c.before.before.before.before.before.before.before.before.loop in
     let x = c.before.before.before.before.before.merge-next in
     let s = subst (Steps (rules_of (profile_of a.part.shape a.masks.now a.moves.now) a.termed) a.log.now a.part.room a.part.t a.part.first l.j l.table x.new.0 x.new.1.1.1.1.1.1.1.1.1.1.0) c.enum_told.given.1 x.ensures in
-    filling-done h.0 h.1 l.invariant x.new.0 x.new.1.1.1.1.1.1.1.1.1.1.0 s
+    filling_done h.0 h.1 l.invariant x.new.0 x.new.1.1.1.1.1.1.1.1.1.1.0 s
 
 enum-told-2 : tie.Need-enum-told-2 invariant-loop decreases-loop
 enum-told-2 c = search rules
@@ -83,10 +83,10 @@ loop-again c =
     let l = c.before.before.before.before.before.before.before.before.before.loop in
     let x = c.before.before.before.before.before.before.merge-next in
     let s = subst (Steps (rules_of (profile_of a.part.shape a.masks.now a.moves.now) a.termed) a.log.now a.part.room a.part.t a.part.first l.j l.table x.new.0 x.new.1.1.1.1.1.1.1.1.1.1.0) c.before.merged.given.1 x.ensures in
-    filling-next h.0 h.1 l.invariant c.before.merged.given.0.0 x.new.0 x.new.1.1.1.1.1.1.1.1.1.1.0 s x.auto.0 x.auto.1.1.1.1.1.1.1.1.1.1.0
+    filling_next h.0 h.1 l.invariant c.before.merged.given.0.0 x.new.0 x.new.1.1.1.1.1.1.1.1.1.1.0 s x.auto.0 x.auto.1.1.1.1.1.1.1.1.1.1.0
 
 add-pairs : tie.Need-overflow-add-pairs invariant-loop decreases-loop
-add-pairs c = let h = c.before.before.before.before.before.before.before.before.before.before.before.before.before.before.before.before.before.before.before.requires.0 in omega (arith, filling-few h.0 h.1 (loop-again c), h.0.few)
+add-pairs c = let h = c.before.before.before.before.before.before.before.before.before.before.before.before.before.before.before.before.before.before.before.requires.0 in omega (arith, filling_few h.0 h.1 (loop-again c), h.0.few)
 
 add-j : tie.Need-overflow-add-j invariant-loop decreases-loop
 add-j c = omega (arith, (loop-again c).inside, c.before.before.before.before.before.before.before.before.before.before.before.before.before.before.before.before.before.before.before.requires.0.0.few)

@@ -9,7 +9,7 @@ use Rattle.profile.specs.Automata.{profile_of}
 use Rattle.forward.specs.declared.Total.{Total}
 use Rattle.forward.specs.Forward.{Ready}
 use Rattle.forward.specs.Merging.{Begun, Grows, Prepared, Standing}
-use Rattle.forward.proofs.Fills.{Reaching, reaching-end, reaching-few, reaching-full, reaching-next, reaching_start}
+use Rattle.forward.proofs.Fills.{Reaching, reaching_end, reaching_few, reaching_full, reaching_next, reaching_start}
 use Rattle.forward.proofs.fill_totals.Statement.{statement}
 use Rattle.forward.proofs.fill_totals.Tie as tie
 
@@ -66,7 +66,7 @@ same_length c = search rules
 returns : tie.Need-returns invariant-loop decreases-loop
 returns c =
     let f = c.before.before.before.before in
-    reaching-full c.before.before.before.before.before.before.before.before.before.before.before.before.before.before.before.before.requires.0.0 c.before.before.before.before.before.before.before.before.loop.invariant.2 c.before.before.before.before.before.before.if1.true f.fill-total.new.0 (grows f _ c.enum_told.given.1)
+    reaching_full c.before.before.before.before.before.before.before.before.before.before.before.before.before.before.before.before.requires.0.0 c.before.before.before.before.before.before.before.before.loop.invariant.2 c.before.before.before.before.before.before.if1.true f.fill-total.new.0 (grows f _ c.enum_told.given.1)
 
 enum-known-total : tie.Need-enum-known-total invariant-loop decreases-loop
 enum-known-total c = search rules
@@ -83,10 +83,10 @@ reaching : (c : tie.After-next-part invariant-loop decreases-loop)
 reaching c =
     let q = c.before.before.total.given in
     let f = c.before.before.before.before.before.before in
-    reaching-next c.before.before.before.before.before.before.before.before.before.before.before.before.before.before.before.before.before.before.requires.0.0 c.before.before.before.before.before.before.before.before.before.before.loop.invariant.2 c.before.before.before.before.before.before.before.before.if1.true q.0.0 q.0.1.0 f.fill-total.new.0 (grows f _ q.1) f.fill-total.auto.0
+    reaching_next c.before.before.before.before.before.before.before.before.before.before.before.before.before.before.before.before.before.before.requires.0.0 c.before.before.before.before.before.before.before.before.before.before.loop.invariant.2 c.before.before.before.before.before.before.before.before.if1.true q.0.0 q.0.1.0 f.fill-total.new.0 (grows f _ q.1) f.fill-total.auto.0
 
 add-looks : tie.Need-overflow-add-looks invariant-loop decreases-loop
-add-looks c = omega (arith, reaching-few c.before.before.before.before.before.before.before.before.before.before.before.before.before.before.before.before.before.before.requires.0.0 (reaching c), c.before.before.before.before.before.before.before.before.before.before.before.before.before.before.before.before.before.before.requires.0.0.few)
+add-looks c = omega (arith, reaching_few c.before.before.before.before.before.before.before.before.before.before.before.before.before.before.before.before.before.before.requires.0.0 (reaching c), c.before.before.before.before.before.before.before.before.before.before.before.before.before.before.before.before.before.before.requires.0.0.few)
 
 loop-less : tie.Need-loop-smaller invariant-loop decreases-loop
 loop-less c = omega (arith, c.before.before.before.before.before.before.before.before.if1.true, ap (λ p. p.t) c.next-part.ensures)
@@ -105,7 +105,7 @@ same-length-2 : tie.Need-same-length-2 invariant-loop decreases-loop
 same-length-2 c = search rules
 
 returns-2 : tie.Need-returns-2 invariant-loop decreases-loop
-returns-2 c = reaching-end c.before.before.before.before.before.before.before.before.before.before.requires.0.0 c.before.before.loop.invariant.2 c.if1.false
+returns-2 c = reaching_end c.before.before.before.before.before.before.before.before.before.before.requires.0.0 c.before.before.loop.invariant.2 c.if1.false
 
 pub fill-totals-spec : {M : Type 1} → statement M
 fill-totals-spec =

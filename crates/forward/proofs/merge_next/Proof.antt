@@ -14,7 +14,7 @@ use Rattle.letters.specs.Letters.{tested_by}
 use Rattle.term_letters.specs.Letters.{letters_found}
 use Rattle.forward.specs.Merging.{Comes, records_between}
 use Rattle.forward.proofs.Handed.{freely}
-use Rattle.forward.proofs.Puts.{merge-found, merge-full, merge-handed, merge_none, merge-put}
+use Rattle.forward.proofs.Puts.{merge_found, merge_full, merge_handed, merge_none, merge_put}
 use Rattle.forward.proofs.merge_next.Statement.{statement}
 use Rattle.forward.proofs.merge_next.Tie as tie
 
@@ -100,13 +100,13 @@ returns-2 c =
     let v = words q.0.0 in
     let handed = q.0.1.1.0 in
     let found = ⊎_elim
-    (λ u. merge-found h.0 h.1 v g.0 y.set (u.2 ∙ u.1.ensures.0 ∙ ap (λ b. union (λ x. 2 ^ x) (letters_found b (independent a.masks.now) a.part.shape.k
+    (λ u. merge_found h.0 h.1 v g.0 y.set (u.2 ∙ u.1.ensures.0 ∙ ap (λ b. union (λ x. 2 ^ x) (letters_found b (independent a.masks.now) a.part.shape.k
     (length a.log.now) a.starts.now a.places.now a.turns.now v)) (sym u.0.taken)))
-    (λ u. merge-handed h.0 h.1 v g.0 u.0.left (freely (profile_of a.part.shape a.masks.now a.moves.now) a.termed u.0.left) handed.letters handed.passed y.set
+    (λ u. merge_handed h.0 h.1 v g.0 u.0.left (freely (profile_of a.part.shape a.masks.now a.moves.now) a.termed u.0.left) handed.letters handed.passed y.set
     g.2 g.3 (u.4 ∙ ap (bit_or handed.letters) (u.2.ensures ∙ ap (tested_by (independent a.masks.now) a.part.shape.k (length a.log.now) a.starts.now a.places.now v) u.1.ensures)))
     y.branch in
     let z = c.before.before.put_in in
-    merge-put h.0 h.1 v g.0 handed.forward y.set q.0.1.0 (ones y.set) z.new.0 x.new.1.1.1.1.1.1.0
+    merge_put h.0 h.1 v g.0 handed.forward y.set q.0.1.0 (ones y.set) z.new.0 x.new.1.1.1.1.1.1.0
     c.before.before.before.before.before.before.if1.true g.1 g.4 found g.5 refl z.ensures
 
 same-length-5 : tie.Need-same-length-5
@@ -123,7 +123,7 @@ returns-3 c =
     let x = c.before.before.before.before.before.before.next-counts in
     let level = records_between a.table.now a.part.from a.part.first in
     let g = subst (Comes a.part.shape.k a.part.shape.s a.masks.now a.moves.now level a.cursors.now x.new.1.1.1.1.1.1.0) q.1 x.ensures in
-    merge-full h.0 h.1 (words q.0.0) g.0 c.if1.false
+    merge_full h.0 h.1 (words q.0.0) g.0 c.if1.false
 
 pub merge-next-spec : {M : Type 1} → statement M
 merge-next-spec =

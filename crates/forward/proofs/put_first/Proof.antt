@@ -6,7 +6,7 @@ use lib.ListN.{length}
 use Rattle.profile.specs.Traces.{independent}
 use Rattle.counts.specs.Counts.{words}
 use Rattle.term_letters.proofs.Choices.{found_with, found_without}
-use Rattle.forward.proofs.Totals.{first-pairs, first_record}
+use Rattle.forward.proofs.Totals.{first_pairs, first_record}
 use Rattle.forward.proofs.put_first.Statement.{statement}
 use Rattle.forward.proofs.put_first.Tie as tie
 
@@ -42,7 +42,7 @@ returns c =
     (λ x. found_without (independent a.masks.now) a.shape.k (length a.log.now) a.starts.now a.places.now a.turns.now (words v.result) a.termed
     c.before.before.before.before.if1.letters x.1.result x.0.left x.2 x.1.ensures)
     c.before.before.before.before.if1.branch in (
-      first-pairs r (words v.result) v.ensures _ found.1,
+      first_pairs r (words v.result) v.ensures _ found.1,
       c.before.before.put.ensures ∙ first_record r (words v.result) v.ensures a.table.now _ _ refl found.0,
     )
 

@@ -1,7 +1,7 @@
 -- `grammar_judge::judge` meets its contract.
 use mathlib.Core.Path.{sym, ◌∙◌, ap, subst}
 use Rattle.profile.specs.Refusals.{checked}
-use Rattle.grammar_judge.proofs.Answers.{answer-full, answer-log, answer-none, answer-order, answer_relation, answer-rules, answer-sets, answer_short}
+use Rattle.grammar_judge.proofs.Answers.{answer_full, answer_log, answer_none, answer_order, answer_relation, answer_rules, answer_sets, answer_short}
 use Prim.Native.Nat.{◌*◌, ◌≤◌, ◌<◌}
 use lib.ListN.{length}
 use Rattle.profile.specs.Tables.{capacity, layout}
@@ -34,7 +34,7 @@ bad-rules-requires c κs = search rules
 returns-2 : tie.Need-returns-2
 returns-2 c =
     let a = c.before.before.before.before.before.before.before.before.before.before.before.args in
-    answer-rules a.k a.masks.now a.names a.rules.now a.log.now a.order.now a.work.now a.sets.now (sym c.before.before.before.before.check-relation.ensures ∙ ap checked c.before.before.enum_told.given.1) (sym c.before.bad-rules.ensures ∙ c.if1.true)
+    answer_rules a.k a.masks.now a.names a.rules.now a.log.now a.order.now a.work.now a.sets.now (sym c.before.before.before.before.check-relation.ensures ∙ ap checked c.before.before.enum_told.given.1) (sym c.before.bad-rules.ensures ∙ c.if1.true)
 
 check-log-requires : tie.Need-check-log-requires
 check-log-requires c κs = search rules
@@ -48,7 +48,7 @@ returns-3 c =
     let good = sym c.before.before.before.before.before.before.before.before.check-relation.ensures ∙ ap checked c.before.before.before.before.before.before.enum_told.given.1 in
     let right = sym c.before.before.before.before.before.bad-rules.ensures ∙ c.before.before.before.before.if1.false in
     let e = c.before.letters.given in
-    answer-log a.k a.masks.now a.names a.rules.now a.log.now a.order.now a.work.now a.sets.now good right e.0.0 (sym c.before.before.before.check-log.ensures ∙ ap checked e.1)
+    answer_log a.k a.masks.now a.names a.rules.now a.log.now a.order.now a.work.now a.sets.now good right e.0.0 (sym c.before.before.before.check-log.ensures ∙ ap checked e.1)
 
 enum-told-2 : tie.Need-enum-told-2
 enum-told-2 c = search rules
@@ -94,7 +94,7 @@ returns-5 c =
     let long = c.before.before.before.before.before.before.before.before.if2.false in
     let e = c.before.before.built2.given in
     let u = subst (BuiltIs a.k a.masks.now a.log.now a.work.now _) e.1 c.before.before.before.before.before.before.build.ensures in
-    let e₂ = u.0.prefixes in answer-sets a.k a.masks.now a.names a.rules.now a.log.now a.order.now a.work.now a.sets.now good right log long (subst (λ n. n ≤ capacity layout (length a.work.now)) e₂ u.1) _ u.0 (subst (λ n. length a.sets.now < n * n) e₂ c.if3.true)
+    let e₂ = u.0.prefixes in answer_sets a.k a.masks.now a.names a.rules.now a.log.now a.order.now a.work.now a.sets.now good right log long (subst (λ n. n ≤ capacity layout (length a.work.now)) e₂ u.1) _ u.0 (subst (λ n. length a.sets.now < n * n) e₂ c.if3.true)
 
 put-verdict-requires : tie.Need-put-verdict-requires
 put-verdict-requires c κs =
@@ -119,7 +119,7 @@ returns-6 c =
     let long = c.before.before.before.before.before.before.before.if2.false in
     let e = c.before.built.given in
     let u = subst (BuiltIs a.k a.masks.now a.log.now a.work.now _) e.1 c.before.before.before.before.before.build.ensures in
-    subst (λ r. Promise a.k a.masks.now a.names a.rules.now a.log.now a.order.now a.order.now a.work.now c.before.before.before.before.before.build.new.1.1.1.0 a.sets.now a.sets.now (Refused r)) (sym u.0) (answer-full a.k a.masks.now a.names a.rules.now a.log.now a.order.now a.work.now a.sets.now good right log long c.before.before.before.before.before.build.new.1.1.1.0 u.2 u.1)
+    subst (λ r. Promise a.k a.masks.now a.names a.rules.now a.log.now a.order.now a.order.now a.work.now c.before.before.before.before.before.build.new.1.1.1.0 a.sets.now a.sets.now (Refused r)) (sym u.0) (answer_full a.k a.masks.now a.names a.rules.now a.log.now a.order.now a.work.now a.sets.now good right log long c.before.before.before.before.before.build.new.1.1.1.0 u.2 u.1)
 
 same-length-3 : tie.Need-same-length-3
 same-length-3 c = search rules
@@ -140,7 +140,7 @@ returns-7 c =
     let e = c.before.before.before.before.before.before.before.before.before.before.before.built2.given in
     let u = subst (BuiltIs a.k a.masks.now a.log.now a.work.now _) e.1 c.before.before.before.before.before.before.before.before.before.before.before.before.before.before.before.build.ensures in
     let e₂ = u.0.prefixes in
-    answer-order a.k a.masks.now a.names a.rules.now a.log.now a.order.now a.work.now a.sets.now good right log long (subst (λ n. n ≤ capacity layout (length a.work.now)) e₂ u.1) (subst (λ n. n * n ≤ length a.sets.now) e₂ c.before.before.before.before.before.before.before.before.before.if3.false) _ _ _ e.0.0 e.0.1.0 u.0
+    answer_order a.k a.masks.now a.names a.rules.now a.log.now a.order.now a.work.now a.sets.now good right log long (subst (λ n. n ≤ capacity layout (length a.work.now)) e₂ u.1) (subst (λ n. n * n ≤ length a.sets.now) e₂ c.before.before.before.before.before.before.before.before.before.if3.false) _ _ _ e.0.0 e.0.1.0 u.0
     (subst (VerdictIs a.masks.now a.rules.now a.log.now a.order.now _) c.if4.true c.before.before.before.before.before.put-verdict.ensures)
 
 same-length-6 : tie.Need-same-length-6
@@ -162,7 +162,7 @@ returns-8 c =
     let e = c.before.before.before.before.before.before.before.before.before.before.before.built2.given in
     let u = subst (BuiltIs a.k a.masks.now a.log.now a.work.now _) e.1 c.before.before.before.before.before.before.before.before.before.before.before.before.before.before.before.build.ensures in
     let e₂ = u.0.prefixes in
-    answer-none a.k a.masks.now a.names a.rules.now a.log.now a.order.now a.work.now a.sets.now good right log long (subst (λ n. n ≤ capacity layout (length a.work.now)) e₂ u.1) (subst (λ n. n * n ≤ length a.sets.now) e₂ c.before.before.before.before.before.before.before.before.before.if3.false) _ _ _ e.0.0 e.0.1.0 u.0
+    answer_none a.k a.masks.now a.names a.rules.now a.log.now a.order.now a.work.now a.sets.now good right log long (subst (λ n. n ≤ capacity layout (length a.work.now)) e₂ u.1) (subst (λ n. n * n ≤ length a.sets.now) e₂ c.before.before.before.before.before.before.before.before.before.if3.false) _ _ _ e.0.0 e.0.1.0 u.0
     (subst (VerdictIs a.masks.now a.rules.now a.log.now a.order.now _) c.if4.false c.before.before.before.before.before.put-verdict.ensures)
 
 pub judge-spec : {M : Type 1} → statement M

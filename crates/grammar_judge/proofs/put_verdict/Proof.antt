@@ -1,7 +1,7 @@
 -- `grammar_judge::put_verdict` meets its contract.
 use mathlib.Core.Path.{refl, sym, ◌∙◌}
 use mathlib.Core.Bool.{false}
-use borrow.Author.Tests.{not_false, not-true}
+use borrow.Author.Tests.{not-false, not-true}
 use Rattle.grammar_judge.specs.GrammarJudge.{VerdictIs}
 use Rattle.grammar_judge.proofs.Verdict.{none_short, none_told, order_told, row_inside, some_told}
 use native.Mathlib.Omega.{arith}
@@ -55,7 +55,7 @@ put-part-requires c κs =
     let a = S.args in
     let f = c.before.before.before.before.before.before.before.fill-sets in
     let m = c.before.before.before.before.before.before.before.before.before.if1.false in
-    ((S.requires.0, f.ensures), (omega (arith, m), omega (arith, m), S.requires.2, some_told a.k a.masks.now a.log.now a.table.now a.records S.requires.0 a.rules.now _ f.ensures m (sym c.before.before.before.has.ensures ∙ not_false c.before.before.before.has.result c.before.before.if2.false)))
+    ((S.requires.0, f.ensures), (omega (arith, m), omega (arith, m), S.requires.2, some_told a.k a.masks.now a.log.now a.table.now a.records S.requires.0 a.rules.now _ f.ensures m (sym c.before.before.before.has.ensures ∙ not-false c.before.before.before.has.result c.before.before.if2.false)))
 
 same-length-2 : tie.Need-same-length-2
 same-length-2 c = search rules

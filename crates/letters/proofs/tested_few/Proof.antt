@@ -8,7 +8,7 @@ use lib.Bits.{bit_and, bit_or, and_le_r, or_zero_l}
 use lib.Count.{trailing_le, count_trailing_zeros}
 use Rattle.profile.specs.Traces.{independent}
 use Rattle.counts.specs.Counts.{words}
-use Rattle.parents.proofs.Unions.{over-left, over_none, over-taken}
+use Rattle.parents.proofs.Unions.{over_left, over_none, over_taken}
 use Rattle.letters.specs.Letters.{letter_by, tested_by}
 use borrow.Author.Rules.{rules}
 use Rattle.letters.proofs.tested_few.Statement.{statement}
@@ -51,8 +51,8 @@ loop-again c =
     let all = tested_by (independent a.masks.now) a.k a.n a.starts.now a.places.now t in (
       omega (arith, and_le_r n (n - 1), l.invariant.0),
       ⊎_elim
-          (λ w. ap (λ o. bit_or o (all r)) (w.3 ∙ ap (bit_or l.out) w.2.ensures) ∙ over-taken f a.k n some l.invariant.0 l.out w.0.taken ∙ l.invariant.1)
-          (λ w. ap (λ o. bit_or o (all r)) w.1 ∙ ap (bit_or l.out) (over-left f a.k n some l.invariant.0 w.0.left) ∙ l.invariant.1)
+          (λ w. ap (λ o. bit_or o (all r)) (w.3 ∙ ap (bit_or l.out) w.2.ensures) ∙ over_taken f a.k n some l.invariant.0 l.out w.0.taken ∙ l.invariant.1)
+          (λ w. ap (λ o. bit_or o (all r)) w.1 ∙ ap (bit_or l.out) (over_left f a.k n some l.invariant.0 w.0.left) ∙ l.invariant.1)
           c.if1.branch,
     )
 

@@ -17,7 +17,7 @@ use Rattle.profile.specs.Traces.{independent}
 use Rattle.profile.proofs.Lists.{both, is_false, is_true, snd_of}
 use Rattle.theory.proofs.SetLoops.{rest_first}
 use Rattle.events.specs.Events.{comes_next?, keepers, lets_by?}
-use Rattle.events.proofs.Keepers.{Left, keepers_own, left-first, left-next, left_none, left-stops}
+use Rattle.events.proofs.Keepers.{Left, keepers_own, left_first, left_next, left_none, left_stops}
 use Rattle.letters.specs.Letters.{next_by, place_by}
 use Rattle.letters.proofs.Additions.{at_next_by}
 use Rattle.letters.proofs.tested_letter.Statement.{statement}
@@ -56,7 +56,7 @@ loop-holds c =
     let may = independent a.masks.now in
     let next = next_by a.k a.starts.now a.places.now a.t.now in
     let e : at a.keepers.now a.x ≡ keepers may a.k a.x = ap (λ l. at l a.x) s.requires.1 ∙ keepers_own may a.k a.x (omega arith) in
-    subst (Left may a.k a.x (at next)) (sym e) (left-first may a.k a.x (at next) s.requires.0.0)
+    subst (Left may a.k a.x (at next)) (sym e) (left_first may a.k a.x (at next) s.requires.0.0)
 
 cast-y : tie.Need-overflow-cast-y invariant-loop decreases-loop
 cast-y c = omega (arith, trailing_le 32 c.before.loop.rest)
@@ -79,7 +79,7 @@ returns-2 c =
     let q = ltb (at next a.x) a.n in
     let h : at next y ≤ at next a.x = omega (arith, c.before.place-of2.ensures, c.before.before.before.before.before.before.place_of.ensures, own, his) in
     sym (ap (λ b. cond b (2 ^ a.x) 0) (is_false (q && all p (below a.k)) (not_T (q && all p (below a.k)) (λ t.
-    left-stops (independent a.masks.now) a.k a.x (at next) l.rest (omega arith) l.invariant h (snd_of q (all p (below a.k)) t)))))
+    left_stops (independent a.masks.now) a.k a.x (at next) l.rest (omega arith) l.invariant h (snd_of q (all p (below a.k)) t)))))
 
 sub-rest : tie.Need-overflow-sub-rest invariant-loop decreases-loop
 sub-rest c = search rules
@@ -97,7 +97,7 @@ loop-again c =
     let lt = (l.invariant.keep y (rest_first l.rest (omega arith) l.invariant.small)).0 in
     let his : at next y ≡ place_by a.starts.now a.places.now a.t.now y = at_next_by a.k a.starts.now a.places.now a.t.now y lt in
     let h : at next a.x < at next y = omega (arith, c.before.place-of2.ensures, c.before.before.before.before.before.before.place_of.ensures, own, his) in
-    left-next (independent a.masks.now) a.k a.x (at next) l.rest (omega arith) l.invariant h
+    left_next (independent a.masks.now) a.k a.x (at next) l.rest (omega arith) l.invariant h
 
 cast-result : tie.Need-overflow-cast-result invariant-loop decreases-loop
 cast-result c = search rules

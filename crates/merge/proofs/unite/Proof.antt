@@ -16,7 +16,7 @@ use Rattle.records.specs.Records.{forward_at, records_in}
 use Rattle.rows.proofs.Rows.{forward_same}
 use Rattle.merge.specs.declared.Handed.{Handed}
 use Rattle.merge.specs.Merge.{inherited, other_letters, passing, united}
-use Rattle.parents.proofs.Unions.{over-left, over_none, over-taken}
+use Rattle.parents.proofs.Unions.{over_left, over_none, over_taken}
 use borrow.Author.Rules.{rules}
 use Rattle.merge.proofs.unite.Statement.{statement}
 use Rattle.merge.proofs.unite.Tie as tie
@@ -81,16 +81,16 @@ loop-again c =
           let lt = w.0.taken in
           let same = forward_same a.k a.s a.moves.now a.rows.now b.requires.1.1.0 (omega arith) (omega arith) x lt (forward_at a.level.now (at a.cursors.now x)) in
           ap (λ (o : Handed). bit_or o.forward (U r)) w.3 ∙ ap (λ v. bit_or v (U r)) (w.2.ensures.0 ∙ ap (bit_or l.out.forward) same)
-          ∙ over-taken f a.k n some small l.out.forward lt ∙ l.invariant.2)
-          (λ w. ap (λ (o : Handed). bit_or o.forward (U r)) w.1 ∙ ap (bit_or l.out.forward) (over-left f a.k n some small w.0.left) ∙ l.invariant.2)
+          ∙ over_taken f a.k n some small l.out.forward lt ∙ l.invariant.2)
+          (λ w. ap (λ (o : Handed). bit_or o.forward (U r)) w.1 ∙ ap (bit_or l.out.forward) (over_left f a.k n some small w.0.left) ∙ l.invariant.2)
           c.if1.branch,
       ⊎_elim
-          (λ w. ap (λ (o : Handed). bit_or o.letters (I r)) w.3 ∙ ap (λ v. bit_or v (I r)) w.2.ensures.1 ∙ over-taken g a.k n some small l.out.letters w.0.taken ∙ l.invariant.3)
-          (λ w. ap (λ (o : Handed). bit_or o.letters (I r)) w.1 ∙ ap (bit_or l.out.letters) (over-left g a.k n some small w.0.left) ∙ l.invariant.3)
+          (λ w. ap (λ (o : Handed). bit_or o.letters (I r)) w.3 ∙ ap (λ v. bit_or v (I r)) w.2.ensures.1 ∙ over_taken g a.k n some small l.out.letters w.0.taken ∙ l.invariant.3)
+          (λ w. ap (λ (o : Handed). bit_or o.letters (I r)) w.1 ∙ ap (bit_or l.out.letters) (over_left g a.k n some small w.0.left) ∙ l.invariant.3)
           c.if1.branch,
       ⊎_elim
-          (λ w. ap (λ (o : Handed). bit_or o.passed (P r)) w.3 ∙ ap (λ v. bit_or v (P r)) w.2.ensures.2 ∙ over-taken m a.k n some small l.out.passed w.0.taken ∙ l.invariant.4)
-          (λ w. ap (λ (o : Handed). bit_or o.passed (P r)) w.1 ∙ ap (bit_or l.out.passed) (over-left m a.k n some small w.0.left) ∙ l.invariant.4)
+          (λ w. ap (λ (o : Handed). bit_or o.passed (P r)) w.3 ∙ ap (λ v. bit_or v (P r)) w.2.ensures.2 ∙ over_taken m a.k n some small l.out.passed w.0.taken ∙ l.invariant.4)
+          (λ w. ap (λ (o : Handed). bit_or o.passed (P r)) w.1 ∙ ap (bit_or l.out.passed) (over_left m a.k n some small w.0.left) ∙ l.invariant.4)
           c.if1.branch,
     )
 

@@ -7,7 +7,7 @@ use borrow.Author.Rules.{rules}
 use borrow.Author.Count.{below_more, below_none}
 use Rattle.profile.specs.Traces.{independent}
 use Rattle.newcomers.specs.Newcomers.{allows?}
-use borrow.Author.Tests.{not_false, not-true}
+use borrow.Author.Tests.{not-false, not-true}
 use Rattle.newcomers.proofs.Loops.{all_no, all_yes}
 use Rattle.newcomers.proofs.joins.Statement.{statement}
 use Rattle.newcomers.proofs.joins.Tie as tie
@@ -46,7 +46,7 @@ loop-less c = search rules
 loop-again : tie.Need-loop-preserved invariant-loop decreases-loop
 loop-again c =
     let l = c.before.before.before.before.loop in
-    (omega arith, below_more _ _ l.invariant.1 (sym c.before.allows.ensures ∙ not_false _ c.if1.false))
+    (omega arith, below_more _ _ l.invariant.1 (sym c.before.allows.ensures ∙ not-false _ c.if1.false))
 
 returns-2 : tie.Need-returns-2 invariant-loop decreases-loop
 returns-2 c =

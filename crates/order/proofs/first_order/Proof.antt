@@ -4,7 +4,7 @@ use mathlib.Core.Path.{sym, ◌∙◌, ap}
 use native.Mathlib.Omega.{arith}
 use lib.ListN.{length}
 use Rattle.profile.specs.Refusals.{checked}
-use Rattle.order.proofs.Answers.{answers, ordered-log, ordered-none, ordered_relation, ordered-short}
+use Rattle.order.proofs.Answers.{answers, ordered_log, ordered_none, ordered_relation, ordered_short}
 use Rattle.order.proofs.first_order.Statement.{statement}
 use Rattle.order.proofs.first_order.Tie as tie
 
@@ -33,7 +33,7 @@ returns-2 : tie.Need-returns-2
 returns-2 c =
     let a = c.before.before.before.before.before.before.before.before.before.before.args in
     answers a.k a.masks.now a.log.now a.out.now
-    (ordered-log a.k a.masks.now a.log.now (length a.out.now) (sym c.before.before.before.before.before.before.check-relation.ensures ∙ ap checked c.before.before.before.before.enum_told.given.1) (sym c.before.before.before.check-log.ensures ∙ ap checked c.before.letters.given.1))
+    (ordered_log a.k a.masks.now a.log.now (length a.out.now) (sym c.before.before.before.before.before.before.check-relation.ensures ∙ ap checked c.before.before.before.before.enum_told.given.1) (sym c.before.before.before.check-log.ensures ∙ ap checked c.before.letters.given.1))
 
 enum-told-2 : tie.Need-enum-told-2
 enum-told-2 c = search rules
@@ -42,7 +42,7 @@ returns-3 : tie.Need-returns-3
 returns-3 c =
     let a = c.before.before.before.before.before.before.before.before.before.before.args in
     answers a.k a.masks.now a.log.now a.out.now
-    (ordered-short a.k a.masks.now a.log.now (length a.out.now) (sym c.before.before.before.before.before.before.check-relation.ensures ∙ ap checked c.before.before.before.before.enum_told.given.1) (sym c.before.before.before.check-log.ensures ∙ ap checked c.before.enum-told2.given.1) (omega arith))
+    (ordered_short a.k a.masks.now a.log.now (length a.out.now) (sym c.before.before.before.before.before.before.check-relation.ensures ∙ ap checked c.before.before.before.before.enum_told.given.1) (sym c.before.before.before.check-log.ensures ∙ ap checked c.before.enum-told2.given.1) (omega arith))
 
 put-first-requires : tie.Need-put-first-requires
 put-first-requires c κs = (sym c.before.before.before.before.before.before.before.check-relation.ensures ∙ ap checked c.before.before.before.before.before.enum_told.given.1, sym c.before.before.before.before.check-log.ensures ∙ ap checked c.before.before.enum-told2.given.1, omega arith)
@@ -53,7 +53,7 @@ same_length c = search rules
 returns-4 : tie.Need-returns-4
 returns-4 c =
     let a = c.before.before.before.before.before.before.before.before.before.before.before.before.before.before.args in
-    let n = answers a.k a.masks.now a.log.now a.out.now (ordered-none a.k a.masks.now a.log.now (length a.out.now) (sym c.before.before.before.before.before.before.before.before.before.before.check-relation.ensures ∙ ap checked c.before.before.before.before.before.before.before.before.enum_told.given.1) (sym c.before.before.before.before.before.before.before.check-log.ensures ∙ ap checked c.before.before.before.before.before.enum-told2.given.1) (omega (arith, c.before.before.before.before.if1.false))) in
+    let n = answers a.k a.masks.now a.log.now a.out.now (ordered_none a.k a.masks.now a.log.now (length a.out.now) (sym c.before.before.before.before.before.before.before.before.before.before.check-relation.ensures ∙ ap checked c.before.before.before.before.before.before.before.before.enum_told.given.1) (sym c.before.before.before.before.before.before.before.check-log.ensures ∙ ap checked c.before.before.before.before.before.enum-told2.given.1) (omega (arith, c.before.before.before.before.if1.false))) in
     (n.0, c.before.before.put_first.ensures ∙ n.1)
 
 pub first-order-spec : {M : Type 1} → statement M

@@ -4,7 +4,7 @@ use mathlib.Core.Path.{◌≡◌, refl, ◌∙◌, ap, ap₂}
 use mathlib.Core.List.{List, ◌++◌, map, append-nil}
 use Prim.Native.Nat.{ℕ, ◌+◌, ◌-◌, ◌≤◌}
 use lib.ListN.{length, get_or, drop, set, length-set}
-use lib.Seq.{drop_length}
+use lib.Seq.{drop-length}
 use Rattle.profile.specs.Lists.{below}
 use Rattle.theory.proofs.Fronts.{front_put}
 use native.Mathlib.Omega.{arith}
@@ -55,7 +55,7 @@ returns c =
     let l = c.before.loop in
     let e : l.x ≡ length a.next.now = omega arith in
     l.invariant.2 ∙ ap (λ n. map (first_of a.starts.now a.places.now) (below n) ++ drop n a.next.now) e
-    ∙ ap (λ m. map (first_of a.starts.now a.places.now) (below (length a.next.now)) ++ m) (drop_length a.next.now) ∙ append-nil _
+    ∙ ap (λ m. map (first_of a.starts.now a.places.now) (below (length a.next.now)) ++ m) (drop-length a.next.now) ∙ append-nil _
 
 mul_next : tie.Need-overflow-mul-next invariant-loop decreases-loop
 mul_next c = search rules

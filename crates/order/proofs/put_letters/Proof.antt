@@ -8,7 +8,7 @@ use Rattle.profile.specs.Limits.{most_letters}
 use Rattle.profile.specs.Lists.{below}
 use Rattle.profile.specs.Refusals.{longest}
 use Rattle.theory.proofs.Refusals.{log_at, relation_at}
-use Rattle.order.proofs.First.{Chosen, chosen_all, chosen-below, chosen-fits, chosen_length, chosen_more, chosen_none, first_coming}
+use Rattle.order.proofs.First.{Chosen, chosen_all, chosen_below, chosen_fits, chosen_length, chosen_more, chosen_none, first_coming}
 use native.Mathlib.Omega.{arith}
 use Rattle.order.proofs.put_letters.Statement.{statement}
 use Rattle.order.proofs.put_letters.Tie as tie
@@ -46,9 +46,9 @@ letter_of c =
     let a = c.before.before.before.before.before.before.before.before.before.before.before.before.before.before.before.args in
     let p = c.before.before.before.before.before.before.before.before.before.before.before.before.before.before.before.requires.0 in
     let l = c.before.before.before.loop in
-    let below = chosen-below a.k a.masks.now a.log.now (relation_at a.k a.masks.now p.relation) (log_at a.k a.log.now p.log) a.out.now l.next l.used l.out l.t l.invariant.4
+    let below = chosen_below a.k a.masks.now a.log.now (relation_at a.k a.masks.now p.relation) (log_at a.k a.log.now p.log) a.out.now l.next l.used l.out l.t l.invariant.4
     (omega arith) c.least-next.result c.least-next.ensures in
-    let fits = chosen-fits a.k a.masks.now a.log.now (relation_at a.k a.masks.now p.relation) (log_at a.k a.log.now p.log) a.out.now l.next l.used l.out l.t l.invariant.4
+    let fits = chosen_fits a.k a.masks.now a.log.now (relation_at a.k a.masks.now p.relation) (log_at a.k a.log.now p.log) a.out.now l.next l.used l.out l.t l.invariant.4
     (omega arith) c.least-next.result c.least-next.ensures in
     let long = chosen_length a.k a.masks.now a.log.now (relation_at a.k a.masks.now p.relation) (log_at a.k a.log.now p.log) a.out.now l.next l.used l.out l.t l.invariant.4 in
     (below, (relation_at a.k a.masks.now p.relation).most, omega (arith, p.long), omega arith, fits)

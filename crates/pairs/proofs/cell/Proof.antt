@@ -4,7 +4,7 @@ use Rattle.profile.specs.Tables.{count_field, layout}
 use Rattle.records.specs.Records.{counts_at}
 use Rattle.gaps.specs.Gaps.{GapIs}
 use Rattle.pairs.specs.Pairs.{Right}
-use Rattle.pairs.proofs.Cells.{cell_apart, cell-letter, cell-outside}
+use Rattle.pairs.proofs.Cells.{cell_apart, cell_letter, cell_outside}
 use native.Mathlib.Omega.{arith}
 use borrow.Author.Rules.{rules}
 use Rattle.pairs.proofs.cell.Statement.{statement}
@@ -34,7 +34,7 @@ returns c =
     let a = s.args in
     let g = c.before.before.gap-between in
     let q = s.requires.1 in
-    cell-outside a.k a.masks.now a.log.now a.table.now a.records s.requires.0 a.rules.now a.i a.j (omega arith) q.1
+    cell_outside a.k a.masks.now a.log.now a.table.now a.records s.requires.0 a.rules.now a.i a.j (omega arith) q.1
     (subst (GapIs a.k (count_field layout (counts_at a.table.now a.i)) (count_field layout (counts_at a.table.now a.j))) c.enum_told.given.1 g.ensures)
 
 returns-2 : tie.Need-returns-2
@@ -44,7 +44,7 @@ returns-2 c =
     let g = c.before.before.before.before.gap-between in
     let q = s.requires.1 in
     subst (Right a.k a.masks.now a.rules.now a.log.now a.i a.j) (sym c.lettered.ensures)
-    (cell-letter a.k a.masks.now a.log.now a.table.now a.records s.requires.0 a.rules.now a.i a.j c.before.before.between.given.0.0 (omega arith) q.1
+    (cell_letter a.k a.masks.now a.log.now a.table.now a.records s.requires.0 a.rules.now a.i a.j c.before.before.between.given.0.0 (omega arith) q.1
     (subst (GapIs a.k (count_field layout (counts_at a.table.now a.i)) (count_field layout (counts_at a.table.now a.j))) c.before.before.between.given.1 g.ensures))
 
 returns-3 : tie.Need-returns-3

@@ -6,7 +6,7 @@ use Rattle.gaps.specs.Gaps.{GapIs}
 use Rattle.gaps.specs.declared.Gap.{Gap}
 use Rattle.gaps.specs.declared.Gap.TheVariants.{Letter}
 use Rattle.pairs.proofs.Cells.{total_is}
-use Rattle.parts.proofs.Steps.{fits_sum, step_letter, step-met, step_outside, step-parts, total_small}
+use Rattle.parts.proofs.Steps.{fits_sum, step_letter, step_met, step_outside, step_parts, total_small}
 use native.Mathlib.Omega.{arith}
 use borrow.Author.Rules.{rules}
 use Rattle.parts.proofs.next_step.Statement.{statement}
@@ -44,7 +44,7 @@ parts-of-requires c κs =
     let g = c.before.before.gap-between in
     let q = s.requires.1 in
     let F : Gap → Type 0 = GapIs a.k (count_field layout (counts_at a.table.now a.i)) (count_field layout (counts_at a.table.now a.j)) in
-    ((q.0, q.1, s.requires.0.0.few, s.requires.0.1.room), step-parts a.k a.masks.now a.log.now a.table.now a.records s.requires.0.0 a.rules.now a.sets.now s.requires.0.1 a.i a.j a.n q.0 q.1 (subst F c.enum-told2.given.1 g.ensures) q.2)
+    ((q.0, q.1, s.requires.0.0.few, s.requires.0.1.room), step_parts a.k a.masks.now a.log.now a.table.now a.records s.requires.0.0 a.rules.now a.sets.now s.requires.0.1 a.i a.j a.n q.0 q.1 (subst F c.enum-told2.given.1 g.ensures) q.2)
 
 total-at-requires-2 : tie.Need-total-at-requires-2
 total-at-requires-2 c κs = search rules
@@ -102,7 +102,7 @@ returns-3 c =
     let q = s.requires.1 in
     let m = c.before.before.before.parts-of in
     let F : Gap → Type 0 = GapIs a.k (count_field layout (counts_at a.table.now a.i)) (count_field layout (counts_at a.table.now a.j)) in
-    let v = step-met a.k a.masks.now a.log.now a.table.now a.records s.requires.0.0 a.rules.now a.sets.now s.requires.0.1 a.i a.j a.n m.result.at m.result.first m.result.second q.1 m.ensures.0 m.ensures.1 m.ensures.2 in
+    let v = step_met a.k a.masks.now a.log.now a.table.now a.records s.requires.0.0 a.rules.now a.sets.now s.requires.0.1 a.i a.j a.n m.result.at m.result.first m.result.second q.1 m.ensures.0 m.ensures.1 m.ensures.2 in
     (omega (arith, m.ensures.0), m.ensures.1, v.0, v.1, v.2)
 
 pub next-step-spec : {M : Type 1} → statement M

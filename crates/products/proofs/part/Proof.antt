@@ -1,6 +1,6 @@
 -- `products::part` meets its contract: a letter past the counts has 0.
 use borrow.Author.Rules.{rules}
-use borrow.Author.Tests.{not-true, not_false}
+use borrow.Author.Tests.{not-true, not-false}
 use mathlib.Core.Path.{sym, ◌∙◌, ap}
 use mathlib.Core.Bool.{cond}
 use native.Mathlib.Omega.{arith}
@@ -20,7 +20,7 @@ returns c =
 returns-2 : tie.Need-returns-2
 returns-2 c =
     let a = c.before.before.before.before.args in
-    (sym (ap (λ b. cond b (at a.counts.now a.x) 0) (sym c.before.before.has.ensures ∙ not_false _ c.before.if1.false) ∙ get_or-eq_default a.counts.now 0 c.if2.true), omega arith)
+    (sym (ap (λ b. cond b (at a.counts.now a.x) 0) (sym c.before.before.has.ensures ∙ not-false _ c.before.if1.false) ∙ get_or-eq_default a.counts.now 0 c.if2.true), omega arith)
 
 mul-result : tie.Need-overflow-mul-result
 mul-result c = search rules
@@ -34,7 +34,7 @@ cast-result c = omega (arith, c.shared-slice-known2.given c.before.before.before
 returns-3 : tie.Need-returns-3
 returns-3 c =
     let a = c.before.before.before.before.before.args in
-    (sym (ap (λ b. cond b (at a.counts.now a.x) 0) (sym c.before.before.before.has.ensures ∙ not_false _ c.before.before.if1.false)), omega (arith, c.shared-slice-known2.given a.x))
+    (sym (ap (λ b. cond b (at a.counts.now a.x) 0) (sym c.before.before.before.has.ensures ∙ not-false _ c.before.before.if1.false)), omega (arith, c.shared-slice-known2.given a.x))
 
 pub part-spec : {M : Type 1} → statement M
 part-spec =

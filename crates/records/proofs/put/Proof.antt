@@ -4,7 +4,7 @@ use mathlib.Core.List.{[], ◌∷◌, ◌++◌, append_assoc}
 use Prim.Native.Nat.{suc, ◌+◌, ◌*◌}
 use native.Mathlib.Omega.{arith}
 use lib.ListN.{drop, length-set, take}
-use lib.Seq.{sets_eq}
+use lib.Seq.{sets-eq}
 use Rattle.counts.specs.Counts.{words}
 use borrow.Author.Rules.{rules}
 use Rattle.records.proofs.put.Statement.{statement}
@@ -120,7 +120,7 @@ returns c =
     let e9 : at + 9 ≡ suc (suc (suc (suc (suc (suc (suc (suc (suc at)))))))) = omega arith in
     let l = c.args.part.now in
     let v = words c.args.c ++ (c.args.forward ∷ c.args.last ∷ []) in
-    rw (e1, e2, e3, e4, e5, e6, e7, e8, e9) (sets_eq v l at (omega arith) ∙ append_assoc (take at l) v (drop (at + 10) l))
+    rw (e1, e2, e3, e4, e5, e6, e7, e8, e9) (sets-eq v l at (omega arith) ∙ append_assoc (take at l) v (drop (at + 10) l))
 
 pub put_spec : {M : Type 1} → statement M
 put_spec =

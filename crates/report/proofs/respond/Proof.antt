@@ -5,7 +5,7 @@ use mathlib.Core.Path.{refl, sym, ◌∙◌}
 use Prim.Native.Nat.{◌≤◌}
 use native.Mathlib.Omega.{arith}
 use lib.ListN.{length}
-use Rattle.report.proofs.Printing.{answer-file, answer-long, answer_short}
+use Rattle.report.proofs.Printing.{answer_file, answer_long, answer_short}
 use Rattle.report.proofs.Texts.{put_front}
 use Rattle.report.proofs.respond.Statement.{statement}
 use Rattle.report.proofs.respond.Tie as tie
@@ -30,7 +30,7 @@ returns-2 : tie.Need-returns-2
 returns-2 c =
     let a = c.before.before.before.before.before.before.before.before.before.before.args in
     let p = c.before.before.put-bytes.ensures in
-    let t = answer-long a.input.now a.work.now a.work.now (length a.out.now) c.before.before.before.before.before.before.if1.false c.before.before.before.before.before.if2.true refl in
+    let t = answer_long a.input.now a.work.now a.work.now (length a.out.now) c.before.before.before.before.before.before.if1.false c.before.before.before.before.before.if2.true refl in
     record { text = (put_front p).0 ∙ sym t.0; rest = (p.room, (put_front p).1); table = t.1 }
 
 put-file-requires : tie.Need-put-file-requires
@@ -47,7 +47,7 @@ returns-3 c =
     let a = c.before.before.before.before.before.before.before.before.before.before.before.before.args in
     let r = c.before.before.before.before.put-file in
     let p = r.ensures.0 in
-    let t = answer-file a.input.now a.work.now r.new.1.1.0 (length a.out.now) c.before.before.before.before.before.before.before.before.if1.false c.before.before.before.before.before.before.before.if2.false r.ensures.1 in
+    let t = answer_file a.input.now a.work.now r.new.1.1.0 (length a.out.now) c.before.before.before.before.before.before.before.before.if1.false c.before.before.before.before.before.before.before.if2.false r.ensures.1 in
     record { text = (put_front p).0 ∙ sym t.0; rest = (p.room, (put_front p).1); table = t.1 }
 
 pub respond-spec : {M : Type 1} → statement M

@@ -4,7 +4,7 @@ use Prim.Native.Nat.{◌^◌, ◌<◌, ◌-◌}
 use lib.Bits.{bit_or, and_le_r}
 use lib.Count.{trailing_le, count_trailing_zeros}
 use lib.ListN.{length, get_or, length-set}
-use Rattle.rulesets.proofs.Spreads.{Spreading, lowest-name, spread_end, spread-more, spread_start}
+use Rattle.rulesets.proofs.Spreads.{Spreading, lowest_name, spread_end, spread_more, spread_start}
 use native.Mathlib.Omega.{arith}
 use borrow.Author.Rules.{rules}
 use Rattle.rulesets.proofs.spread.Statement.{statement}
@@ -31,7 +31,7 @@ slice-read-acc c =
     let l = c.before.before.loop in
     let n = l.rest in
     let s = l.invariant.2 in
-    let lt = lowest-name a.x a.y a.acc.now l.acc n (omega arith) (omega arith) s (omega arith) in
+    let lt = lowest_name a.x a.y a.acc.now l.acc n (omega arith) (omega arith) s (omega arith) in
     omega arith
 
 mul-acc-2 : tie.Need-overflow-mul-acc-2 invariant-loop decreases-loop
@@ -43,7 +43,7 @@ slice-write-acc c =
     let l = c.before.before.loop in
     let n = l.rest in
     let s = l.invariant.2 in
-    let lt = lowest-name a.x a.y a.acc.now l.acc n (omega arith) (omega arith) s (omega arith) in
+    let lt = lowest_name a.x a.y a.acc.now l.acc n (omega arith) (omega arith) s (omega arith) in
     omega arith
 
 sub-rest : tie.Need-overflow-sub-rest invariant-loop decreases-loop
@@ -58,8 +58,8 @@ loop-again c =
     let l = c.before.before.loop in
     let n = l.rest in
     let s = l.invariant.2 in
-    let lt = lowest-name a.x a.y a.acc.now l.acc n (omega arith) (omega arith) s (omega arith) in
-    (omega (arith, and_le_r n (n - 1)), length-set l.acc (count_trailing_zeros 32 n) (bit_or (get_or l.acc (count_trailing_zeros 32 n) 0) a.y) ∙ l.invariant.1, spread-more a.x a.y a.acc.now l.acc n (omega arith) (omega arith) s (omega arith))
+    let lt = lowest_name a.x a.y a.acc.now l.acc n (omega arith) (omega arith) s (omega arith) in
+    (omega (arith, and_le_r n (n - 1)), length-set l.acc (count_trailing_zeros 32 n) (bit_or (get_or l.acc (count_trailing_zeros 32 n) 0) a.y) ∙ l.invariant.1, spread_more a.x a.y a.acc.now l.acc n (omega arith) (omega arith) s (omega arith))
 
 same_length : tie.Need-same-length invariant-loop decreases-loop
 same_length c = search rules

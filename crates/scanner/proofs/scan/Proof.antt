@@ -3,10 +3,10 @@ use mathlib.Core.Path.{◌≡◌, sym, ◌∙◌, ap}
 use Prim.Native.Nat.{◌+◌, ◌-◌, ◌≤◌, ◌<◌}
 use native.Mathlib.Omega.{arith}
 use lib.ListN.{length, get_or, drop}
-use borrow.Author.Tests.{not_false, not-true}
+use borrow.Author.Tests.{not-false, not-true}
 use Rattle.expressions.specs.Passes.{after, deepest, letters_of, next, sign}
 use Rattle.scanner.specs.Scan.{place_if, scanned_as}
-use Rattle.scanner.proofs.Scans.{Passed, at_most_one, passed-goes, passed-open, passed_right, passed_start, passed-stops, passed-wanting}
+use Rattle.scanner.proofs.Scans.{Passed, at_most_one, passed_goes, passed_open, passed_right, passed_start, passed_stops, passed_wanting}
 use borrow.Author.Rules.{rules}
 use Rattle.scanner.proofs.scan.Statement.{statement}
 use Rattle.scanner.proofs.scan.Tie as tie
@@ -31,7 +31,7 @@ returns c =
     let S = c.before.before.before.before.before.before.before in
     let l = c.before.before.before.before.before.loop in
     let x = c.before.before.step.result in
-    passed-stops S.args.k S.args.text.now l.want l.depth l.deepest l.letters l.i l.invariant.1 (omega arith)
+    passed_stops S.args.k S.args.text.now l.want l.depth l.deepest l.letters l.i l.invariant.1 (omega arith)
     (sym c.before.before.step.ensures ∙ ap (λ g. place_if g x.want x.depth) (not-true x.good c.if1.true))
 
 larger-requires : tie.Need-larger-requires invariant-loop decreases-loop
@@ -57,9 +57,9 @@ loop-again c =
     let S = c.before.before.before.before.before.before.before.before.before in
     let l = c.before.before.before.before.before.before.before.loop in
     let x = c.before.before.before.before.step.result in
-    let q = sym c.before.before.before.before.step.ensures ∙ ap (λ g. place_if g x.want x.depth) (not_false x.good c.before.before.if1.false) in (
+    let q = sym c.before.before.before.before.step.ensures ∙ ap (λ g. place_if g x.want x.depth) (not-false x.good c.before.before.if1.false) in (
       omega arith,
-      passed-goes S.args.k S.args.text.now l.want l.depth l.deepest l.letters l.i l.invariant.1 (omega arith) S.requires x.want x.depth _ _ q c.before.larger.ensures
+      passed_goes S.args.k S.args.text.now l.want l.depth l.deepest l.letters l.i l.invariant.1 (omega arith) S.requires x.want x.depth _ _ q c.before.larger.ensures
           (ap (λ n. l.letters + n) c.letters-in.ensures),
     )
 
@@ -67,13 +67,13 @@ returns-2 : tie.Need-returns-2 invariant-loop decreases-loop
 returns-2 c =
     let S = c.before.before.before.before in
     let l = c.before.before.loop in
-    passed-wanting S.args.k S.args.text.now l.want l.depth l.deepest l.letters l.i l.invariant.1 (omega arith) c.if2.true
+    passed_wanting S.args.k S.args.text.now l.want l.depth l.deepest l.letters l.i l.invariant.1 (omega arith) c.if2.true
 
 returns-3 : tie.Need-returns-3 invariant-loop decreases-loop
 returns-3 c =
     let S = c.before.before.before.before.before in
     let l = c.before.before.before.loop in
-    passed-open S.args.k S.args.text.now l.want l.depth l.deepest l.letters l.i l.invariant.1 (omega arith) c.before.if2.false c.if3.true
+    passed_open S.args.k S.args.text.now l.want l.depth l.deepest l.letters l.i l.invariant.1 (omega arith) c.before.if2.false c.if3.true
 
 returns-4 : tie.Need-returns-4 invariant-loop decreases-loop
 returns-4 c =

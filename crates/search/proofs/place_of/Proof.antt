@@ -8,7 +8,7 @@ use native.Mathlib.Omega.{arith}
 use Rattle.counts.specs.Counts.{words}
 use Rattle.records.specs.Records.{counts_at, records_in}
 use Rattle.search.specs.Search.{Ordered, stands_before?}
-use Rattle.search.proofs.Halves.{Between, between-down, between_end, between_start, between-up}
+use Rattle.search.proofs.Halves.{Between, between_down, between_end, between_start, between_up}
 use Rattle.search.proofs.place_of.Statement.{statement}
 use Rattle.search.proofs.place_of.Tie as tie
 
@@ -54,7 +54,7 @@ loop-again c =
     let h : m < records_in a.t.now = omega arith in (
       omega arith,
       l.invariant.1,
-      λ o. subst (λ n. Between a.t.now (words a.c) n l.high) (sym (add-one m)) (between-up a.t.now (words a.c) o l.low l.high m (l.invariant.2 o) h
+      λ o. subst (λ n. Between a.t.now (words a.c) n l.high) (sym (add-one m)) (between_up a.t.now (words a.c) o l.low l.high m (l.invariant.2 o) h
           (rw (sym (c.before.stands-before.ensures ∙ ap (λ v. stands_before? v (words a.c)) c.before.before.counts-at.ensures) ∙ c.if1.true) tt)),
     )
 
@@ -68,7 +68,7 @@ loop-again-2 c =
     let m = l.low + (l.high - l.low) / 2 in (
       omega arith,
       omega arith,
-      λ o. between-down a.t.now (words a.c) o l.low l.high m (l.invariant.2 o)
+      λ o. between_down a.t.now (words a.c) o l.low l.high m (l.invariant.2 o)
           (rw (sym (c.before.stands-before.ensures ∙ ap (λ v. stands_before? v (words a.c)) c.before.before.counts-at.ensures) ∙ c.if1.false) tt),
     )
 

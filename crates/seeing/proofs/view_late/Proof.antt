@@ -5,7 +5,7 @@ use Rattle.profile.specs.Automata.{profile_of}
 use Rattle.theory.proofs.Refusals.{profile_at}
 use Rattle.verdict.specs.Verdict.{refused_by}
 use Rattle.verdict.proofs.Promises.{told_prefixes}
-use Rattle.seeing.proofs.Told.{hulls-fit, hulls-table, other_table}
+use Rattle.seeing.proofs.Told.{hulls_fit, hulls_table, other_table}
 use borrow.Author.Rules.{rules}
 use Rattle.seeing.proofs.view_late.Statement.{statement}
 use Rattle.seeing.proofs.view_late.Tie as tie
@@ -27,7 +27,7 @@ put-hulls-requires c κs =
     let j = c.before.before.before.before.before.before.before.before.judge-cleared in
     let T = j.new.1.1.1.1.1.0 in
     let g = c.before.before.told2.given in
-    (omega (arith, hulls-fit p a.log.now a.order.now a.work.now a.reach.now S.requires.0 S.requires.1 j.result j.ensures.0 (ap refused_by g.1) g.0.0 (ap told_prefixes g.1), j.auto.1.1.1.1.1.0), (profile_at p S.requires.0.profile).states.1)
+    (omega (arith, hulls_fit p a.log.now a.order.now a.work.now a.reach.now S.requires.0 S.requires.1 j.result j.ensures.0 (ap refused_by g.1) g.0.0 (ap told_prefixes g.1), j.auto.1.1.1.1.1.0), (profile_at p S.requires.0.profile).states.1)
 
 enum-known-told-3 : tie.Need-enum-known-told-3
 enum-known-told-3 c = search rules
@@ -40,7 +40,7 @@ put-hulls-requires-2 c κs =
     let j = c.before.before.before.before.before.before.before.before.judge-cleared in
     let T = j.new.1.1.1.1.1.0 in
     let g = c.before.before.told3.given in
-    (omega (arith, hulls-fit p a.log.now a.order.now a.work.now a.reach.now S.requires.0 S.requires.1 j.result j.ensures.0 (ap refused_by g.1) g.0.0 (ap told_prefixes g.1), j.auto.1.1.1.1.1.0), (profile_at p S.requires.0.profile).states.1)
+    (omega (arith, hulls_fit p a.log.now a.order.now a.work.now a.reach.now S.requires.0 S.requires.1 j.result j.ensures.0 (ap refused_by g.1) g.0.0 (ap told_prefixes g.1), j.auto.1.1.1.1.1.0), (profile_at p S.requires.0.profile).states.1)
 
 same_length : tie.Need-same-length
 same_length c = search rules
@@ -72,7 +72,7 @@ returns-2 c =
     let j = c.before.before.before.before.before.before.before.before.before.before.before.judge-cleared in
     let T = j.new.1.1.1.1.1.0 in
     let g = c.before.before.before.before.before.told2.given in
-    (sym g.1 ∙ j.ensures.0, (j.ensures.1.0, hulls-table p a.log.now a.order.now a.work.now a.reach.now S.requires.0 S.requires.1 j.result j.ensures.0 (ap refused_by g.1) g.0.0 (ap told_prefixes g.1) T c.before.before.put-hulls.new.0 j.ensures.1.1 c.before.before.put-hulls.ensures))
+    (sym g.1 ∙ j.ensures.0, (j.ensures.1.0, hulls_table p a.log.now a.order.now a.work.now a.reach.now S.requires.0 S.requires.1 j.result j.ensures.0 (ap refused_by g.1) g.0.0 (ap told_prefixes g.1) T c.before.before.put-hulls.new.0 j.ensures.1.1 c.before.before.put-hulls.ensures))
 
 same-length-5 : tie.Need-same-length-5
 same-length-5 c = search rules
@@ -88,7 +88,7 @@ returns-3 c =
     let j = c.before.before.before.before.before.before.before.before.before.before.before.judge-cleared in
     let T = j.new.1.1.1.1.1.0 in
     let g = c.before.before.before.before.before.told3.given in
-    (sym g.1 ∙ j.ensures.0, (j.ensures.1.0, hulls-table p a.log.now a.order.now a.work.now a.reach.now S.requires.0 S.requires.1 j.result j.ensures.0 (ap refused_by g.1) g.0.0 (ap told_prefixes g.1) T c.before.before.put-hulls2.new.0 j.ensures.1.1 c.before.before.put-hulls2.ensures))
+    (sym g.1 ∙ j.ensures.0, (j.ensures.1.0, hulls_table p a.log.now a.order.now a.work.now a.reach.now S.requires.0 S.requires.1 j.result j.ensures.0 (ap refused_by g.1) g.0.0 (ap told_prefixes g.1) T c.before.before.put-hulls2.new.0 j.ensures.1.1 c.before.before.put-hulls2.ensures))
 
 pub view-late-spec : {M : Type 1} → statement M
 view-late-spec =

@@ -6,7 +6,7 @@ use lib.ListN.{drop, length, replicate, take}
 use Rattle.profile.specs.Automata.{profile_of}
 use Rattle.views.specs.Views.{late}
 use Rattle.cleared.specs.Cleared.{Clean}
-use Rattle.seeing.proofs.Inner.{few_letters, few_moves, few_states, inner-answer, inner_clean, inner-is, inner-order, inner-table}
+use Rattle.seeing.proofs.Inner.{few_letters, few_moves, few_states, inner_answer, inner_clean, inner_is, inner_order, inner_table}
 use borrow.Author.Rules.{rules}
 use Rattle.seeing.proofs.view_seen.Statement.{statement}
 use Rattle.seeing.proofs.view_seen.Tie as tie
@@ -80,7 +80,7 @@ view-late-requires c κs =
     let z : ℕ = a.shape.s * a.shape.k - 0 in
     let i : z ≡ a.shape.s * a.shape.k = omega arith in
     let e = c.before.before.before.before.before.before.before.before.before.before.before.before.put-reach.ensures in
-    let same = inner-is p a.visible a.log.now S.requires.0 R (replicate 32 0) e (few_states p a.visible a.log.now S.requires.0) c.before.before.before.before.before.led-into.result L
+    let same = inner_is p a.visible a.log.now S.requires.0 R (replicate 32 0) e (few_states p a.visible a.log.now S.requires.0) c.before.before.before.before.before.led-into.result L
     (drop (a.shape.s * a.shape.k) (replicate 512 0)) z c.before.before.before.before.before.led-into.ensures i c.before.before.before.before.before.before.before.before.put-moves.ensures in
     (subst (λ x. Clean x a.log.now) (sym same) (inner_clean p a.visible a.log.now S.requires.0), S.requires.1)
 
@@ -102,11 +102,11 @@ returns c =
     let e = c.before.before.before.before.before.before.before.before.before.before.before.before.before.before.before.before.before.put-reach.ensures in
     let l = few_states p a.visible a.log.now S.requires.0 in
     let q = profile_of (record { k = a.shape.k; s = a.shape.s; start = a.shape.start; finals = c.before.before.before.before.before.before.before.before.before.before.led-into.result }) a.masks.now (take z L) in
-    let same : q ≡ late p a.visible = inner-is p a.visible a.log.now S.requires.0 R (replicate 32 0) e l c.before.before.before.before.before.before.before.before.before.before.led-into.result L
+    let same : q ≡ late p a.visible = inner_is p a.visible a.log.now S.requires.0 R (replicate 32 0) e l c.before.before.before.before.before.before.before.before.before.before.led-into.result L
     (drop (a.shape.s * a.shape.k) (replicate 512 0)) z c.before.before.before.before.before.before.before.before.before.before.led-into.ensures i c.before.before.before.before.before.before.before.before.before.before.before.before.before.put-moves.ensures in
     let w = c.before.before.before.before.view-late in (
-      w.ensures.0 ∙ inner-answer p a.visible a.log.now S.requires.0 R (replicate 32 0) e l q same (length a.order.now) (length a.work.now),
-      (w.ensures.1.0 ∙ inner-order p a.visible a.log.now S.requires.0 R (replicate 32 0) e l q same (length a.work.now) a.order.now, w.ensures.1.1 ∙ inner-table p a.visible a.log.now S.requires.0 R (replicate 32 0) e l q same (length a.order.now) a.work.now),
+      w.ensures.0 ∙ inner_answer p a.visible a.log.now S.requires.0 R (replicate 32 0) e l q same (length a.order.now) (length a.work.now),
+      (w.ensures.1.0 ∙ inner_order p a.visible a.log.now S.requires.0 R (replicate 32 0) e l q same (length a.work.now) a.order.now, w.ensures.1.1 ∙ inner_table p a.visible a.log.now S.requires.0 R (replicate 32 0) e l q same (length a.order.now) a.work.now),
     )
 
 pub view-seen-spec : {M : Type 1} → statement M

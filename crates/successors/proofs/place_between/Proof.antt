@@ -7,7 +7,7 @@ use mathlib.Core.Path.{◌≡◌, sym, ◌∙◌, ap, subst}
 use native.Mathlib.Omega.{arith}
 use Rattle.counts.specs.Counts.{words}
 use Rattle.search.specs.Search.{Ordered, stands_before?}
-use Rattle.search.proofs.Halves.{Between, between-down, between-up}
+use Rattle.search.proofs.Halves.{Between, between_down, between_up}
 use Rattle.successors.proofs.place_between.Statement.{statement}
 use Rattle.successors.proofs.place_between.Tie as tie
 
@@ -52,7 +52,7 @@ loop-again c =
       omega arith,
       omega arith,
       l.invariant.2,
-      λ o. subst (λ n. Between a.t.now (words a.c) n l.high) (sym (add-one m)) (between-up a.t.now (words a.c) o l.low l.high m (l.invariant.3 o) (omega arith)
+      λ o. subst (λ n. Between a.t.now (words a.c) n l.high) (sym (add-one m)) (between_up a.t.now (words a.c) o l.low l.high m (l.invariant.3 o) (omega arith)
           (rw (sym (c.before.stands-before.ensures ∙ ap (λ v. stands_before? v (words a.c)) c.before.before.counts-at.ensures) ∙ c.if1.true) tt)),
     )
 
@@ -67,7 +67,7 @@ loop-again-2 c =
       l.invariant.0,
       omega arith,
       omega arith,
-      λ o. between-down a.t.now (words a.c) o l.low l.high m (l.invariant.3 o)
+      λ o. between_down a.t.now (words a.c) o l.low l.high m (l.invariant.3 o)
           (rw (sym (c.before.stands-before.ensures ∙ ap (λ v. stands_before? v (words a.c)) c.before.before.counts-at.ensures) ∙ c.if1.false) tt),
     )
 

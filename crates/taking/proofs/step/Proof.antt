@@ -6,7 +6,7 @@ use lib.Dec.{leb, ltb}
 use borrow.Author.Tests.{leb-false, ltb-false}
 use Rattle.profile.specs.Automata.{profile_of}
 use Rattle.profile.specs.Refusals.{checked, longest, lowest, profile_refusals}
-use Rattle.taking.proofs.Taking.{allowed, own_refusals, step_early, step-took}
+use Rattle.taking.proofs.Taking.{allowed, own_refusals, step_early, step_took}
 use Rattle.taking.proofs.Writing.{brought, counted}
 use borrow.Author.Rules.{rules}
 use Rattle.taking.proofs.step.Statement.{statement}
@@ -62,7 +62,7 @@ returns-2 c =
     let h = allowed p (leb longest a.held.taken) (leb a.shape.k a.letter) (ltb c.before.before.before.before.before.before.before.capacity.result a.held.prefixes) a.held.taken e in
     let low = leb-false a.shape.k a.letter h.2 in
     let short = leb-false longest a.held.taken h.1 in
-    step-took p a.letter a.held a.table.now c.before.before.before.before.before.before.before.capacity.result c.before.before.before.before.before.before.before.capacity.ensures
+    step_took p a.letter a.held a.table.now c.before.before.before.before.before.before.before.capacity.result c.before.before.before.before.before.before.before.capacity.ensures
     (e ∙ ap (λ m. lowest (profile_refusals p ++ own_refusals (leb longest a.held.taken) (leb a.shape.k a.letter) (ltb m a.held.prefixes) a.held.taken)) c.before.before.before.before.before.before.before.capacity.ensures)
     (counted p a.letter low short) (brought p a.letter low short) _ _ c.before.before.take.result.answer c.before.before.take.ensures
 

@@ -3,7 +3,7 @@ use borrow.Author.Rules.{rules}
 use mathlib.Core.Path.{sym, ◌∙◌, ap}
 use Rattle.profile.specs.Automata.{profile_of}
 use Rattle.profile.specs.Refusals.{checked}
-use Rattle.term_checks.proofs.Admission.{buffer_last, log_next, none-refused, profile_first, terms-next}
+use Rattle.term_checks.proofs.Admission.{buffer_last, log_next, none_refused, profile_first, terms_next}
 use Rattle.term_checks.proofs.check_call.Statement.{statement}
 use Rattle.term_checks.proofs.check_call.Tie as tie
 
@@ -45,7 +45,7 @@ enum-known-dated c = search rules
 returns-3 : tie.Need-returns-3
 returns-3 c =
     let a = c.before.before.before.before.before.before.before.before.before.before.before.before.before.before.before.args in
-    terms-next (profile_of a.shape a.masks.now a.moves.now) a.log.now a.days.now a.terms.now a.n (sym c.before.before.before.before.before.before.before.before.before.check-profile.ensures ∙ ap checked c.before.before.before.before.before.before.before.enum_told.given.1)
+    terms_next (profile_of a.shape a.masks.now a.moves.now) a.log.now a.days.now a.terms.now a.n (sym c.before.before.before.before.before.before.before.before.before.check-profile.ensures ∙ ap checked c.before.before.before.before.before.before.before.enum_told.given.1)
     (sym c.before.before.before.before.before.before.check-log.ensures ∙ ap checked c.before.before.before.before.enum-told2.given.1)
     (sym c.before.before.before.check-terms.ensures ∙ ap checked c.before.dated.given.1)
 
@@ -62,7 +62,7 @@ returns-4 c =
 returns-5 : tie.Need-returns-5
 returns-5 c =
     let a = c.before.before.before.before.before.before.before.before.before.before.before.before.before.before.before.args in
-    none-refused (profile_of a.shape a.masks.now a.moves.now) a.log.now a.days.now a.terms.now a.n (sym c.before.before.before.before.before.before.before.before.before.check-profile.ensures ∙ ap checked c.before.before.before.before.before.before.before.enum_told.given.1)
+    none_refused (profile_of a.shape a.masks.now a.moves.now) a.log.now a.days.now a.terms.now a.n (sym c.before.before.before.before.before.before.before.before.before.check-profile.ensures ∙ ap checked c.before.before.before.before.before.before.before.enum_told.given.1)
     (sym c.before.before.before.before.before.before.check-log.ensures ∙ ap checked c.before.before.before.before.enum-told2.given.1)
     (sym c.before.before.before.check-terms.ensures ∙ ap checked c.before.enum-told3.given.1) c.if1.false
 

@@ -1,6 +1,6 @@
 -- `events::in_term` meets its contract. The loop's invariant: the letters below y let x by.
 use borrow.Author.Rules.{rules}
-use borrow.Author.Tests.{not_false}
+use borrow.Author.Tests.{not-false}
 use mathlib.Core.Path.{◌≡◌, sym, ◌∙◌, ap, subst}
 use mathlib.Core.Bool.{not}
 use Prim.Native.Nat.{◌-◌, ◌≤◌}
@@ -44,7 +44,7 @@ loop-again c =
     let a = c.before.before.before.before.before.before.args in
     let l = c.before.before.before.loop in
     let p = lets_in? (at a.next.now) (at a.turns.now) a.x in
-    (omega arith, all_more p l.y l.invariant.1 (subst T (sym (not_false c.before.lets-in.result c.if1.false) ∙ c.before.lets-in.ensures) tt))
+    (omega arith, all_more p l.y l.invariant.1 (subst T (sym (not-false c.before.lets-in.result c.if1.false) ∙ c.before.lets-in.ensures) tt))
 
 returns-2 : tie.Need-returns-2 invariant-loop decreases-loop
 returns-2 c =

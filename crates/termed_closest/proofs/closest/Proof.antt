@@ -13,7 +13,7 @@ use Rattle.term_checks.proofs.Admission.{DatedAdmitted, dated_admitted}
 use Rattle.termed_judge.specs.CodedCalls.{CodedCall}
 use Rattle.termed_judge.proofs.Codes.{coded_call, coded_front, coding}
 use Rattle.termed_closest.specs.CodedAnswers.{Answered}
-use Rattle.termed_closest.proofs.Codes.{told_early, told-late}
+use Rattle.termed_closest.proofs.Codes.{told_early, told_late}
 use Rattle.termed_closest.proofs.closest.Statement.{statement}
 use Rattle.termed_closest.proofs.closest.Tie as tie
 
@@ -75,7 +75,7 @@ returns-2 c =
     let told = c.before.before.before.before.before.before.before.before.before.before.before.before.before.before.before in
     let x = admitted told in
     let j = c.before.before.before.before.before.before.closest-coded in
-    told-late (profile_of a.shape a.masks.now a.moves.now) a.log.now a.days.now a.terms.now a.budget a.order.now a.work.now a.costs.now (unrefused told) _ _ _ j.result
+    told_late (profile_of a.shape a.masks.now a.moves.now) a.log.now a.days.now a.terms.now a.budget a.order.now a.work.now a.costs.now (unrefused told) _ _ _ j.result
     (subst (λ w. Answered (rules_of (profile_of a.shape a.masks.now a.moves.now) true) w a.budget a.order.now j.new.1.1.1.1.1.0 a.work.now j.new.1.1.1.1.1.1.0 a.costs.now j.new.1.1.1.1.1.1.1.0 j.result) (coded_front (profile_of a.shape a.masks.now a.moves.now) a.log.now a.days.now a.terms.now x _ _ c.before.before.before.before.before.before.before.before.before.before.before.before.before.code-events.ensures) j.ensures)
 
 pub closest-spec : {M : Type 1} → statement M

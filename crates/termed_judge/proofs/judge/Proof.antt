@@ -11,7 +11,7 @@ use Rattle.terms.specs.Coded.{rules_of}
 use Rattle.term_checks.specs.Admission.{dated_admission}
 use Rattle.term_checks.proofs.Admission.{DatedAdmitted, dated_admitted}
 use Rattle.termed_judge.specs.CodedCalls.{Answered, CodedCall}
-use Rattle.termed_judge.proofs.Codes.{coded_call, coded_front, coded_length, coding, told_early, told-late}
+use Rattle.termed_judge.proofs.Codes.{coded_call, coded_front, coded_length, coding, told_early, told_late}
 use Rattle.termed_judge.proofs.judge.Statement.{statement}
 use Rattle.termed_judge.proofs.judge.Tie as tie
 
@@ -70,7 +70,7 @@ returns-2 c =
     let told = c.before.before.before.before.before.before.before.before.before.before.before.before in
     let x = admitted told in
     let j = c.before.before.before.before.judge-coded in
-    told-late (profile_of a.shape a.masks.now a.moves.now) a.log.now a.days.now a.terms.now a.order.now a.work.now (unrefused told) _ _ j.result
+    told_late (profile_of a.shape a.masks.now a.moves.now) a.log.now a.days.now a.terms.now a.order.now a.work.now (unrefused told) _ _ j.result
     (subst (λ w. Answered (rules_of (profile_of a.shape a.masks.now a.moves.now) true) w a.order.now j.new.1.1.1.1.1.0 a.work.now j.new.1.1.1.1.1.1.0 j.result) (coded_front (profile_of a.shape a.masks.now a.moves.now) a.log.now a.days.now a.terms.now x _ _ c.before.before.before.before.before.before.before.before.before.before.code-events.ensures) j.ensures)
 
 pub judge-spec : {M : Type 1} → statement M

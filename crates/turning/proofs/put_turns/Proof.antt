@@ -5,7 +5,7 @@ use Prim.Native.Nat.{◌≤◌}
 use lib.ListN.{length}
 use Rattle.turns.specs.Turns.{turn_table}
 use native.Mathlib.Omega.{arith}
-use Rattle.turning.proofs.Steps.{AllPut, all_done, all_room, all_start, all-step, turn_table_many}
+use Rattle.turning.proofs.Steps.{AllPut, all_done, all_room, all_start, all_step, turn_table_many}
 use Rattle.turning.proofs.put_turns.Statement.{statement}
 use Rattle.turning.proofs.put_turns.Tie as tie
 
@@ -43,7 +43,7 @@ loop-again c =
     let s = c.before.before.before.before.before.before.before.before in
     let l = c.before.before.before.before.before.loop in
     let f = c.before.before.put-turns-of in
-    all-step s.args.events.now s.args.k s.args.turns.now c.before.before.before.before.loop-test.true l.invariant (fits s) f.ensures.0 f.ensures.1
+    all_step s.args.events.now s.args.k s.args.turns.now c.before.before.before.before.loop-test.true l.invariant (fits s) f.ensures.0 f.ensures.1
 
 same_length : tie.Need-same-length invariant-loop decreases-loop
 same_length c = c.before.loop.invariant.long

@@ -6,7 +6,7 @@ use native.Mathlib.Omega.{arith}
 use mathlib.Core.List.{List}
 use lib.ListN.{length, length-set, set}
 use Rattle.turns.specs.Turns.{past_terms, turn}
-use Rattle.turning.proofs.Steps.{Put, place_within, put_no, put_all, put-room, put-start, put_yes, term_below, turns_some}
+use Rattle.turning.proofs.Steps.{Put, place_within, put_no, put_all, put_room, put_start, put_yes, term_below, turns_some}
 use Rattle.turning.proofs.put_turns_of.Statement.{statement}
 use Rattle.turning.proofs.put_turns_of.Tie as tie
 
@@ -35,7 +35,7 @@ slice-write-turns : tie.Need-slice-write-turns invariant-loop decreases-loop
 slice-write-turns c = let a = c.before.before.args in omega (arith, turns_some a.events.now a.x)
 
 loop-holds : tie.Need-loop-init invariant-loop decreases-loop
-loop-holds c = let a = c.before.before.args in put-start a.events.now a.x a.end a.turns.now (omega (arith, turns_some a.events.now a.x))
+loop-holds c = let a = c.before.before.args in put_start a.events.now a.x a.end a.turns.now (omega (arith, turns_some a.events.now a.x))
 
 sub-i : tie.Need-overflow-sub-i invariant-loop decreases-loop
 sub-i c = search rules
@@ -74,7 +74,7 @@ place-left c =
     let s = c.before.before.before.before.before.before in
     let a = s.args in
     let l = c.before.before.before.loop in
-    put-room a.events.now a.x a.end (stored s) c.before.before.loop-test.true l.invariant c.if1.true s.requires.0 s.requires.1 s.requires.2
+    put_room a.events.now a.x a.end (stored s) c.before.before.loop-test.true l.invariant c.if1.true s.requires.0 s.requires.1 s.requires.2
 
 sub-to-2 : tie.Need-overflow-sub-to-2 invariant-loop decreases-loop
 sub-to-2 c = place-left c.before

@@ -1,6 +1,6 @@
 -- `verdict::put_verdict` meets its contract.
 use borrow.Author.Rules.{rules}
-use borrow.Author.Tests.{not_false, not-true}
+use borrow.Author.Tests.{not-false, not-true}
 use mathlib.Core.Path.{sym, ◌∙◌}
 use Rattle.profile.specs.Automata.{profile_of}
 use Rattle.profile.specs.Rules.{order_by}
@@ -21,7 +21,7 @@ returns c =
 put-order-requires : tie.Need-put-order-requires
 put-order-requires c κs =
     let s = c.before.before.before.before.before.before.before.before in
-    let e = sym c.before.before.has-order.ensures ∙ not_false c.before.before.has-order.result c.before.if1.false in
+    let e = sym c.before.before.has-order.ensures ∙ not-false c.before.before.has-order.result c.before.if1.false in
     (s.requires.0, (s.requires.1.0, (e, s.requires.1.1)))
 
 same_length : tie.Need-same-length
@@ -29,7 +29,7 @@ same_length c = search rules
 
 returns-2 : tie.Need-returns-2
 returns-2 c =
-    (sym (not_false c.before.before.before.before.before.has-order.result c.before.before.before.before.if1.false) ∙ c.before.before.before.before.before.has-order.ensures, c.before.before.put_order.ensures)
+    (sym (not-false c.before.before.before.before.before.has-order.result c.before.before.before.before.if1.false) ∙ c.before.before.before.before.before.has-order.ensures, c.before.before.put_order.ensures)
 
 pub put-verdict-spec : {M : Type 1} → statement M
 put-verdict-spec = tie.close (tie.spec has-order-requires returns put-order-requires same_length returns-2)

@@ -6,7 +6,7 @@ use lib.ListN.{length, take}
 use Rattle.profile.specs.Automata.{profile_of}
 use Rattle.profile.specs.Refusals.{checked}
 use Rattle.views.proofs.Refused.{seen_length}
-use Rattle.view.proofs.Viewed.{entry-clean, entry-few, entry-good, told-entry, told-seen, told_short}
+use Rattle.view.proofs.Viewed.{entry_clean, entry_few, entry_good, told_entry, told_seen, told_short}
 use borrow.Author.Rules.{rules}
 use Rattle.view.proofs.view.Statement.{statement}
 use Rattle.view.proofs.view.Tie as tie
@@ -22,7 +22,7 @@ returns c =
     let S = c.before.before.before.before.before.before.before.before.before in
     let a = S.args in
     let p = profile_of a.shape a.masks.now a.moves.now in
-    told-entry p a.visible a.log.now a.order.now a.work.now (sym c.before.before.before.check-entry.ensures ∙ ap checked c.before.entry.given.1)
+    told_entry p a.visible a.log.now a.order.now a.work.now (sym c.before.before.before.check-entry.ensures ∙ ap checked c.before.entry.given.1)
 
 enum_told : tie.Need-enum-told
 enum_told c = search rules
@@ -36,7 +36,7 @@ put-seen-requires c κs =
     let a = S.args in
     let p = profile_of a.shape a.masks.now a.moves.now in
     let clean = sym c.before.before.before.check-entry.ensures ∙ ap checked c.before.enum_told.given.1 in
-    (entry-few p a.visible a.log.now clean, refl, entry-good p a.visible a.log.now clean)
+    (entry_few p a.visible a.log.now clean, refl, entry_good p a.visible a.log.now clean)
 
 returns-2 : tie.Need-returns-2
 returns-2 c =
@@ -58,7 +58,7 @@ part-view-seen-end c =
     let a = S.args in
     let p = profile_of a.shape a.masks.now a.moves.now in
     let clean = sym c.before.before.before.before.before.before.before.check-entry.ensures ∙ ap checked c.before.before.before.before.before.enum_told.given.1 in
-    let g = (entry-good p a.visible a.log.now clean).short in
+    let g = (entry_good p a.visible a.log.now clean).short in
     let l = seen_length a.visible a.log.now in
     let r = c.before.before.before.put-seen.ensures.0 in
     let k = c.before.before.before.put-seen.auto.1.1.1.0 in
@@ -74,7 +74,7 @@ view-seen-requires c κs =
     let z : ℕ = s.result - 0 in
     let i : z ≡ s.result = omega arith in
     let e = ap (λ m. take m s.new.1.1.1.0) i ∙ s.ensures.1 in
-    (entry-clean p a.visible a.log.now clean (take z s.new.1.1.1.0) e, omega (arith, ap length e, s.ensures.0, c.before.before.before.before.if1.false))
+    (entry_clean p a.visible a.log.now clean (take z s.new.1.1.1.0) e, omega (arith, ap length e, s.ensures.0, c.before.before.before.before.if1.false))
 
 same_length : tie.Need-same-length
 same_length c = search rules
@@ -93,7 +93,7 @@ returns-3 c =
     let i : z ≡ s.result = omega arith in
     let e = ap (λ m. take m s.new.1.1.1.0) i ∙ s.ensures.1 in
     let v = c.before.before.before.before.view-seen in
-    told-seen p a.visible a.log.now a.order.now a.work.now clean (take z s.new.1.1.1.0) e v.result v.new.1.1.1.1.1.0 v.new.1.1.1.1.1.1.0 v.ensures.0 v.ensures.1.0 v.ensures.1.1
+    told_seen p a.visible a.log.now a.order.now a.work.now clean (take z s.new.1.1.1.0) e v.result v.new.1.1.1.1.1.0 v.new.1.1.1.1.1.1.0 v.ensures.0 v.ensures.1.0 v.ensures.1.1
 
 pub view-spec : {M : Type 1} → statement M
 view-spec =

@@ -5,7 +5,7 @@ use mathlib.Core.Path.{◌∙◌, ap}
 use mathlib.Core.Logic.{inl, inr}
 use native.Mathlib.Omega.{arith}
 use borrow.Author.Rules.{rules}
-use Rattle.walk.proofs.Views.{exp_first, exp-more, exp-only, fac_bracket, fac_inside, fac_letter, seq_first, seq_more, seq-only}
+use Rattle.walk.proofs.Views.{exp_first, exp_more, exp_only, fac_bracket, fac_inside, fac_letter, seq_first, seq_more, seq_only}
 use Prim.Native.Nat.{ℕ, ◌+◌, ◌*◌, ◌-◌, ◌<◌}
 use borrow.Fn.Kinds.{In}
 use borrow.Fn.PlainCycle.{Measures, is, falls, and}
@@ -90,7 +90,7 @@ expression_expression_requires t c κs =
     let x = X.result in
     let t0 = a.rows.now in
     let t1 = X.new.1.1.1.0 in
-    let m = exp-more u a.at a.n x t0 t1 X.ensures s c.before.before.before.if1.true c.before.if2.true in
+    let m = exp_more u a.at a.n x t0 t1 X.ensures s c.before.before.before.if1.true c.before.if2.true in
     (omega (arith, S.requires.0, m.1, c.before.before.before.if1.true), (search rules, m.0))
 
 expression_choice_part_requires : (t : ℕ) → expression-lts.Need-choice-part-requires (expression_claims t) (expression_at t) expression.Post
@@ -110,7 +110,7 @@ expression_returns t c =
     let t0 = a.rows.now in
     let t1 = X.new.1.1.1.0 in
     let Y = c.before.before.before.expression in λ s.
-    let m = exp-more u a.at a.n x t0 t1 X.ensures s c.before.before.before.before.before.before.before.if1.true c.before.before.before.before.before.if2.true in
+    let m = exp_more u a.at a.n x t0 t1 X.ensures s c.before.before.before.before.before.before.before.if1.true c.before.before.before.before.before.if2.true in
     m.2 Y.result c.choice-part.result Y.new.1.1.1.0 (Y.ensures m.0) c.choice-part.ensures
 
 expression_same_length_2 : (t : ℕ) → expression-lts.Need-same-length-2 (expression_claims t) (expression_at t) expression.Post
@@ -126,7 +126,7 @@ expression_returns_2 t c =
     let x = X.result in
     let t0 = a.rows.now in
     let t1 = X.new.1.1.1.0 in λ s.
-    exp-only u a.at a.n x t0 t1 X.ensures s (λ h g. c.if2.false g)
+    exp_only u a.at a.n x t0 t1 X.ensures s (λ h g. c.if2.false g)
 
 expression_same_length_3 : (t : ℕ) → expression-lts.Need-same-length-3 (expression_claims t) (expression_at t) expression.Post
 expression_same_length_3 t c = search rules
@@ -141,7 +141,7 @@ expression_returns_3 t c =
     let x = X.result in
     let t0 = a.rows.now in
     let t1 = X.new.1.1.1.0 in λ s.
-    exp-only u a.at a.n x t0 t1 X.ensures s (λ h g. let l = c.if1.false in
+    exp_only u a.at a.n x t0 t1 X.ensures s (λ h g. let l = c.if1.false in
     omega arith)
 
 factor_shared_slice_read_if1 : (t : ℕ) → factor-lts.Need-shared-slice-read-if1 (factor_claims t) (factor_at t) factor.Post
@@ -326,7 +326,7 @@ sequence_returns_2 t c =
     let x = X.result in
     let t0 = a.rows.now in
     let t1 = X.new.1.1.1.0 in λ s.
-    seq-only u a.at a.n x t0 t1 X.ensures s (λ h. inr c.if3.false)
+    seq_only u a.at a.n x t0 t1 X.ensures s (λ h. inr c.if3.false)
 
 sequence_same_length_3 : (t : ℕ) → sequence-lts.Need-same-length-3 (sequence_claims t) (sequence_at t) sequence.Post
 sequence_same_length_3 t c = search rules
@@ -341,7 +341,7 @@ sequence_returns_3 t c =
     let x = X.result in
     let t0 = a.rows.now in
     let t1 = X.new.1.1.1.0 in λ s.
-    seq-only u a.at a.n x t0 t1 X.ensures s (λ h. inl c.if2.false)
+    seq_only u a.at a.n x t0 t1 X.ensures s (λ h. inl c.if2.false)
 
 sequence_same_length_4 : (t : ℕ) → sequence-lts.Need-same-length-4 (sequence_claims t) (sequence_at t) sequence.Post
 sequence_same_length_4 t c = search rules
@@ -356,7 +356,7 @@ sequence_returns_4 t c =
     let x = X.result in
     let t0 = a.rows.now in
     let t1 = X.new.1.1.1.0 in λ s.
-    seq-only u a.at a.n x t0 t1 X.ensures s (λ h. let l = c.if1.false in
+    seq_only u a.at a.n x t0 t1 X.ensures s (λ h. let l = c.if1.false in
     absurd (omega arith))
 
 pub +expression-factor-sequence-spec : {M : Type 1} → statement M
