@@ -84,6 +84,7 @@ module _ {A : Type 0} where
       go : T (p b) ⊎ T (any p l) → (T (any p l) → (a : A) × Mem a l × T (p a)) → (a : A) × Mem a (b ∷ l) × T (p a)
       go (inl t) f = (b, Memᴰ.head refl, t)
       go (inr t) f = let m = f t in (m.0, Memᴰ.tail m.1, m.2)
+  any_at p [] h = elim h [ ]
 
   pub filter_yes : (p : A → Bool) (a : A) (l : List A) → T (p a) → filter p (a ∷ l) ≡ a ∷ filter p l
   filter_yes p a l t = rw (is_true (p a) t, filter)
@@ -101,6 +102,7 @@ module _ {A : Type 0} where
       go : ((a ≡ b) × T (p b)) ⊎ Mem a (filter p l) → (Mem a (filter p l) → Mem a l × T (p a)) → Mem a (b ∷ l) × T (p a)
       go (inl q) f = (Memᴰ.head q.0, subst (λ c. T (p c)) (sym q.0) q.1)
       go (inr k) f = (Memᴰ.tail (f k).0, (f k).1)
+  filter_at p {a = a} [] m = elim m [ ]
 
   pub filter_of : (p : A → Bool) {a : A} {l : List A} → Mem a l → T (p a) → Mem a (filter p l)
   filter_of p (Memᴰ.head {x = b} {xs = l} e) t = rw (is_true (p b) (subst (λ c. T (p c)) e t), filter) (Memᴰ.head e)
@@ -126,6 +128,7 @@ module _ {A B : Type 0} where
       go : Mem b (f x) ⊎ Mem b (flat_map f l) → (Mem b (flat_map f l) → (a : A) × Mem a l × Mem b (f a)) → (a : A) × Mem a (x ∷ l) × Mem b (f a)
       go (inl k) r = (x, Memᴰ.head refl, k)
       go (inr k) r = let n = r k in (n.0, Memᴰ.tail n.1, n.2)
+  flat_map_at f {b = b} [] m = elim m [ ]
 
 -- ---- the numbers below k, in rising order
 

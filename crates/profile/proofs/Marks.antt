@@ -65,6 +65,7 @@ module _ (may : ℕ → ℕ → Bool) (letter : ℕ → ℕ) where
           (λ q. ([], w, ap (λ z. z ∷ w) (sym q), omega (arith, ap (λ z. c (letter z)) q)))
           (λ m'. let n = ih (less c (letter a)) m' in (a ∷ n.0, n.1, ap (◌∷◌ a) n.2, omega (arith, n.3)))
           (Memᴰ.cases_cons (rw (marked_suc a w c e) at m))
+  mem_marked [] c {b = b} m = elim m [ ]
 
   marked_mem : (v : List ℕ) (c : ℕ → ℕ) (b : ℕ) (x : List ℕ) → count letter v (letter b) < c (letter b) → Mem b (marked letter (v ++ (b ∷ x)) c)
   marked_mem [] c b x h = go (c (letter b)) refl

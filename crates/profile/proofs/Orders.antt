@@ -15,6 +15,7 @@ pub no_later_of_test : (u v : List ℕ) → T (no_later? u v) → NoLater u v
 no_later_of_test [] v t = ends
 no_later_of_test (a ∷ u) (b ∷ v) t = ⊎_elim (λ h. smaller (ltb→lt a b h))
     (λ h. agrees (eqb→eq a b (fst_of (eqb a b) (no_later? u v) h)) (no_later_of_test u v (snd_of (eqb a b) (no_later? u v) h))) (either (ltb a b) (eqb a b && no_later? u v) t)
+no_later_of_test (a ∷ u) [] t = elim t [ ]
 
 -- no later, by its test
 pub no_later_test : (u v : List ℕ) → T (no_later? u v) ↔ NoLater u v

@@ -146,6 +146,7 @@ module _ (may : ℕ → ℕ → Bool) where
   pub mem_of_order : (w : List ℕ) {v : List ℕ} → Order may w v → Mem v (orders may w)
   mem_of_order [] done = Memᴰ.head refl
   mem_of_order (a ∷ w) t = let m = inserts_of t in flat_map_of (insertions may a) (mem_of_order w m.1) m.2
+  mem_of_order [] (next {a = a} {r = r} {u = u} x8 _) = elim x8 [ ]
 
   pub order_of_mem : (w : List ℕ) {v : List ℕ} → Mem v (orders may w) → Order may w v
   order_of_mem [] m = subst (Order may []) (sym (Memᴰ.eq_of_singleton m)) done

@@ -106,7 +106,7 @@ module _ (may : ℕ → ℕ → Bool) (letter : ℕ → ℕ) (M : Automaton) (L 
               k.0,
               e,
               rw k.1 n.5,
-              L.step_of_lem (forward may letter M w (count letter n.0)) (letter n.2) m.0 s
+              L.step_of (forward may letter M w (count letter n.0)) (letter n.2) m.0 s
                   (forward_of (count letter n.0) {u = n.0} k.2 h m.1) (leads_one M L letter m.2),
             )
 

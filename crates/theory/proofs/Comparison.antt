@@ -27,6 +27,7 @@ earliest_more l r {u} f e = go r (f u (earliest_at l e).0)
   where
     go : (r : List (List ℕ)) → Mem u r → (v : List ℕ) × (earliest r ≡ some v) × NoLater v u
     go (x ∷ r) m = (least x r, refl, least_le x r m)
+    go mathlib.Core.List.[] m = elim m [ ]
 
 module _ (letter : ℕ → ℕ) (M : Automaton) where
   -- more orders to choose from: still accepted, by an order that is no later

@@ -73,6 +73,7 @@ least_le v (x ∷ l) {u} m = go (no_later? v x) refl (λ y z k. least_le y l k) 
 -- v is the earliest of l exactly when it stands in l and is no later than what stands there
 pub earliest_of : (l : List (List ℕ)) {v : List ℕ} → Mem v l → ((u : List ℕ) → Mem u l → NoLater v u) → earliest l ≡ some v
 earliest_of (x ∷ l) m h = ap some (no_later_antisym (least_le x l m) (h (least x l) (least_mem x l)))
+earliest_of [] {v = v} m h = elim m [ ]
 
 pub earliest_at : (l : List (List ℕ)) {v : List ℕ} → earliest l ≡ some v → Mem v l × ((u : List ℕ) → Mem u l → NoLater v u)
 earliest_at [] e = absurd (none-ne-some _ e)
@@ -109,13 +110,13 @@ module _ (may : ℕ → ℕ → Bool) (letter : ℕ → ℕ) {S : Type 0} (after
     module _ (distinct : (a b : ℕ) → T (may a b) → letter a ≢ letter b)
         (live_of_lem : (s : S) (r v : List ℕ) → Order may r v → T (good s v) → T (live s r))
         (Live-at : (s : S) (r : List ℕ) → T (live s r) → (v : List ℕ) × Order may r v × T (good s v)) where
-      pub greedy_good : {s t : S} {w v : List ℕ} → T (live s w) → Greedy s w v t [] → T (good s v)
-      greedy_good {s = s} h end = let n = Live-at s [] h in go n.0 n.1 n.2
+      pub greedy_good : {s t : S} {w v : List ℕ} → Greedy s w v t [] → T (live s w) → T (good s v)
+      greedy_good {s = s} end h = let n = Live-at s [] h in go n.0 n.1 n.2
         where
           go : (v : List ℕ) → Order may [] v → T (good s v) → T (good s [])
           go [] done h = h
           go (b ∷ v) (next p o) h = absurd (no_pick may p)
-      greedy_good h (take p l m g) = greedy_good l g
+      greedy_good (take p l m g) h = greedy_good g l
 
       -- what is taken so far begins the earliest good order
       pub greedy_least : {s t : S} {w v u : List ℕ} → Greedy s w v t [] → Order may w u → T (good s u) → NoLater (map letter v) (map letter u)
@@ -129,12 +130,13 @@ module _ (may : ℕ → ℕ → Bool) (letter : ℕ → ℕ) {S : Type 0} (after
           go (inr k) ih =
               let e : letter a ≡ letter b = omega (arith, m b y q (live_of_lem (after s (letter b)) y u o h)) in
               agrees e (ih (subst (λ z. Order may z u) (sym (pick_same may letter distinct p q e).1) o) (subst (λ z. T (good (after s z) u)) (sym e) h))
+      greedy_least (take {s = s} {t = t} {a = a} {x = x} {u = v} p l m g) done h = elim p [ ]
 
       -- and all of it is the earliest of the good orders
       pub greedy_first : {s t : S} {w v : List ℕ} → T (live s w) → Greedy s w v t [] → earliest (map (map letter) (filter (good s) (orders may w))) ≡ some (map letter v)
       greedy_first {s} {w = w} {v = v} h g =
           earliest_of (map (map letter) (filter (good s) (orders may w)))
-          (Memᴰ.map (map letter) (filter_of (good s) (mem_of_order may w (greedy_takes g)) (greedy_good h g)))
+          (Memᴰ.map (map letter) (filter_of (good s) (mem_of_order may w (greedy_takes g)) (greedy_good g h)))
           (λ u m.
           let n = Memᴰ.of_map (map letter) (filter (good s) (orders may w)) m in
           let k = filter_at (good s) (orders may w) n.1 in
@@ -151,6 +153,7 @@ module _ (may : ℕ → ℕ → Bool) where
     where
       go : (l : List (List ℕ)) → Mem w l → (v : List ℕ) × (earliest l ≡ some v)
       go (x ∷ l) m = (least x l, refl)
+      go [] m = elim m [ ]
 
   -- the smallest letter that may come next, each time, gives the first order
   pub first_greedy : ((a b : ℕ) → T (may a b) → a ≢ b) → {w v : List ℕ} {t : Unit {0}} → Greedy may (λ a. a) (λ s x. tt) (λ s. true) (λ s r. true) tt w v t [] → first_order may w ≡ some v

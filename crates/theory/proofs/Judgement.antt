@@ -135,6 +135,6 @@ module _ (may : ℕ → ℕ → Bool) (letter : ℕ → ℕ) (M : Automaton) (L 
             x,
             ltb→lt x k (all_of_pick may letter distinct (λ a. ltb (letter a) k) p b.2 letters),
             addable_of may letter distinct c x b.1,
-            meets_of (M.step S x) (backward may letter M w (more c x)) r.0 (L.step_of_lem S x n.0 r.0 n.1 r.2) r.1,
+            meets_of (M.step S x) (backward may letter M w (more c x)) r.0 (L.step_of S x n.0 r.0 n.1 r.2) r.1,
           ))
           (backward_first may letter M L w distinct n.0 p n.2)

@@ -75,6 +75,7 @@ module _ (may : ℕ → ℕ → Bool) where
       let n = pick_front f p in
       let k = all_picked (may b) p h in
       (_, later k.0 n.1, keep k.1 n.2)
+  pick_front {s = s} {a = a} empty p = elim p [ ]
 
   -- what is taken is an order of the marked events
   pub front_of_takes : {w u r : List ℕ} → Takes may w u r → (m : List ℕ) × Front may w m r × Order may m u
@@ -84,9 +85,9 @@ module _ (may : ℕ → ℕ → Bool) where
       let k = front_pick p n.1 in
       (k.0, k.1, next k.2 n.2)
 
-  pub takes_of_front : {w m u r : List ℕ} → Front may w m r → Order may m u → Takes may w u r
-  takes_of_front {w = w} {r = r} f done = subst (Takes may w []) (front_nil f) done
-  takes_of_front f (next p t) = let n = pick_front f p in next n.1 (takes_of_front n.2 t)
+  pub takes_of_front : {m u : List ℕ} → Order may m u → {w r : List ℕ} → Front may w m r → Takes may w u r
+  takes_of_front done {w = w} {r = r} f = subst (Takes may w []) (front_nil f) done
+  takes_of_front (next p t) f = let n = pick_front f p in next n.1 (takes_of_front t n.2)
 
 -- ---- counts
 
@@ -175,7 +176,7 @@ module _ (may : ℕ → ℕ → Bool) (letter : ℕ → ℕ) where
 
   -- the marked events may be taken in log order
   pub takes_of_prefix : {w : List ℕ} {c : ℕ → ℕ} {u : List ℕ} → IsPrefix may letter w c → Order may (marked letter w c) u → Takes may w u (unmarked letter w c)
-  takes_of_prefix p t = takes_of_front may (front_of_prefix p) t
+  takes_of_prefix p t = takes_of_front may t (front_of_prefix p)
 
   module _ (distinct : (a b : ℕ) → T (may a b) → letter a ≢ letter b) where
     test_of_front : {w m r : List ℕ} → Front may w m r → T (closed? may letter w (count letter m))

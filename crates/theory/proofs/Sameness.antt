@@ -109,11 +109,16 @@ module _ (may : ℕ → ℕ → Bool) (ir : (a : ℕ) → T (may a a) → ⊥) w
       go (inl e) ih = subst (λ z. Pick (λ a c. may c a) z b (c ∷ u)) (sym e) first
       go (inr n) ih = subst (λ z. Pick (λ a c. may c a) z b (c ∷ u)) n.3 (later n.1 (ih n.0 n.2))
 
+  pick_equal : {w r u : List ℕ} {a b : ℕ} → Pick may w a r → Pick (λ a c. may c a) w b u → a ≡ b → (r ≡ u) × Pick (mutual? may) w a r
+  pick_equal first first e = (refl, first)
+  pick_equal first (later {a = b} ok q) e = absurd (ir b (subst (λ x. T (may b x)) e ok))
+  pick_equal (later {b = c} ok p) first e = absurd (ir c (subst (λ x. T (may c x)) e ok))
+  pick_equal (later {a = a} {b = c} ok p) (later k q) e =
+      let n = pick_equal p q e in
+      (ap (◌∷◌ c) n.0, later (both (may c a) (may a c) ok (subst (λ x. T (may x c)) (sym e) k)) n.1)
+
   pick_both : {w r u : List ℕ} {b : ℕ} → Pick may w b r → Pick (λ a c. may c a) w b u → (r ≡ u) × Pick (mutual? may) w b r
-  pick_both first first = (refl, first)
-  pick_both first (later ok q) = absurd (ir _ ok)
-  pick_both (later ok p) first = absurd (ir _ ok)
-  pick_both (later {a = a} {b = c} ok p) (later k q) = let n = pick_both p q in (ap (◌∷◌ c) n.0, later (both (may c a) (may a c) ok k) n.1)
+  pick_both p q = pick_equal p q refl
 
   pub reach_mutual : (v : List ℕ) {w : List ℕ} → Order may w v → Order may v w → Reachable (mutual? may) w v
   reach_mutual [] done o = itself
