@@ -1,4 +1,6 @@
 // The commutation relation that the masks give.
+#![tactic(auto)]
+
 ghost use Rattle.std.specs.Prelude.{◌≡◌};
 ghost use Rattle.profile.specs.Traces.{independent as independent-by};
 

@@ -1,4 +1,6 @@
 // The limits of code are those of the definitions. A constant of code has no name in a proof: a function that gives them all says so by its contract.
+#![tactic(auto)]
+
 ghost use Rattle.std.specs.Prelude.{◌≡◌, [], ◌∷◌, ◌^◌};
 ghost use Rattle.profile.specs.Limits.{count_bits, count_numbers, counts_per_number, deepest_brackets, finals_byte, length_byte, length_high_byte, letters_byte, log_byte, longest, longest_input, masks_byte, most_letters, most_moves, most_places, most_records, most_states, most_typed, moves_byte, program_numbers, program_text, record_numbers, start_byte, states_byte, trailer_length, usable_numbers, zero_byte};
 

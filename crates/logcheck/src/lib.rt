@@ -1,4 +1,6 @@
 // The check of a log: refusals 7 and 8.
+#![tactic(auto)]
+
 ghost use Rattle.std.specs.Prelude.{◌≡◌};
 ghost use Rattle.profile.specs.Refusals.{checked, log_refusals, lowest};
 ghost use Rattle.profile.specs.Refusals.{bad_place as bad-place-of};

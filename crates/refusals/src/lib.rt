@@ -1,4 +1,6 @@
 // The number and the place of a refusal: document 01, "A refusal gives its number and a place".
+#![tactic(auto)]
+
 ghost use Rattle.std.specs.Prelude.{◌≡◌};
 ghost use Rattle.profile.specs.Refusals.{refusal_number, refusal_place};
 
