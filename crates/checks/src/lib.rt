@@ -1,4 +1,6 @@
 // The checks of a relation and a profile: refusals 2, 4 and 6.
+#![tactic(auto)]
+
 ghost use Rattle.std.specs.Prelude.{◌||◌, ◌≡◌};
 ghost use Rattle.profile.specs.Lists.{any};
 ghost use Rattle.profile.specs.Automata.{profile_of};

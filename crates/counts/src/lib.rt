@@ -1,4 +1,6 @@
 // The counts of a prefix record, packed: document 01, "Prefixes and their table".
+#![tactic(auto)]
+
 ghost use Rattle.std.specs.Prelude.{◌≡◌, ◌+◌, ◌%◌, ◌^◌, ◌<◌, not, [], length, drop, if◌then◌else◌, nat_eq};
 ghost use Rattle.profile.specs.Limits.{most_letters};
 ghost use Rattle.profile.specs.Lists.{equal?, flat_map};

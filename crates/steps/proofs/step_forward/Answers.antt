@@ -1,0 +1,32 @@
+use Prim.Native.Nat.{ℕ, ◌-◌, ◌^◌, ◌<◌}
+use mathlib.Core.Path.{◌≡◌, sym, ◌∙◌, ap}
+use mathlib.Core.Logic.{⊎_elim}
+use native.Mathlib.Omega.{arith}
+use borrow.Author.Rules.{rules}
+use lib.Bits.{bit_and, bit_or, and_le_r, or_zero_l, or_zero_r}
+use lib.Count.{trailing_le, count_trailing_zeros}
+use Rattle.profile.specs.Automata.{forward_step, row}
+use Rattle.profile.specs.Lists.{below}
+use Rattle.profile.specs.Traces.{bit}
+use Rattle.profile.proofs.Sets.{not_in_none, or_assoc}
+use Rattle.theory.proofs.SetLoops.{lowest}
+use Rattle.theory.proofs.Unions.{union_in, union_none, union_out}
+use Rattle.steps.proofs.step_forward.Goals as goal
+
+pub loop-rest-init : goal.loop-rest-init
+loop-rest-init c = (search rules, or_zero_l _)
+
+pub overflow_cast-q : goal.overflow_cast-q
+overflow_cast-q c = omega (arith, trailing_le 32 c.loop-rest.rest)
+
+pub loop-rest-smaller : goal.loop-rest-smaller
+loop-rest-smaller c = let n = c.loop-rest.rest in omega (arith, and_le_r n (n - 1))
+
+pub returns : goal.returns
+returns c =
+    let a = c.args in
+    let step : ℕ → ℕ = λ S. forward_step a.k a.s a.moves.now S a.a in
+    let none : step 0 ≡ 0 = union_none (λ q. row a.k a.moves.now q a.a) (bit 0) (below a.s) not_in_none in
+    let e : c.loop-rest.rest ≡ 0 = omega arith in
+    let out = c.loop-rest.out in
+    sym (ap (bit_or out) (ap step e ∙ none) ∙ or_zero_r out) ∙ c.loop-rest.invariant.1
