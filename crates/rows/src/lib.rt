@@ -1,4 +1,6 @@
 // The moves by letter, and the steps by them.
+#![tactic(auto)]
+
 ghost use Rattle.std.specs.Prelude.{◌≡◌, ◌≤◌, ◌<◌, replicate};
 ghost use Rattle.profile.specs.Limits.{most_letters, most_moves, most_states};
 ghost use Rattle.rows.specs.Rows.{backward_by, by_letter, forward_by, led as led_at};
