@@ -1,4 +1,6 @@
 // The records of a part of the table, read and written: document 01, "Prefixes and their table".
+#![tactic(auto)]
+
 ghost use Rattle.std.specs.Prelude.{◌≡◌, [], ◌∷◌, ◌++◌, ◌+◌, ◌*◌, ◌≤◌, length, set};
 ghost use Rattle.profile.specs.Tables.{capacity as capacity-of, layout, record_length};
 ghost use Rattle.counts.specs.Counts.{words};
