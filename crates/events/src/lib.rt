@@ -1,4 +1,6 @@
 // By the places of each letter's next event, with no scan of the log, whether a letter can be added to a prefix.
+#![tactic(auto)]
+
 ghost use Rattle.std.specs.Prelude.{◌≡◌, ◌≤◌, ◌<◌};
 ghost use Rattle.profile.specs.Limits.{most_letters};
 ghost use Rattle.profile.specs.Traces.{independent as independent-by};
