@@ -6,7 +6,7 @@ use ceilings::HIGHEST_CEILING;
 use profile::{Check, Refusal};
 
 // The answer: the ceiling, or why there is none.
-#[derive(Drop)]
+#[derive(Clone, Copy)]
 pub enum Bounded {
     Ceiling(u32),
     Refused(Refusal),

@@ -2,7 +2,7 @@
 use profile::Refusal;
 
 // The verdict, P and looks, with an order its swaps and the floor; or the refusal.
-#[derive(Drop)]
+#[derive(Clone, Copy)]
 pub enum Closest {
     Refused(Refusal),
     NoOrder {

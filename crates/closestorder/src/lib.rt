@@ -14,7 +14,7 @@ use profile::Shape;
 use profile::limits::{MOST_LETTERS, MOST_PLACES, Place};
 
 // The swaps of an order, and the floor.
-#[derive(Drop)]
+#[derive(Clone, Copy)]
 pub struct Found {
     pub swaps: u32,
     pub floor: u32,

@@ -8,7 +8,7 @@ ghost use Rattle.comparison.specs.Comparison.{comparison, pair_agrees?};
 use profile::{Check, Refusal};
 
 // The answer of a comparison; a refusal has the log that it is about, 1 or 2, and 0 for none.
-#[derive(Drop)]
+#[derive(Clone, Copy)]
 pub enum Compared {
     Equal,
     Different,

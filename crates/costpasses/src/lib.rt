@@ -14,7 +14,7 @@ use profile::Shape;
 use profile::limits::{COUNT_NUMBERS, MOST_LETTERS, Place};
 
 // A letter of a record, and where the letter's cursor stands.
-#[derive(Drop)]
+#[derive(Clone, Copy)]
 struct Step {
     record: usize,
     letter: usize,

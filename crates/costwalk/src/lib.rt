@@ -24,7 +24,7 @@ fn last_counts(t: &[u32]) -> [u32; COUNT_NUMBERS]
 }
 
 // What is taken so far: its counts, the states it leads to, and the swaps that are left.
-#[derive(Drop)]
+#[derive(Clone, Copy)]
 struct Taken {
     counts: Counts,
     states: u32,
@@ -32,14 +32,14 @@ struct Taken {
 }
 
 // What a letter costs that can be taken next; or that it cannot.
-#[derive(Drop)]
+#[derive(Clone, Copy)]
 enum Next {
     Costs(usize),
     Not,
 }
 
 // The next letter and its cost.
-#[derive(Drop)]
+#[derive(Clone, Copy)]
 struct Choice {
     letter: usize,
     cost: usize,

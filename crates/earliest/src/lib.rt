@@ -33,7 +33,7 @@ pub fn has_order(
 }
 
 // The next letter of the order, the record of the prefix with it, and the states that it leads to.
-#[derive(Drop)]
+#[derive(Clone, Copy)]
 struct Choice {
     letter: usize,
     next: usize,
@@ -41,7 +41,7 @@ struct Choice {
 }
 
 // The only record that can have the counts looked for, and before which record those of larger letters belong.
-#[derive(Drop)]
+#[derive(Clone, Copy)]
 struct Sought {
     place: usize,
     end: usize,

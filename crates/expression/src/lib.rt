@@ -12,7 +12,7 @@ use profile::{Refusal, Shape};
 use scanner::Scanned;
 
 // The answer: the numbers of the profile whose moves stand in the buffer, or why there is none.
-#[derive(Drop)]
+#[derive(Clone, Copy)]
 pub enum Made {
     Profile(Shape),
     Refused(Refusal),

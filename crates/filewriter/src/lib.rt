@@ -9,7 +9,7 @@ use profile::limits::TRAILER_LENGTH;
 use profile::{Check, Refusal, Shape};
 
 // The answer of the writer: why the call is refused, or the file's length.
-#[derive(Drop)]
+#[derive(Clone, Copy)]
 pub enum Writing {
     Refused(Refusal),
     Length(usize),

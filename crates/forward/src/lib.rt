@@ -24,7 +24,7 @@ use records::RECORD;
 const HALF: u32 = 16;
 
 // The records of all prefixes are put, with the looks; or they do not fit.
-#[derive(Drop)]
+#[derive(Clone, Copy)]
 pub enum Filled {
     Full,
     Done { records: usize, looks: u64 },
@@ -32,7 +32,7 @@ pub enum Filled {
 
 // Where total t of a profile of this shape stands in a table that `room` records fit: from record `from` to before record `first`, at which the
 // next total begins.
-#[derive(Drop)]
+#[derive(Clone, Copy)]
 struct Part {
     shape: Shape,
     room: usize,
@@ -42,14 +42,14 @@ struct Part {
 }
 
 // The records of a total are put, so many, with the pairs of one of them and a letter that can be added to it; or they do not fit.
-#[derive(Drop)]
+#[derive(Clone, Copy)]
 enum Total {
     Full,
     Put(usize, u64),
 }
 
 // The next record of a total is put, with the number of letters that can be added; or there is none; or it does not fit.
-#[derive(Drop)]
+#[derive(Clone, Copy)]
 enum Merged {
     Nothing,
     Full,
@@ -57,7 +57,7 @@ enum Merged {
 }
 
 // The next counts of a total, the letters that lead to them, and what the records from which these lead hand on; or there are none.
-#[derive(Drop)]
+#[derive(Clone, Copy)]
 enum Next {
     Nothing,
     At(Counts, u32, Handed),

@@ -6,7 +6,7 @@ ghost use Rattle.expressions.specs.Positions.{when as when_of};
 ghost use Rattle.fragments.specs.Parts.{choice_part_of, letter_part_of, linked, sequence_part_of, starred_part, starred_rows, stars};
 
 // What was read: where it ends, the number of the next letter, whether it may be empty, the numbers that may come first and last.
-#[derive(Drop)]
+#[derive(Clone, Copy)]
 pub struct Part {
     pub at: usize,
     pub next: usize,

@@ -11,7 +11,7 @@ use counts::count_of;
 use profile::limits::COUNT_NUMBERS;
 
 // The events between two prefixes: the first is not inside the second; or there is one, of this letter; or their number is another.
-#[derive(Drop)]
+#[derive(Clone, Copy)]
 pub enum Gap {
     Outside,
     Letter(usize),

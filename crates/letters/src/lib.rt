@@ -14,7 +14,7 @@ use profile::limits::{MOST_LETTERS, Place};
 const FEW: u32 = 3;
 
 // The set of the letters that can be added, and how many they are.
-#[derive(Drop)]
+#[derive(Clone, Copy)]
 pub struct Letters {
     pub set: u32,
     pub number: u32,

@@ -11,14 +11,14 @@ use profile::limits::{
 use profile::{Check, Refusal, Shape};
 
 // Where the log section of a file stands: why the file is refused, or the section's first place and its length.
-#[derive(Drop)]
+#[derive(Clone, Copy)]
 pub enum Located {
     Refused(Refusal),
     At(usize, usize),
 }
 
 // The answer of the reader: why the call is refused, or the file's numbers and its log's length.
-#[derive(Drop)]
+#[derive(Clone, Copy)]
 pub enum Reading {
     Refused(Refusal),
     Told(Shape, usize),

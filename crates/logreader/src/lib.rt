@@ -10,7 +10,7 @@ pub struct LogReader<'a> {
 }
 
 // The next event, or that none is left.
-#[derive(Drop)]
+#[derive(Clone, Copy)]
 pub enum Event {
     Letter(u8),
     End,

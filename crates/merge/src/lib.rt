@@ -17,7 +17,7 @@ use profile::limits::MOST_MOVES;
 const LETTERS: u32 = 65535;
 
 // The least counts that a cursor gives, and the letters whose cursors give them; none where every cursor is at the end.
-#[derive(Drop)]
+#[derive(Clone, Copy)]
 pub enum Least {
     Nothing,
     At(Counts, u32),
@@ -73,7 +73,7 @@ pub fn least_counts(level: &[u32], k: usize, cursors: &[usize]) -> Least
 
 // What the records from which a new one comes hand on to it, each with a letter that leads to the new one: the states that the letter leads to, the
 // letters that can be added to the record, its own letter aside, and the letters that may pass its own.
-#[derive(Drop)]
+#[derive(Clone, Copy)]
 pub struct Handed {
     pub forward: u32,
     pub letters: u32,

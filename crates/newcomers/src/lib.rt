@@ -237,7 +237,7 @@ fn put_newcomer(
 }
 
 // A new record: it is to be record i, record r with one letter more, and the new records begin with record `first`.
-#[derive(Drop)]
+#[derive(Clone, Copy)]
 struct Newcomer {
     first: usize,
     i: usize,

@@ -12,7 +12,7 @@ use profile::limits::{MOST_LETTERS, MOST_PLACES, Place};
 use profile::{Check, Refusal};
 
 // The answer of a first order.
-#[derive(Drop)]
+#[derive(Clone, Copy)]
 pub enum Ordered {
     Written,
     Refused(Refusal),

@@ -12,7 +12,7 @@ use gaps::Gap;
 use pairs::place;
 
 // A rule's two names and the record between their parts.
-#[derive(Drop)]
+#[derive(Clone, Copy)]
 pub struct Split {
     pub at: usize,
     pub first: usize,
@@ -57,7 +57,7 @@ fn parts_of(rules: &[u16], sets: &[u16], records: usize, i: usize, j: usize, n: 
 }
 
 // What is to be done for the events between two prefixes: a letter is put at a place; or there are two parts, and which is the smaller.
-#[derive(Drop)]
+#[derive(Clone, Copy)]
 pub enum Step {
     Leaf(usize, u8),
     Parts(Split, bool),

@@ -2,7 +2,7 @@
 pub mod limits;
 
 // The numbers of a profile; its masks and moves are slices beside it.
-#[derive(Drop)]
+#[derive(Clone, Copy)]
 pub struct Shape {
     pub k: usize,
     pub s: usize,
@@ -11,7 +11,7 @@ pub struct Shape {
 }
 
 // Why a call is refused. The definitions of `specs/Refusals.antt` give the number and the place.
-#[derive(Drop)]
+#[derive(Clone, Copy)]
 pub enum Refusal {
     ShortFile,
     OutOfRange,
@@ -37,7 +37,7 @@ pub enum Refusal {
 }
 
 // The answer of a check: nothing is refused, or the lowest refusal that applies.
-#[derive(Drop)]
+#[derive(Clone, Copy)]
 pub enum Check {
     Good,
     Bad(Refusal),

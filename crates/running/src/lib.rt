@@ -11,35 +11,35 @@ ghost use Rattle.running.specs.Running.{QuestionPromise, StartPromise};
 use profile::{Check, Refusal, Shape};
 
 // The record of a running judge: P, and the number of events taken.
-#[derive(Drop)]
+#[derive(Clone, Copy)]
 pub struct Running {
     pub prefixes: usize,
     pub taken: usize,
 }
 
 // The answer of a start: the record, or the refusal.
-#[derive(Drop)]
+#[derive(Clone, Copy)]
 pub enum Started {
     Refused(Refusal),
     Begun(Running),
 }
 
 // The answer to an event: it is taken, or the refusal.
-#[derive(Drop)]
+#[derive(Clone, Copy)]
 pub enum Step {
     Refused(Refusal),
     Taken,
 }
 
 // What an event with the record by value gives back: the record after it, as it was where the event is refused, and the answer.
-#[derive(Drop)]
+#[derive(Clone, Copy)]
 pub struct Stepped {
     pub held: Running,
     pub answer: Step,
 }
 
 // The answer to a question: verdict, P and the number of events taken, or the refusal.
-#[derive(Drop)]
+#[derive(Clone, Copy)]
 pub enum Told {
     Refused(Refusal),
     Verdict {

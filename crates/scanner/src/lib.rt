@@ -8,7 +8,7 @@ ghost use Rattle.expressions.specs.Passes.{letters_of, next, sign};
 ghost use Rattle.scanner.specs.Scan.{placed, scanned, sets_of};
 
 // Where the pass stands: whether the byte was good, whether a letter or a bracket must come, and how many brackets are open.
-#[derive(Drop)]
+#[derive(Clone, Copy)]
 struct Stand {
     good: bool,
     want: bool,
@@ -16,7 +16,7 @@ struct Stand {
 }
 
 // What a text is: the place where it breaks the rules, or how deep its brackets go and how many letters are typed.
-#[derive(Drop)]
+#[derive(Clone, Copy)]
 pub enum Scanned {
     Broken(usize),
     Right { deepest: usize, letters: usize },

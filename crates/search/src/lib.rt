@@ -6,7 +6,7 @@ ghost use Rattle.search.specs.Search.{Ordered, found_in, records_before, stands_
 use counts::Counts;
 
 // The record that has the counts, from 0; or, where none has, how many records stand before their place.
-#[derive(Drop)]
+#[derive(Clone, Copy)]
 pub enum Found {
     At(usize),
     Absent(usize),

@@ -9,14 +9,14 @@ use libc::STDOUT_FILENO;
 const MOST_CALLS: u64 = 0xffff_ffff_ffff_ffff;
 
 // The input: how many bytes of it are in the buffer, to its end or to the buffer's; or that a read failed.
-#[derive(Drop)]
+#[derive(Clone, Copy)]
 pub enum Input {
     Failed,
     Bytes(usize),
 }
 
 // One call: how many bytes it moved, none where a signal interrupted it; or the end; or that it failed.
-#[derive(Drop)]
+#[derive(Clone, Copy)]
 enum Call {
     Failed,
     End,

@@ -10,7 +10,7 @@ use profile::limits::{MOST_LETTERS, MOST_PLACES, Place, RECORD_NUMBERS};
 use profile::{Check, Refusal, Shape};
 
 // The answer of building: P and looks, or the refusal.
-#[derive(Drop)]
+#[derive(Clone, Copy)]
 pub enum Built {
     Refused(Refusal),
     Filled { prefixes: usize, looks: u64 },

@@ -9,7 +9,7 @@ use table::Built;
 use verdict::Judged;
 
 // Refusal 0 is none; verdict 2 is none; the log is that of a comparison, 0 for none.
-#[derive(Drop)]
+#[derive(Clone, Copy)]
 pub struct Answer {
     pub refusal: usize,
     pub place: usize,

@@ -2,7 +2,7 @@
 use crate::cells::{part8, plus};
 use libc::STDOUT_FILENO;
 
-#[derive(Drop)]
+#[derive(Clone, Copy)]
 pub struct Tally {
     pub cells: [u64; 128],
 }

@@ -6,7 +6,7 @@ use trial::tally::Tally;
 use trial_logs::prefixes::prefix_count;
 
 // A relation of k letters, a log of so many events, and P of it.
-#[derive(Drop)]
+#[derive(Clone, Copy)]
 pub struct Case {
     pub k: usize,
     pub masks: [u16; 4],

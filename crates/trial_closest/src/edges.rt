@@ -9,7 +9,7 @@ use trial::tally;
 use trial::tally::Tally;
 
 // The verdict, P, looks, swaps and floor.
-#[derive(Drop)]
+#[derive(Clone, Copy)]
 pub struct Case {
     pub verdict: usize,
     pub prefixes: usize,

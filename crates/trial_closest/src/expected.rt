@@ -10,7 +10,7 @@ use trial_terms::exchanges::put_letters;
 
 // The judge's order and its swaps; the closest order and its swaps, which are the fewest; all pairs. A listing that did not fit has count 0. Where there is no
 // order, its swaps are `NONE`.
-#[derive(Drop)]
+#[derive(Clone, Copy)]
 pub struct Expected {
     pub verdict: usize,
     pub prefixes: usize,

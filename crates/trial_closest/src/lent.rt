@@ -4,7 +4,7 @@ use trial::calls::{BYTES, NUMBERS};
 use trial::cells::part32;
 
 // The sizes of the order buffer, the work table and the cost table, and the budget.
-#[derive(Drop)]
+#[derive(Clone, Copy)]
 pub struct Lent {
     pub room: usize,
     pub size: usize,
@@ -13,7 +13,7 @@ pub struct Lent {
 }
 
 // Days of up to eight events, and terms, which take so many numbers; none for the call without terms.
-#[derive(Drop)]
+#[derive(Clone, Copy)]
 pub struct Dated {
     pub days: [u32; 8],
     pub terms: [u32; 24],
@@ -21,14 +21,14 @@ pub struct Dated {
 }
 
 // What a call gets beside the profile and the log.
-#[derive(Drop)]
+#[derive(Clone, Copy)]
 pub struct Call {
     pub lent: Lent,
     pub dated: Dated,
 }
 
 // The refusal's number, or 0, and what is told.
-#[derive(Drop)]
+#[derive(Clone, Copy)]
 pub struct Told {
     pub number: u32,
     pub told: [u64; 6],

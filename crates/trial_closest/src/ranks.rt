@@ -13,13 +13,13 @@ use trial_terms::exchanges::put_letters;
 pub const NONE: usize = 32;
 
 // For each state the fewest swaps with which a prefix leads to it.
-#[derive(Drop)]
+#[derive(Clone, Copy)]
 pub struct Fewest {
     pub states: [usize; 32],
 }
 
 // How many pairs have so many swaps, and how many there are.
-#[derive(Drop)]
+#[derive(Clone, Copy)]
 pub struct Ranks {
     pub swaps: [usize; 32],
     pub pairs: usize,

@@ -6,7 +6,7 @@ use trial::cells::{times, untouched32};
 use trial::shapes::shape_of;
 
 // Refusal 0 is none.
-#[derive(Drop)]
+#[derive(Clone, Copy)]
 pub struct Outcome {
     pub refusal: usize,
     pub place: usize,

@@ -1,6 +1,6 @@
 // A call: what it is given, and how much it is lent. Arrays are by value, so that a case is changed without a loan.
 
-#[derive(Drop)]
+#[derive(Clone, Copy)]
 pub struct Case {
     pub k: usize,
     pub names: usize,

@@ -31,7 +31,7 @@ pub const FEWER_PREFIXES: usize = 118;
 pub const FEWER_LOOKS: usize = 119;
 
 // What the listing says of a log: some listed log is accepted, the earliest of these, P and looks.
-#[derive(Drop)]
+#[derive(Clone, Copy)]
 pub struct Outcome {
     pub good: bool,
     pub order: [u8; 8],

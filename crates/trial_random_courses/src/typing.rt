@@ -3,7 +3,7 @@ use trial::cells::{at8, byte, minus, plus, put_run, put8};
 use trial::random::{below, seed_of};
 
 // Where the typing stands: a letter or a bracket must come; the brackets that are open.
-#[derive(Drop)]
+#[derive(Clone, Copy)]
 struct Standing {
     must: bool,
     open: usize,

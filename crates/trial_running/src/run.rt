@@ -47,7 +47,7 @@ pub const LISTING: usize = 14;
 pub const ANSWER: usize = 15;
 
 // The events taken, the numbers of the table, and what was compared.
-#[derive(Drop)]
+#[derive(Clone, Copy)]
 pub struct Run {
     pub log: [u8; 8],
     pub taken: usize,

@@ -171,7 +171,7 @@ fn table_right(
 }
 
 // What a log with terms is to get by the listing.
-#[derive(Drop)]
+#[derive(Clone, Copy)]
 pub struct Expected {
     pub verdict: usize,
     pub prefixes: usize,

@@ -9,7 +9,7 @@ use trial::tally;
 use trial::tally::Tally;
 
 // The mask of visible letters, the sizes of the lent buffers, and what is expected: a number, 0 for none, and its place, or P.
-#[derive(Drop)]
+#[derive(Clone, Copy)]
 pub struct Ask {
     pub shape: Shape,
     pub visible: u32,

@@ -8,7 +8,7 @@ use trial_logs::paths::ends;
 use trial_logs::prefixes::take_events;
 
 // The profile's numbers, the mask of visible letters, and how many lists are tried: all up to a length that no shorter one needs.
-#[derive(Drop)]
+#[derive(Clone, Copy)]
 pub struct View {
     pub shape: Shape,
     pub visible: usize,
@@ -16,7 +16,7 @@ pub struct View {
 }
 
 // Logs of n letters, reachable from one of them.
-#[derive(Drop)]
+#[derive(Clone, Copy)]
 pub struct Class {
     pub rows: [u8; 16384],
     pub count: usize,
@@ -24,7 +24,7 @@ pub struct Class {
 }
 
 // The earliest visible part that was found.
-#[derive(Drop)]
+#[derive(Clone, Copy)]
 pub struct Best {
     pub found: bool,
     pub letters: [u8; 8],

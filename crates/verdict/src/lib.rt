@@ -13,7 +13,7 @@ use profile::{Check, Refusal, Shape};
 use table::Built;
 
 // The answer of the judge: the verdict, P and looks, or the refusal.
-#[derive(Drop)]
+#[derive(Clone, Copy)]
 pub enum Judged {
     Refused(Refusal),
     NoOrder { prefixes: usize, looks: u64 },

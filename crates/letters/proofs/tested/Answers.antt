@@ -1,0 +1,16 @@
+-- `letters::tested` meets its contract.
+use mathlib.Core.Path.{◌∙◌, ap}
+use lib.Bits.{bit_and}
+use Rattle.profile.specs.Traces.{independent}
+use Rattle.counts.specs.Counts.{words}
+use Rattle.letters.proofs.Tests.{tested_all}
+use borrow.Author.Rules.{rules}
+use Rattle.letters.proofs.tested.Goals as goal
+
+pub returns-then-set-le-FEW : goal.returns-then-set-le-FEW
+returns-then-set-le-FEW c = c.tested_few.ensures
+
+pub returns : goal.returns
+returns c =
+    let a = c.args in
+    ap (λ S. bit_and S a.set) c.addable-found.ensures.0 ∙ tested_all (independent a.masks.now) a.k a.n a.starts.now a.places.now (words a.c) a.set

@@ -1,0 +1,46 @@
+use Prim.Native.Nat.{ℕ, ◌-◌, ◌^◌, ◌<◌}
+use mathlib.Core.Path.{◌≡◌, sym, ◌∙◌, ap}
+use mathlib.Core.Logic.{⊎_elim}
+use native.Mathlib.Omega.{arith}
+use lib.Bits.{bit_and, bit_or, and_le_r, or_zero_l}
+use lib.Count.{trailing_le, count_trailing_zeros}
+use Rattle.profile.specs.Traces.{independent}
+use Rattle.counts.specs.Counts.{words}
+use Rattle.parents.proofs.Unions.{over_left, over_none, over_taken}
+use Rattle.letters.specs.Letters.{letter_by, tested_by}
+use borrow.Author.Rules.{rules}
+use Rattle.letters.proofs.tested_few.Goals as goal
+use Rattle.letters.proofs.tested_few.Goals.{else-x-k, then-x-k}
+
+pub loop-rest-init : goal.loop-rest-init
+loop-rest-init c = (search rules, or_zero_l _)
+
+pub overflow_cast-x : goal.overflow_cast-x
+overflow_cast-x c = omega (arith, trailing_le 32 c.loop-rest.rest)
+
+pub loop-rest-smaller : goal.loop-rest-smaller
+loop-rest-smaller c = let n = c.loop-rest.rest in omega (arith, and_le_r n (n - 1))
+
+pub loop-rest-preserved : goal.loop-rest-preserved
+loop-rest-preserved c =
+    let a = c.args in
+    let l = c.loop-rest in
+    let n = l.rest in
+    let t = c.numbers-t.result in
+    let r = bit_and n (n - 1) in
+    let some : 0 < n = omega arith in
+    let f = letter_by (independent a.masks.now) a.k a.n a.starts.now a.places.now t in
+    let all = tested_by (independent a.masks.now) a.k a.n a.starts.now a.places.now t in (
+      omega (arith, and_le_r n (n - 1), l.invariant.0),
+      (elim c.if-x-k.branch [ then-x-k w ↦ ap (λ o. bit_or o (all r)) (w.out-is ∙ ap (bit_or l.out) w.tested_letter-out.ensures) ∙ over_taken f a.k n some l.invariant.0 l.out w.if-x-k.true ∙ l.invariant.1 | else-x-k w ↦ ap (λ o. bit_or o (all r)) w.out-is ∙ ap (bit_or l.out) (over_left f a.k n some l.invariant.0 w.if-x-k.false) ∙ l.invariant.1 ]),
+    )
+
+pub returns : goal.returns
+returns c =
+    let a = c.args in
+    let l = c.loop-rest in
+    let t = c.numbers-t.result in
+    let f = letter_by (independent a.masks.now) a.k a.n a.starts.now a.places.now t in
+    let all = tested_by (independent a.masks.now) a.k a.n a.starts.now a.places.now in
+    let e : 0 ≡ l.rest = omega arith in
+    sym (over_none f a.k l.out) ∙ ap (λ n. bit_or l.out (all t n)) e ∙ l.invariant.1 ∙ ap (λ v. all v a.set) c.numbers-t.ensures

@@ -1,0 +1,21 @@
+-- `letters::tested_few` meets its contract. The loop's invariant: `out`, united with those of the letters that are left that can be added, is the whole.
+-- The measure is the set of the letters that are left, as a number.
+use Prim.Native.Nat.{ℕ, ◌-◌, ◌^◌, ◌<◌}
+use mathlib.Core.Path.{◌≡◌, sym, ◌∙◌, ap}
+use mathlib.Core.Logic.{⊎_elim}
+use native.Mathlib.Omega.{arith}
+use lib.Bits.{bit_and, bit_or, and_le_r, or_zero_l}
+use lib.Count.{trailing_le, count_trailing_zeros}
+use Rattle.profile.specs.Traces.{independent}
+use Rattle.counts.specs.Counts.{words}
+use Rattle.parents.proofs.Unions.{over_left, over_none, over_taken}
+use Rattle.letters.specs.Letters.{letter_by, tested_by}
+use borrow.Author.Rules.{rules}
+use Rattle.letters.proofs.tested_few.Given as goal
+
+abbrev pub invariant-loop-rest : goal.invariant-loop-rest
+invariant-loop-rest l =
+    (l.rest < 2 ^ 32) × (bit_or l.out (tested_by (independent l.masks) l.k l.n l.starts l.places l.t l.rest) ≡ tested_by (independent l.masks) l.k l.n l.starts l.places l.t l.set)
+
+abbrev pub decreases-loop-rest : goal.decreases-loop-rest
+decreases-loop-rest l = l.rest

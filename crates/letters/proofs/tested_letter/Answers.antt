@@ -1,0 +1,90 @@
+use borrow.Author.Rules.{rules}
+use borrow.Author.Tests.{le-ltb}
+use mathlib.Core.Path.{◌≡◌, sym, ◌∙◌, ap, subst}
+use mathlib.Core.Bool.{◌&&◌, cond}
+use Prim.Native.Nat.{ℕ, ◌-◌, ◌*◌, ◌%◌, ◌^◌, ◌≤◌, ◌<◌}
+use native.Mathlib.Nat.{one-mul}
+use native.Mathlib.Omega.{arith}
+use lib.Bits.{and_le_r}
+use lib.Count.{trailing_le, count_trailing_zeros}
+use lib.Dec.{not_T, ltb, lt→ltb}
+use lib.Pow.{shl_exact}
+use Rattle.profile.specs.Lists.{all, below}
+use Rattle.profile.specs.Prefixes.{at}
+use Rattle.profile.specs.Traces.{independent}
+use Rattle.profile.proofs.Lists.{both, is_false, is_true, snd_of}
+use Rattle.theory.proofs.SetLoops.{rest_first}
+use Rattle.events.specs.Events.{comes_next?, keepers, lets_by?}
+use Rattle.events.proofs.Keepers.{Left, keepers_own, left_first, left_next, left_none, left_stops}
+use Rattle.letters.specs.Letters.{next_by, place_by}
+use Rattle.letters.proofs.Additions.{at_next_by}
+use Rattle.letters.proofs.tested_letter.Goals as goal
+
+pub returns-then-n-own : goal.returns-then-n-own
+returns-then-n-own c =
+    let a = c.args in
+    let next = next_by a.k a.starts.now a.places.now a.t.now in
+    let own : at next a.x ≡ place_by a.starts.now a.places.now a.t.now a.x = at_next_by a.k a.starts.now a.places.now a.t.now a.x c.requires.k_le_most_letters.1 in
+    let h : a.n ≤ at next a.x = omega (arith, c.place_of-own.ensures, own) in
+    sym (ap (λ b. cond (b && all (lets_by? (independent a.masks.now) (at next) a.x) (below a.k)) (2 ^ a.x) 0) (le-ltb (at next a.x) a.n h))
+
+pub loop-rest-init : goal.loop-rest-init
+loop-rest-init c =
+    let s = c in
+    let a = s.args in
+    let may = independent a.masks.now in
+    let next = next_by a.k a.starts.now a.places.now a.t.now in
+    let e : at a.keepers.now a.x ≡ keepers may a.k a.x = ap (λ l. at l a.x) s.requires.keepers_value ∙ keepers_own may a.k a.x (omega arith) in
+    subst (Left may a.k a.x (at next)) (sym e) (left_first may a.k a.x (at next) s.requires.k_le_most_letters.0)
+
+pub overflow_cast-y : goal.overflow_cast-y
+overflow_cast-y c = omega (arith, trailing_le 32 c.loop-rest.rest)
+
+pub place_of-requires : goal.place_of-requires
+place_of-requires c =
+    let l = c.loop-rest in
+    omega (arith, (l.invariant.keep (count_trailing_zeros 32 l.rest) (rest_first l.rest (omega arith) l.invariant.small)).0)
+
+pub returns-then-place_of-own : goal.returns-then-place_of-own
+returns-then-place_of-own c =
+    let a = c.args in
+    let next = next_by a.k a.starts.now a.places.now a.t.now in
+    let own : at next a.x ≡ place_by a.starts.now a.places.now a.t.now a.x = at_next_by a.k a.starts.now a.places.now a.t.now a.x c.requires.k_le_most_letters.1 in
+    let l = c.loop-rest in
+    let y = count_trailing_zeros 32 l.rest in
+    let lt = (l.invariant.keep y (rest_first l.rest (omega arith) l.invariant.small)).0 in
+    let his : at next y ≡ place_by a.starts.now a.places.now a.t.now y = at_next_by a.k a.starts.now a.places.now a.t.now y lt in
+    let p = lets_by? (independent a.masks.now) (at next) a.x in
+    let q = ltb (at next a.x) a.n in
+    let h : at next y ≤ at next a.x = omega (arith, c.place_of.ensures, c.place_of-own.ensures, own, his) in
+    sym (ap (λ b. cond b (2 ^ a.x) 0) (is_false (q && all p (below a.k)) (not_T (q && all p (below a.k)) (λ t.
+    left_stops (independent a.masks.now) a.k a.x (at next) l.rest (omega arith) l.invariant h (snd_of q (all p (below a.k)) t)))))
+
+pub loop-rest-smaller : goal.loop-rest-smaller
+loop-rest-smaller c = let n = c.loop-rest.rest in omega (arith, and_le_r n (n - 1))
+
+pub loop-rest-preserved : goal.loop-rest-preserved
+loop-rest-preserved c =
+    let a = c.args in
+    let next = next_by a.k a.starts.now a.places.now a.t.now in
+    let own : at next a.x ≡ place_by a.starts.now a.places.now a.t.now a.x = at_next_by a.k a.starts.now a.places.now a.t.now a.x c.requires.k_le_most_letters.1 in
+    let l = c.loop-rest in
+    let y = count_trailing_zeros 32 l.rest in
+    let lt = (l.invariant.keep y (rest_first l.rest (omega arith) l.invariant.small)).0 in
+    let his : at next y ≡ place_by a.starts.now a.places.now a.t.now y = at_next_by a.k a.starts.now a.places.now a.t.now y lt in
+    let h : at next a.x < at next y = omega (arith, c.place_of.ensures, c.place_of-own.ensures, own, his) in
+    left_next (independent a.masks.now) a.k a.x (at next) l.rest (omega arith) l.invariant h
+
+pub returns : goal.returns
+returns c =
+    let a = c.args in
+    let next = next_by a.k a.starts.now a.places.now a.t.now in
+    let own : at next a.x ≡ place_by a.starts.now a.places.now a.t.now a.x = at_next_by a.k a.starts.now a.places.now a.t.now a.x c.requires.k_le_most_letters.1 in
+    let may = independent a.masks.now in
+    let p = lets_by? may (at next) a.x in
+    let q = ltb (at next a.x) a.n in
+    let h : at next a.x < a.n = omega (arith, c.place_of-own.ensures, own) in
+    let e : c.loop-rest.rest ≡ 0 = omega arith in
+    (shl_exact {a = 1} 1 a.x 32 (omega arith) (omega arith) ∙ one-mul (2 ^ a.x))
+    ∙ sym (ap (λ b. cond b (2 ^ a.x) 0) (is_true (q && all p (below a.k)) (both q (all p (below a.k))
+    (lt→ltb (at next a.x) a.n h) (left_none may a.k a.x (at next) (subst (Left may a.k a.x (at next)) e c.loop-rest.invariant)))))
