@@ -1,4 +1,6 @@
 // Comparison of two logs: document 01, "Comparison".
+#![tactic(auto)]
+
 ghost use Rattle.std.specs.Prelude.{◌≡◌, ◌||◌, ◌+◌, ◌-◌, eqb, drop};
 ghost use Rattle.profile.specs.Lists.{all, equal?, first_place, range};
 ghost use Rattle.profile.specs.Orders.{project, same?};

@@ -17,7 +17,7 @@ use Rattle.profile.specs.declared.Shape.{Shape}
 use Rattle.profile.specs.Refusals.{lowest}
 use Rattle.expressions.specs.Expressions.{Expr, size}
 use Rattle.expressions.specs.Positions.{finals_of}
-use Rattle.expressions.specs.Texts.{Right as Right-typed, Typed, expression}
+use Rattle.expressions.specs.Texts.{Typed, expression}
 use Rattle.expressions.specs.Passes.{fault, letters_of}
 use Rattle.expressions.proofs.Letters.{letters_typed}
 use Rattle.expressions.proofs.Numbers.{length_leaves}

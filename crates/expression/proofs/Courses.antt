@@ -2,12 +2,12 @@
 use mathlib.Core.Path.{◌≡◌, refl, sym, ◌∙◌, ap, ap₂, subst, subst₂}
 use mathlib.Core.Logic.{◌⊎◌, ◌↔◌}
 use mathlib.Core.Bool.{Bool, true, false}
-use mathlib.Core.List.{List, [], ◌∷◌, ◌++◌}
+use mathlib.Core.List.{List, []}
 use mathlib.Core.Option.{Option, none-ne-some, some-injective, some-ne-none, none, some}
-use Prim.Native.Nat.{ℕ, suc, ◌*◌, ◌+◌, ◌≤◌, ◌<◌}
+use Prim.Native.Nat.{ℕ, suc, ◌*◌, ◌≤◌, ◌<◌}
 use native.Mathlib.Omega.{arith}
 use lib.Dec.{T}
-use lib.ListN.{drop, get_or, length, take}
+use lib.ListN.{drop, length, take}
 use lib.Seq.{drop_at, take_at}
 use Rattle.profile.specs.Limits.{most_letters}
 use Rattle.profile.specs.declared.Refusal.{Refusal}
@@ -17,7 +17,7 @@ use Rattle.profile.specs.Automata.{Accepted, automaton, profile_of, row}
 use Rattle.profile.specs.Refusals.{profile_out_of_range, refusal_number, refusal_place, state_bit}
 use Rattle.profile.specs.Traces.{bit, letters_below}
 use Rattle.expressions.specs.Expressions.{Describes, EndsIn, Expr, Leads, letter_at, numbered, size}
-use Rattle.expressions.specs.Positions.{finals_of, made, moves_of}
+use Rattle.expressions.specs.Positions.{moves_of}
 use Rattle.expressions.specs.Texts.{Breaks, Typed, expression}
 use Rattle.expressions.specs.Passes.{fault}
 use Rattle.expressions.proofs.Letters.{leaves_below}
@@ -29,7 +29,7 @@ use Rattle.expressions.specs.Trees.{tree}
 use Rattle.expression.specs.declared.Made.{Made}
 use Rattle.expression.specs.declared.Made.TheVariants.{Profile, Refused}
 use Rattle.expression.specs.Making.{buffer_as, made_as, made_buffer, make_refusal, making, moves_put, refused_by, shape_of, too_deep, too_many, too_short}
-use Rattle.expression.proofs.Answers.{five, good_text, k_good, refused_is}
+use Rattle.expression.proofs.Answers.{five, good_text, k_good}
 
 -- a profile was made: its numbers h, and the moves in `after`
 pub record Courses (k : ℕ) (u before : List ℕ) (h : Shape) (after : List ℕ) : Type 0 where

@@ -1,5 +1,5 @@
 -- Texts and buffers at the edges of the refusals, computed: 11 over the whole text before 12 and 13, these before 9, and 2 before all.
-use mathlib.Core.Bool.{Bool, true, false, ◌&&◌}
+use mathlib.Core.Bool.{Bool, ◌&&◌}
 use mathlib.Core.List.{List, [], ◌∷◌, ◌++◌}
 use mathlib.Core.Option.{Option, none, some}
 use Prim.Native.Nat.{ℕ}

@@ -1,5 +1,5 @@
 -- The moves, number by number.
-use mathlib.Core.Path.{◌≡◌, refl, sym, ◌∙◌, ap, ap₂, subst}
+use mathlib.Core.Path.{◌≡◌, sym, ◌∙◌, ap, ap₂, subst}
 use mathlib.Core.List.{List, [], ◌++◌, append-nil, map}
 use Prim.Native.Nat.{ℕ, zero, suc, ◌+◌, ◌*◌, ◌/◌, ◌%◌, ◌≤◌, ◌<◌}
 use native.Mathlib.Nat.{div-add-mod', div-lt_iff_lt-mul, mod-lt}
@@ -8,7 +8,6 @@ use lib.Bits.{bit_and, bit_or}
 use lib.ListN.{drop, get_or, get_or-replicate, length, length-set, replicate, set}
 use lib.Seq.{ext_get_or, get_or-set_other, get_or-set_same}
 use Rattle.profile.specs.Limits.{most_letters, most_states, most_typed}
-use Rattle.profile.specs.Automata.{row}
 use Rattle.profile.specs.Lists.{below}
 use Rattle.theory.proofs.Counting.{at_map, length_range}
 use Rattle.expressions.specs.Expressions.{Expr, leaves, numbered, size}

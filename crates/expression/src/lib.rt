@@ -1,4 +1,6 @@
 // Courses typed as an expression: document 02, Paper 1.
+#![tactic(auto)]
+
 ghost use Rattle.std.specs.Prelude.{◌≡◌, ◌*◌, ◌≤◌, length};
 ghost use Rattle.std.specs.Int.Bits.{bit_or};
 ghost use Rattle.profile.specs.Limits.{most_letters};

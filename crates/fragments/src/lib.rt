@@ -1,4 +1,5 @@
 // Parts of an expression as they are read: their numbers that may come first and last, and what may follow each number.
+#![tactic(auto)]
 
 ghost use Rattle.std.specs.Prelude.{◌≡◌, ◌&&◌, ◌||◌, ◌+◌, ◌<◌, ◌≤◌, drop, length};
 ghost use Rattle.profile.specs.Limits.{most_states};

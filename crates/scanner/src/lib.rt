@@ -1,4 +1,5 @@
 // The pass over a text: where it breaks the rules, how deep its brackets go, its letters.
+#![tactic(auto)]
 
 ghost use Rattle.std.specs.Prelude.{◌≡◌, [], ◌∷◌, ◌+◌, ◌-◌, ◌^◌, ◌<◌, ◌≤◌, max, get_or, length, replicate, set};
 ghost use Rattle.std.specs.Int.Bits.{bit_or};
