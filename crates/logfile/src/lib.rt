@@ -1,4 +1,6 @@
 // The file reader: refusals 1 to 9, the masks and moves of a file, its log part.
+#![tactic(auto)]
+
 ghost use Rattle.std.specs.Prelude.{◌≡◌, false, ◌++◌, ◌+◌, ◌*◌, ◌≤◌, length, get_or, drop};
 ghost use Rattle.profile.specs.Limits.{finals_byte};
 ghost use Rattle.profile.specs.Refusals.{checked, lowest};

@@ -1,4 +1,6 @@
 // The log reader: document 01, "a log reader keeps the log part together with the place of its next event".
+#![tactic(auto)]
+
 ghost use Rattle.std.specs.Prelude.{◌≡◌, ◌+◌};
 ghost use Rattle.logreader.specs.Events.{event_of, place_behind};
 
