@@ -1,4 +1,6 @@
 // How large a table to buy: document 02, Paper 11.
+#![tactic(auto)]
+
 ghost use Rattle.std.specs.Prelude.{◌≡◌};
 ghost use Rattle.ceiling.specs.Ceiling.{bounding};
 

@@ -1,4 +1,6 @@
 // How large a table to buy: document 02, Paper 11. Its limits, and the test of a group's letter.
+#![tactic(auto)]
+
 ghost use Rattle.std.specs.Prelude.{◌≡◌, [], ◌∷◌};
 ghost use Rattle.profile.specs.Traces.{bit};
 ghost use Rattle.ceilings.specs.Ceilings.{highest_ceiling, most_groups};

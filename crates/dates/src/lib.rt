@@ -1,4 +1,6 @@
 // Terms: document 02, Paper 8. Terms are the first and the last day of each, one term after the other.
+#![tactic(auto)]
+
 ghost use Rattle.std.specs.Prelude.{◌≡◌, ◌++◌, map, ◌<◌, length, drop, get_or};
 ghost use Rattle.profile.specs.Refusals.{checked, lowest};
 ghost use Rattle.terms.specs.Terms.{bad_term, events as events-of, in_term?, no_term, rise?, rises?, term_count, term_of as term-by, term_refusals};

@@ -1,4 +1,6 @@
 // Days: document 02, Paper 8. A day is year × 10,000 + month × 100 + day.
+#![tactic(auto)]
+
 ghost use Rattle.std.specs.Prelude.{◌≡◌, not};
 ghost use Rattle.profile.specs.Lists.{any};
 ghost use Rattle.terms.specs.Days.{day?, leap?, month_days as days-of-month};

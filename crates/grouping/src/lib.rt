@@ -1,4 +1,6 @@
 // The check of letter groups: refusal 18 of document 02, Paper 11.
+#![tactic(auto)]
+
 ghost use Rattle.std.specs.Prelude.{◌&&◌, ◌≡◌, get_or};
 ghost use Rattle.profile.specs.Automata.{meets};
 ghost use Rattle.profile.specs.Lists.{any};

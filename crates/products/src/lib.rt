@@ -1,4 +1,6 @@
 // The events of each letter, of each group, and their product: document 02, Paper 11.
+#![tactic(auto)]
+
 ghost use Rattle.std.specs.Prelude.{cond, map, ◌≡◌, ◌+◌, ◌≤◌, min, T, length};
 ghost use Rattle.profile.specs.Limits.{longest, most_letters};
 ghost use Rattle.profile.specs.Lists.{below};

@@ -1,4 +1,5 @@
 // The limits of document 02, Paper 8, for code; `specs/` has the same names with the paper's words.
+#![tactic(auto)]
 
 // The years of days, first and last.
 pub const FIRST_YEAR: u32 = 1900;

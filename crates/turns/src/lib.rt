@@ -1,4 +1,6 @@
 // The numbers of a turn, for code; `specs/Turns.antt` has the same names.
+#![tactic(auto)]
+
 use profile::limits::Place;
 
 // What the place in a turn stays below, and the term behind the last event.
