@@ -3,7 +3,7 @@ use mathlib.Core.Path.{◌≡◌, refl, sym, ◌∙◌, ap, subst}
 use mathlib.Core.Bool.{true, not}
 use mathlib.Core.Logic.{◌⊎◌, inl, inr, ⊎_elim, ◌↔◌}
 use mathlib.Core.List.{List, [], ◌∷◌, ◌++◌, nil≢cons}
-use Prim.Native.Nat.{ℕ, zero, suc, ◌+◌, ◌^◌, ◌≤◌, ◌<◌}
+use Prim.Native.Nat.{ℕ, zero, suc, ◌^◌, ◌≤◌, ◌<◌}
 use native.Mathlib.Omega.{arith}
 use lib.Bits.{bit_or}
 use lib.Dec.{T, T_not, ltb, ltb→lt, lt→ltb}
@@ -30,12 +30,12 @@ module _ (next : ℕ → ℕ) where
       wider : {a b : ℕ} → a < b → a < suc b
       wider l = omega arith
 
-  via_through : {n q r : ℕ} → Via next n q n → Via next n n r → Via next (suc n) q r
-  via_through {n} (straight h) v = over h (self n) (via_more v)
+  via_through : {n q k r : ℕ} → Via next n q k → k ≡ n → Via next n n r → Via next (suc n) q r
+  via_through {n} (straight {q = q} h) e v = over (subst (λ z. T (bit (next q) z)) e h) (self n) (via_more v)
     where
       self : (n : ℕ) → n < suc n
       self n = omega arith
-  via_through (over h l u) v = over h (wider l) (via_through u v)
+  via_through (over h l u) e v = over h (wider l) (via_through u e v)
     where
       wider : {a b : ℕ} → a < b → a < suc b
       wider l = omega arith
@@ -74,7 +74,7 @@ module _ (next : ℕ → ℕ) where
   reaches_at (suc n) q r h = go (test (bit (reaches next n q) n)) (reaches_at n)
     where
       go : T (bit (reaches next n q) n) ⊎ T (not (bit (reaches next n q) n)) → ((a b : ℕ) → T (bit (reaches next n a) b) → Via next n a b) → Via next (suc n) q r
-      go (inl t) ih = ⊎_elim (λ k. via_more (ih q r k)) (λ k. via_through (ih q n t) (ih n r k))
+      go (inl t) ih = ⊎_elim (λ k. via_more (ih q r k)) (λ k. via_through (ih q n t) refl (ih n r k))
           (either (bit (reaches next n q) r) (bit (reaches next n n) r) (rw (bit_of_or (reaches next n q) (reaches next n n) r) at (rw (reaches_yes n q t) at h)))
       go (inr t) ih = via_more (ih q r (rw (reaches_no n q t) at h))
 
