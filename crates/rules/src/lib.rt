@@ -1,4 +1,6 @@
 // The rules of a grammar as numbers, and their check: document 02, Paper 13.
+#![tactic(auto)]
+
 ghost use Rattle.std.specs.Prelude.{◌≡◌};
 ghost use Rattle.grammars.specs.Grammars.{bad_rules as rules-bad, first_of, kind_of, letter_of, name_of, rule_out_of_range, second_of};
 
