@@ -1,7 +1,7 @@
 // The judge on the usable part of the table; after 10 nothing is left in it.
 ghost use Rattle.std.specs.Prelude.{◌≡◌, ◌≤◌, length, replicate};
 ghost use Rattle.profile.specs.Automata.{automaton, profile_of};
-ghost use Rattle.cleared.specs.Cleared.{Clean, answer, order_left, table_left, usable as usable-of};
+ghost use Rattle.cleared.specs.Cleared.{Clean, answer, order_left, table_left, usable as usable_of};
 
 use profile::Shape;
 use profile::limits::RECORD_NUMBERS;
@@ -9,7 +9,7 @@ use verdict::Judged;
 
 // The numbers of the table that have place for records.
 fn usable(table: &[u32]) -> usize
-    ensures { (result ≡ usable-of (length table.now)) × (result ≤ length table.now) }
+    ensures { (result ≡ usable_of (length table.now)) × (result ≤ length table.now) }
 {
     RECORD_NUMBERS * records::capacity(table)
 }

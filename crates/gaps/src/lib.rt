@@ -1,4 +1,6 @@
 // How the prefixes of two records stand to each other: document 02, Paper 13, "each pair of prefixes".
+#![tactic(auto)]
+
 ghost use Rattle.std.specs.Prelude.{◌≡◌, ℕ, ◌+◌, ◌*◌, ◌≤◌, ◌<◌, length};
 ghost use Rattle.profile.specs.Limits.{most_letters};
 ghost use Rattle.profile.specs.Prefixes.{total};

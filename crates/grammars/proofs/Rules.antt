@@ -22,6 +22,7 @@ when_at false m n t = absurd (not_in_none n t)
 
 pub when_of : (b : Bool) (m : ℕ) → T b → T (bit (cond b (2 ^ m) 0) m)
 when_of true m t = bit_self m
+when_of false m t = elim t [ ]
 
 -- what one rule gives
 pub record GivesTwo (n l r x : ℕ) : Type 0 where

@@ -19,7 +19,7 @@ use Rattle.profile.proofs.Sets.{t_eq, bit_self, bit_single, meets_at, meets_of}
 use Rattle.theory.proofs.Counting.{length_range}
 use Rattle.theory.proofs.Fronts.{front_at}
 use Rattle.views.specs.Views.{reaches}
-use Rattle.views.proofs.Hidden.{reaches_no, reaches_yes}
+use Rattle.views.proofs.Hiding.{reaches_no, reaches_yes}
 use Rattle.hidden.specs.Hidden.{widened}
 
 -- a state is in a set where the set of this state meets it

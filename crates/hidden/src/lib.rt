@@ -1,11 +1,13 @@
 // Hidden letters: the states that they reach, the moves with hidden letters before each letter, the final states with hidden letters before them.
+#![tactic(auto)]
+
 ghost use Rattle.std.specs.Prelude.{◌≡◌, cond, not, ◌++◌, map, ◌*◌, ◌≤◌, ◌<◌, drop, get_or, length};
 ghost use Rattle.std.specs.Int.Bits.{bit_or};
 ghost use Rattle.profile.specs.Limits.{most_letters, most_states};
 ghost use Rattle.profile.specs.Lists.{below};
 ghost use Rattle.profile.specs.Traces.{bit};
 ghost use Rattle.views.specs.Views.{reach as reach_of, unseen as unseen_of};
-ghost use Rattle.hidden.specs.Hidden.{bare, late_move, led_into, widened as widened-by};
+ghost use Rattle.hidden.specs.Hidden.{bare, late_move, led_into, widened as widened_by};
 
 use steps::{leads_from, meet, step_forward};
 
@@ -52,7 +54,7 @@ fn put_unseen(moves: &[u32], k: usize, s: usize, visible: u32, reach: &mut [u32]
 // The set, and with it another where it has state n.
 fn widened(set: u32, over: u32, n: usize) -> u32
     requires { n < most_states }
-    ensures { result ≡ widened-by over n set }
+    ensures { result ≡ widened_by over n set }
 {
     if meet(set, 1u32 << n) {
         set | over
@@ -64,7 +66,7 @@ fn widened(set: u32, over: u32, n: usize) -> u32
 // Adds to each set that has state n what is reached from n.
 fn pass(reach: &mut [u32], s: usize, n: usize)
     requires { (s ≤ most_states) × (n < s) × (s ≤ length reach.old) }
-    ensures { reach.new ≡ map (λ q. widened-by (get_or reach.old n 0) n (get_or reach.old q 0)) (below s) ++ drop s reach.old }
+    ensures { reach.new ≡ map (λ q. widened_by (get_or reach.old n 0) n (get_or reach.old q 0)) (below s) ++ drop s reach.old }
 {
     let over = reach[n];
     let mut q = 0;

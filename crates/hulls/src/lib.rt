@@ -1,4 +1,6 @@
 // Hidden letters behind the last letter of each forward set, record by record.
+#![tactic(auto)]
+
 ghost use Rattle.std.specs.Prelude.{◌≡◌, ◌*◌, ◌≤◌, length};
 ghost use Rattle.profile.specs.Limits.{most_states};
 ghost use Rattle.profile.specs.Tables.{layout, record_length};

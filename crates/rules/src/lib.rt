@@ -1,6 +1,8 @@
 // The rules of a grammar as numbers, and their check: document 02, Paper 13.
+#![tactic(auto)]
+
 ghost use Rattle.std.specs.Prelude.{◌≡◌};
-ghost use Rattle.grammars.specs.Grammars.{bad_rules as rules-bad, first_of, kind_of, letter_of, name_of, rule_out_of_range, second_of};
+ghost use Rattle.grammars.specs.Grammars.{bad_rules as rules_bad, first_of, kind_of, letter_of, name_of, rule_out_of_range, second_of};
 
 // The names and the rules of a grammar: so many at most.
 pub const MOST_NAMES: usize = 16;
@@ -52,7 +54,7 @@ fn bad_rule(k: usize, names: usize, x: u16) -> bool
 
 // The grammar is refused by 21.
 pub fn bad_rules(k: usize, names: usize, rules: &[u16]) -> bool
-    ensures { result ≡ rules-bad k names rules.now }
+    ensures { result ≡ rules_bad k names rules.now }
 {
     if names < 1 {
         return true;

@@ -1,9 +1,11 @@
 // Sets of names by the rules of a grammar: document 02, Paper 13.
+#![tactic(auto)]
+
 ghost use Rattle.std.specs.Prelude.{◌≡◌, cond, ◌^◌, ◌≤◌, ◌<◌, length};
 ghost use Rattle.profile.specs.Traces.{bit};
 ghost use Rattle.grammars.specs.Grammars.{most_names, name_of};
-ghost use Rattle.grammars.specs.Sets.{lettered as letter-set, lettered_by};
-ghost use Rattle.rulesets.specs.Rulesets.{Spread, closed as closed-set, closed_by, first_fitting, fits?};
+ghost use Rattle.grammars.specs.Sets.{lettered as letter_set, lettered_by};
+ghost use Rattle.rulesets.specs.Rulesets.{Spread, closed as closed_set, closed_by, first_fitting, fits?};
 
 use rules::{first, kind, letter, name, second};
 
@@ -56,7 +58,7 @@ fn fits(n: usize, x: u16, y: u16, z: u16) -> bool
 
 // The names to which a rule gives the letter a.
 pub fn lettered(rules: &[u16], a: usize) -> u16
-    ensures { result ≡ letter-set rules.now a }
+    ensures { result ≡ letter_set rules.now a }
 {
     let mut out = 0u16;
     let mut i = 0;
@@ -83,7 +85,7 @@ pub fn spread(x: u16, y: u16, acc: &mut [u16])
 // The names to which a rule gives two names, the second in the set of the first.
 pub fn closed(rules: &[u16], acc: &[u16]) -> u16
     requires { most_names ≤ length acc.now }
-    ensures { result ≡ closed-set rules.now acc.now }
+    ensures { result ≡ closed_set rules.now acc.now }
 {
     let mut out = 0u16;
     let mut i = 0;

@@ -21,7 +21,7 @@ use Rattle.theory.proofs.Counting.{at_map}
 use Rattle.theory.proofs.Profiles.{lawful}
 use Rattle.theory.proofs.Refusals.{GoodProfile}
 use Rattle.views.specs.Views.{Hiding, finals_late, hull, late, leads_late, reach, view}
-use Rattle.views.proofs.Hidden.{hiding_append, hiding_none, hull_at, hull_of, reach_exactly}
+use Rattle.views.proofs.Hiding.{hiding_append, hiding_none, hull_at, hull_of, reach_exactly}
 use Rattle.views.proofs.Paths.{move_inside, view_ends_at, view_ends_of}
 use Rattle.views.proofs.Said.{marked_all, reach_all, unmarked_all}
 

@@ -15,7 +15,7 @@ use Rattle.theory.proofs.Automata.{Lawful, leads_append}
 use Rattle.theory.proofs.Profiles.{lawful}
 use Rattle.theory.proofs.Refusals.{GoodProfile}
 use Rattle.views.specs.Views.{Behind, Hiding, hull, leads_late, reach, seen, view}
-use Rattle.views.proofs.Hidden.{hiding_append, hiding_none, hull_at, hull_of, reach_exactly}
+use Rattle.views.proofs.Hiding.{hiding_append, hiding_none, hull_at, hull_of, reach_exactly}
 
 module _ (p : Profile) (good : GoodProfile p) (visible : ℕ) where
   -- moves lead to states

@@ -48,6 +48,7 @@ seen_passes k visible w e = (lowest_none (log_refusals k (seen visible w))).1 go
     go c (Memᴰ.head q) = ap (λ (y : Bool × Refusal). y.0) q ∙ le-ltb 4000 (length (seen visible w)) (omega (arith, seen_length visible w, (log_at k w e).short))
     go c (Memᴰ.tail (Memᴰ.head q)) = ap (λ (y : Bool × Refusal). y.0) q
         ∙ any_false (leb k) (seen visible w) (λ a m. not_any (leb k) (h (any (leb k) w, BadLetter _) (Memᴰ.tail (Memᴰ.head refl))) a (filter_at (bit visible) w m).0)
+    go c (Memᴰ.tail (Memᴰ.tail n)) = elim n [ ]
 
 module _ (p : Profile) (visible : ℕ) (clean : lowest (profile_refusals p) ≡ none) where
   good : GoodProfile p
@@ -70,6 +71,7 @@ module _ (p : Profile) (visible : ℕ) (clean : lowest (profile_refusals p) ≡ 
       mapped : (l : List ℕ) (a : ℕ) → Mem a (map (λ j. leads_late p visible (j / p.k) (j % p.k)) l) → T (bit_from p.s a) → ⊥
       mapped (j ∷ l) a (Memᴰ.head q) t = inside a (λ r b. leads_inside p good visible (j / p.k) (j % p.k) r (subst (λ z. T (bit z r)) q b)) t
       mapped (j ∷ l) a (Memᴰ.tail m) t = mapped l a m t
+      mapped [] a m t = elim m [ ]
 
   -- the profile for the visible letters passes 2, 4 and 6
   pub late_passes : lowest (profile_refusals (late p visible)) ≡ none
@@ -84,6 +86,7 @@ module _ (p : Profile) (visible : ℕ) (clean : lowest (profile_refusals p) ≡ 
           ∙ h (profile_out_of_range p, OutOfRange) (Memᴰ.head refl)
       go c (Memᴰ.tail (Memᴰ.head q)) = ap (λ (y : Bool × Refusal). y.0) q ∙ h (mask_bit p.k p.masks, MaskBit) (Memᴰ.tail (Memᴰ.head refl))
       go c (Memᴰ.tail (Memᴰ.tail (Memᴰ.head q))) = ap (λ (y : Bool × Refusal). y.0) q ∙ late_states
+      go c (Memᴰ.tail (Memᴰ.tail (Memᴰ.tail n))) = elim n [ ]
 
 -- ---- what is known where 2, 4, 6, 20, 7 and 8 hold of none
 

@@ -18,7 +18,7 @@ use Rattle.theory.proofs.Judgement.{accepted_order_at, accepted_order_not}
 use Rattle.theory.proofs.Prefixes.{marked_suc, marked_zero, unmarked_suc, unmarked_zero}
 use Rattle.theory.proofs.Refusals.{GoodProfile}
 use Rattle.views.specs.Views.{Hiding, InBackward, InForward, Shown, seen, view, view_order}
-use Rattle.views.proofs.Hidden.{hiding_append}
+use Rattle.views.proofs.Hiding.{hiding_append}
 use Rattle.views.proofs.Paths.{behind_at, behind_of, from_start_at, from_start_of, hiding_inside, lead_on, to_final_at, trail_on, view_ends_at, view_ends_of, view_lawful, view_path_inside, view_path_of, view_starts}
 
 -- ---- tests that all letters pass

@@ -1,4 +1,6 @@
 // The visible part of a log: the checks of a view, and the letters that a teacher sees.
+#![tactic(auto)]
+
 ghost use Rattle.std.specs.Prelude.{◌≡◌, [], ◌∷◌, ◌+◌, ◌≤◌, ◌<◌, length, take};
 ghost use Rattle.profile.specs.Automata.{profile_of};
 ghost use Rattle.profile.specs.Limits.{longest, most_letters};

@@ -1,0 +1,13 @@
+-- `rules::bad_rules` meets its contract.
+use mathlib.Core.Path.{◌≡◌}
+use mathlib.Core.Bool.{false}
+use Prim.Native.Nat.{ℕ, ◌≤◌, ◌<◌, ◌-◌}
+use lib.ListN.{length, get_or}
+use Rattle.grammars.specs.Grammars.{rule_out_of_range}
+use Rattle.rules.proofs.bad_rules.Given as goal
+
+abbrev pub invariant-loop-i : goal.invariant-loop-i
+invariant-loop-i l = (l.i ≤ length l.rules) × ((j : ℕ) → j < l.i → rule_out_of_range l.k l.names (get_or l.rules j 0) ≡ false)
+
+abbrev pub decreases-loop-i : goal.decreases-loop-i
+decreases-loop-i l = length l.rules - l.i

@@ -1,0 +1,6 @@
+-- `rulesets::has` meets its contract.
+use Rattle.profile.proofs.Sets.{shift_mask}
+use Rattle.rulesets.proofs.has.Goals as goal
+
+pub returns : goal.returns
+returns c = shift_mask c.args.set c.args.n
