@@ -25,7 +25,7 @@ const PER: usize = COUNTS_PER_NUMBER;
 pub const NUMBERS: usize = COUNT_NUMBERS;
 
 // The numbers of counts of a record.
-#[derive(Drop)]
+#[derive(Clone, Copy)]
 pub struct Counts {
     pub w0: u32,
     pub w1: u32,

@@ -2,7 +2,7 @@
 pub mod limits;
 
 // The numbers of a profile; its masks and moves are slices beside it.
-#[derive(Drop)]
+#[derive(Clone, Copy)]
 pub struct Shape {
     pub k: usize,
     pub s: usize,
