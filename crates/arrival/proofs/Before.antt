@@ -71,3 +71,4 @@ module _ {A B : Type 0} (f : A → B) where
   pub before_unmap : (l : List A) {x y : B} → Before (map f l) x y → (c d : A) × Before l c d × (f c ≡ x) × (f d ≡ y)
   before_unmap (a ∷ l) (begins m) = let q = Memᴰ.of_map f l m in (a, q.0, begins q.1, refl, q.2)
   before_unmap (a ∷ l) (behind b) = let q = before_unmap l b in (q.0, q.1, behind q.2, q.3, q.4)
+  before_unmap [] {y = y} x3 = elim x3 [ ]

@@ -1,4 +1,6 @@
 // The cells of a cost table: added to, read, counted; document 02, Paper 10.
+#![tactic(auto)]
+
 ghost use Rattle.std.specs.Prelude.{◌≡◌, ◌+◌, ◌≤◌, ◌<◌, ◌^◌, min, length, take};
 ghost use Rattle.profile.specs.Limits.{most_states};
 ghost use Rattle.swaps.specs.Closest.{after, smaller, sorted};

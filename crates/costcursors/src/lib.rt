@@ -1,4 +1,6 @@
 // Cursors over the records of a table, which are in order: each letter's cursor follows the record with one more of that letter; document 02, Paper 10.
+#![tactic(auto)]
+
 ghost use Rattle.std.specs.Prelude.{◌≡◌, ◌&&◌, ◌*◌, ◌≤◌, ◌<◌, ◌^◌, ltb};
 ghost use Rattle.counts.specs.Counts.{words};
 ghost use Rattle.records.specs.Records.{records_in};

@@ -1,4 +1,6 @@
 // One letter leads from the row of a prefix in the cost table to the row of another, or back: document 02, Paper 10.
+#![tactic(auto)]
+
 ghost use Rattle.costrows.specs.Rows.{LedBack, LedOn, Rows};
 
 // Letter x, which costs `more`, leads from the states of the row `from` to those of the row `to`.

@@ -1,4 +1,6 @@
 // The cells of a cost table: lowered and cleared; document 02, Paper 10.
+#![tactic(auto)]
+
 ghost use Rattle.std.specs.Prelude.{◌≡◌, ◌+◌, ◌≤◌, ◌<◌, ◌^◌, min, length, get_or, set};
 ghost use Rattle.profile.specs.Limits.{most_states};
 ghost use Rattle.costcells.specs.Cells.{Cleared, Lowered, none_cost};

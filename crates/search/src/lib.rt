@@ -1,4 +1,6 @@
 // The search for a prefix by its counts: document 02, Paper 5.
+#![tactic(auto)]
+
 ghost use Rattle.std.specs.Prelude.{◌≡◌};
 ghost use Rattle.counts.specs.Counts.{words};
 ghost use Rattle.search.specs.Search.{Ordered, found_in, records_before, stands_before?};

@@ -1,4 +1,6 @@
 // What the next event of a letter costs, with no scan of the log: document 02, Paper 10.
+#![tactic(auto)]
+
 ghost use Rattle.std.specs.Prelude.{◌≡◌, ◌-◌, ◌≤◌, ◌<◌, length, take};
 ghost use Rattle.profile.specs.Prefixes.{count};
 ghost use Rattle.profile.specs.Tables.{count_field, layout};

@@ -1,0 +1,63 @@
+use borrow.Author.Rules.{rules}
+use native.Mathlib.Omega.{arith}
+use Rattle.costcells.proofs.Cells.{Scanned, inside, low_state, scan_end, scan_more, scan_start}
+use Prim.Native.Nat.{◌+◌, ◌-◌, ◌<◌, ◌^◌}
+use mathlib.Core.Path.{◌≡◌, refl, ◌∙◌, subst}
+use mathlib.Core.Logic.{◌⊎◌, inl, inr}
+use Rattle.costcells.specs.Cells.{cost_in, none_cost}
+use lib.Count.{trailing_le, count_trailing_zeros}
+use lib.Bits.{and_le_r}
+use Rattle.costcells.proofs.least_in.Goals as goal
+use Rattle.costcells.proofs.least_in.Goals.{then-v-least, else-v-least}
+
+pub loop-rest-init : goal.loop-rest-init
+loop-rest-init c = (omega arith, omega arith, scan_start c.args.costs.now c.args.row c.args.states)
+
+pub overflow_cast-q : goal.overflow_cast-q
+overflow_cast-q c = omega (arith, trailing_le 32 c.loop-rest.rest)
+
+pub overflow_add-v : goal.overflow_add-v
+overflow_add-v c =
+    let a = c.args in
+    let l = c.loop-rest in
+    let q = low_state a.s l.rest (omega arith) (omega arith) (omega arith) in
+    omega (arith, q)
+
+pub offset_bounds-costs-row : goal.offset_bounds-costs-row
+offset_bounds-costs-row c =
+    let a = c.args in
+    let l = c.loop-rest in
+    let q = low_state a.s l.rest (omega arith) (omega arith) (omega arith) in
+    omega (arith, q)
+
+pub bounds-costs-row : goal.bounds-costs-row
+bounds-costs-row c =
+    let a = c.args in
+    let l = c.loop-rest in
+    let q = low_state a.s l.rest (omega arith) (omega arith) (omega arith) in
+    omega (arith, q)
+
+pub loop-rest-smaller : goal.loop-rest-smaller
+loop-rest-smaller c = let n = c.loop-rest.rest in omega (arith, and_le_r n (n - 1))
+
+pub returns : goal.returns
+returns c =
+    let a = c.args in
+    let l = c.loop-rest in
+    let e : l.rest ≡ 0 = omega arith in
+    scan_end a.costs.now a.row a.states l.least (subst (λ r. Scanned a.costs.now a.row a.states r l.least) e l.invariant.2)
+
+pub loop-rest-preserved : goal.loop-rest-preserved
+loop-rest-preserved c =
+    let a = c.args in
+    let l = c.loop-rest in
+    let n = l.rest in
+    let q = low_state a.s n (omega arith) (omega arith) (omega arith) in
+    let e = inside a.costs.now (a.row + count_trailing_zeros 32 n) 0 none_cost (omega (arith, q)) in (
+      omega (arith, and_le_r n (n - 1)),
+      omega (arith, and_le_r n (n - 1)),
+      scan_more a.costs.now a.row a.states n (cost_in a.costs.now (a.row + count_trailing_zeros 32 n)) c.if-v-least.least l.least (omega arith) (omega arith) refl
+      (elim c.if-v-least.branch [ then-v-least w ↦ omega (arith, w.least-is, w.if-v-least.true) | else-v-least w ↦ omega (arith, w.least-is) ])
+      (elim c.if-v-least.branch [ then-v-least w ↦ omega (arith, w.least-is, e) | else-v-least w ↦ omega (arith, w.least-is, w.if-v-least.false, e) ])
+      (elim c.if-v-least.branch [ then-v-least w ↦ inr (w.least-is ∙ e) | else-v-least w ↦ inl w.least-is ]) l.invariant.2,
+    )

@@ -1,0 +1,19 @@
+-- `costcursors::forth` meets its contract. The loop's invariant: all records before j stand before the counts. The measure is what is left.
+use borrow.Author.Rules.{rules}
+use native.Mathlib.Omega.{arith}
+use Prim.Native.Nat.{◌+◌, ◌-◌, ◌≤◌}
+use native.Mathlib.Numerals.{add-one}
+use mathlib.Core.Path.{◌≡◌, sym, ◌∙◌, ap}
+use mathlib.Core.Bool.{not}
+use Rattle.counts.specs.Counts.{words}
+use Rattle.records.specs.Records.{counts_at, records_in}
+use Rattle.search.specs.Search.{stands_before?}
+use Rattle.costcursors.proofs.Cursors.{forth_end, forth_more, forth_stop, not_false}
+use Rattle.costcursors.specs.Cursors.{Low}
+use Rattle.costcursors.proofs.forth.Given as goal
+
+abbrev pub invariant-loop-j : goal.invariant-loop-j
+invariant-loop-j l = (l.j ≤ records_in l.t) × (l.n ≡ records_in l.t) × Low l.t (words l.c) l.j
+
+abbrev pub decreases-loop-j : goal.decreases-loop-j
+decreases-loop-j l = l.n - l.j
