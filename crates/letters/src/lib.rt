@@ -1,4 +1,6 @@
 // The letters that can be added to a prefix, given by its packed counts.
+#![tactic(auto)]
+
 ghost use Rattle.std.specs.Prelude.{◌≡◌, ◌++◌, ◌≤◌, ◌<◌, ◌^◌, length, drop};
 ghost use Rattle.profile.specs.Limits.{most_letters};
 ghost use Rattle.profile.specs.Automata.{union};
