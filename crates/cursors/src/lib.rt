@@ -1,4 +1,6 @@
 // The cursors of a total, one for each letter: where they start, and how they move on.
+#![tactic(auto)]
+
 ghost use Rattle.std.specs.Prelude.{◌≡◌, ◌≤◌, ◌<◌, length};
 ghost use Rattle.profile.specs.Limits.{most_letters};
 ghost use Rattle.profile.specs.Traces.{bit};
