@@ -1,4 +1,6 @@
 // The first order of a log: document 01, "first order".
+#![tactic(auto)]
+
 ghost use Rattle.std.specs.Prelude.{◌≡◌, ◌++◌, map, ◌+◌, ◌≤◌, drop, get_or, length};
 ghost use Rattle.std.proofs.Math.Option.{none};
 ghost use Rattle.profile.specs.Limits.{most_letters};
