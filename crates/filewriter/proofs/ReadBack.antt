@@ -8,7 +8,7 @@ use lib.Seq.{drop_at, take_at}
 use Rattle.profile.specs.Automata.{Profile, profile_of}
 use Rattle.profile.specs.declared.Refusal.{Refusal}
 use Rattle.profile.specs.declared.Shape.{Shape}
-use Rattle.logfile.specs.Files.{Reads, file_masks, file_moves, file_shape, filled, log_length, log_part_of, read_refusal, reading}
+use Rattle.logfile.specs.Files.{Reads, file_masks, file_moves, file_shape, filled, log_length, log_part_of, reading}
 use Rattle.logfile.specs.declared.Reading.{Reading}
 use Rattle.logfile.specs.declared.Reading.TheVariants.{Told}
 use Rattle.filewriter.specs.Written.{Writes, file_bytes, write_refusal, writing}
