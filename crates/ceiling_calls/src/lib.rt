@@ -1,4 +1,6 @@
 // The call for a ceiling as C has it: Paper 11. `capi` exports it.
+#![tactic(auto)]
+
 ghost use Rattle.std.specs.Prelude.{◌≡◌};
 ghost use Rattle.ceiling_calls.specs.CeilingCalls.{Bounding};
 

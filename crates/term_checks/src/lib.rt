@@ -1,4 +1,6 @@
 // What the judge of a log with terms refuses before it builds its table: document 02, Paper 8.
+#![tactic(auto)]
+
 ghost use Rattle.std.specs.Prelude.{◌≡◌};
 ghost use Rattle.profile.specs.Automata.{profile_of};
 ghost use Rattle.profile.specs.Refusals.{checked, lowest};

@@ -1,4 +1,6 @@
 // For each event of a log with terms its term, and where the next event of its letter stands that is in another term: document 02, Paper 8.
+#![tactic(auto)]
+
 ghost use Rattle.std.specs.Prelude.{◌≡◌, cond, ◌++◌, ◌+◌, ◌/◌, ◌%◌, ◌≤◌, ◌<◌, T, eqb, ltb, length, drop};
 ghost use Rattle.std.proofs.lemmas.List.Edits.{sets};
 ghost use Rattle.profile.specs.Limits.{longest, most_letters};
