@@ -5,7 +5,6 @@ use mathlib.Core.List.{List}
 use Prim.Native.Nat.{ℕ, ◌+◌, ◌*◌, ◌≤◌, ◌<◌}
 use native.Mathlib.Omega.{arith}
 use lib.ListN.{length, set}
-use Rattle.profile.specs.Prefixes.{more}
 use Rattle.profile.proofs.Lists.{lt_or_le}
 use Rattle.pairs.specs.Pairs.{Both, Known, Right}
 use Rattle.filling.proofs.Twice.{twice_first, twice_other, twice_turned}

@@ -1,5 +1,7 @@
 // The second table: the sets of names of all pairs of prefixes: document 02, Paper 13.
-ghost use Rattle.std.specs.Prelude.{◌≡◌, ◌+◌, ◌*◌, ◌≤◌, ◌<◌, length, set as List-set_of_Decides};
+#![tactic(auto)]
+
+ghost use Rattle.std.specs.Prelude.{◌≡◌, ◌+◌, ◌*◌, ◌≤◌, ◌<◌, length, set as list_set};
 ghost use Rattle.profile.specs.Limits.{most_records};
 ghost use Rattle.pairs.specs.Pairs.{AllKnown, Known, Setting};
 
@@ -8,7 +10,7 @@ use pairs::{cell, place};
 // Puts the set of a pair, at both of its places.
 fn put_pair(sets: &mut [u16], records: usize, i: usize, j: usize, set: u16)
     requires { (i < records) × (j < records) × (records ≤ most_records) × (records * records ≤ length sets.old) }
-    ensures { sets.new ≡ List-set_of_Decides (List-set_of_Decides sets.old (i * records + j) set) (j * records + i) set }
+    ensures { sets.new ≡ list_set (list_set sets.old (i * records + j) set) (j * records + i) set }
 {
     let at = place(records, i, j);
     let turned = place(records, j, i);

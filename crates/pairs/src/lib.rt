@@ -1,4 +1,6 @@
 // The set of names of one pair of prefixes, by those of the pairs between: document 02, Paper 13.
+#![tactic(auto)]
+
 ghost use Rattle.std.specs.Prelude.{◌≡◌, ◌+◌, ◌*◌, ◌≤◌, ◌<◌, length, drop};
 ghost use Rattle.profile.specs.Limits.{most_records};
 ghost use Rattle.grammars.specs.Grammars.{most_names};

@@ -1,4 +1,6 @@
 // The next step of an order that can be derived, by the sets of names of all pairs of prefixes: document 02, Paper 13.
+#![tactic(auto)]
+
 ghost use Rattle.std.specs.Prelude.{ℕ, ◌+◌, ◌*◌, ◌≤◌, ◌<◌, length, drop};
 ghost use Rattle.profile.specs.Limits.{most_records};
 ghost use Rattle.profile.specs.Traces.{independent};
