@@ -1,4 +1,6 @@
 // The swaps of an order: document 02, Paper 10.
+#![tactic(auto)]
+
 ghost use Rattle.std.specs.Prelude.{◌≡◌, length, take};
 ghost use Rattle.swaps.specs.Swaps.{swaps as swaps_of};
 ghost use Rattle.stepcost.specs.StepCosts.{Placed};
