@@ -1,22 +1,29 @@
 // The program `judge`: reads standard input as one log file, to its end or past 65,536 bytes, and writes what `report::respond` gives. A read or a
-// write that fails is told on standard error; after a read that fails nothing else is written.
-use libc::STDIN_FILENO;
+// write that fails is told on standard error, and the status is then 1; after a read that fails nothing else is written.
+#![tactic(auto)]
+
 use profile::limits::{LONGEST_INPUT, PROGRAM_NUMBERS, PROGRAM_TEXT};
+use std::process::ExitCode;
 use streams::Input;
 
-// Prints what is printed for a whole input.
-fn answer(input: &[u8]) {
+// Prints what is printed for a whole input, and tells whether all of it is written.
+fn answer(rt: &(impl Print + Eprint), input: &[u8]) -> bool {
     let mut out = [0u8; PROGRAM_TEXT];
     let mut work = [0u32; PROGRAM_NUMBERS];
     let r = report::respond(input, &mut out, &mut work);
-    streams::print(&out[0..r], b"judge: standard output");
+    streams::print(rt, &out[0..r], "judge: standard output")
 }
 
-fn main() {
+fn main(rt: HostRuntime) -> ExitCode {
     let mut bytes = [0u8; LONGEST_INPUT + 1];
-    let input = streams::read_input(STDIN_FILENO, &mut bytes);
+    let input = streams::read_input(&mut rt.stdin(), &mut bytes);
     match input {
-        Input::Bytes(n) => answer(&bytes[0..n]),
-        Input::Failed => os::fail(b"judge: standard input"),
+        Input::Bytes(n) => {
+            if answer(&rt, &bytes[0..n]) {
+                return ExitCode::SUCCESS;
+            }
+        }
+        Input::Failed(why) => streams::tell(&rt, "judge: standard input", why),
     }
+    ExitCode::FAILURE
 }

@@ -7,9 +7,9 @@ use Rattle.streams.specs.declared.Input.TheVariants.{Bytes}
 
 abbrev pub moved_within : ℕ → Call → Type 0
 moved_within m (Moved n) = n ≤ m
-moved_within m Call.Failed = Unit {0}
+moved_within m (Call.Failed e) = Unit {0}
 moved_within m End = Unit {0}
 
 abbrev pub input_within : ℕ → Input → Type 0
 input_within m (Bytes n) = n ≤ m
-input_within m Input.Failed = Unit {0}
+input_within m (Input.Failed e) = Unit {0}

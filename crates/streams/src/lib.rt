@@ -1,83 +1,92 @@
 // The streams of a program: a whole input and a whole output. A call that fails is told from the end of the input; a call that a signal interrupted is
 // made again.
+#![tactic(auto)]
+
 ghost use Rattle.std.specs.Prelude.{length};
 ghost use Rattle.streams.specs.Streams.{input_within, moved_within};
 
-use libc::STDOUT_FILENO;
+use std::io;
+use std::io::{Error, ErrorKind, Read, Write};
 
 // How many calls are made at most, so that the loops end whatever the system answers.
 const MOST_CALLS: u64 = 0xffff_ffff_ffff_ffff;
 
-// The input: how many bytes of it are in the buffer, to its end or to the buffer's; or that a read failed.
+// The input: how many bytes of it are in the buffer, to its end or to the buffer's; or why a read failed.
 #[derive(Clone, Copy)]
 pub enum Input {
-    Failed,
+    Failed(Error),
     Bytes(usize),
 }
 
-// One call: how many bytes it moved, none where a signal interrupted it; or the end; or that it failed.
+// One call: how many bytes it moved, none where a signal interrupted it; or the end; or why it failed.
 #[derive(Clone, Copy)]
 enum Call {
-    Failed,
+    Failed(Error),
     End,
     Moved(usize),
 }
 
-// Whether the last call failed because a signal interrupted it.
-fn interrupted() -> bool {
-    os::errno() == libc::EINTR
+// A call that failed, unless a signal interrupted it: such a call moved nothing.
+fn failed(e: Error) -> Call
+    ensures { moved_within 0 result }
+{
+    if e.kind() == ErrorKind::Interrupted {
+        return Call::Moved(0);
+    }
+    Call::Failed(e)
 }
 
 // One read.
-fn read_some(fd: i32, buf: &mut [u8]) -> Call
+fn read_some<R: Read>(from: &mut R, buf: &mut [u8]) -> Call
     ensures { moved_within (length buf.old) result }
 {
-    let got = libc::read(fd, buf);
-    if got < 0 {
-        if interrupted() {
-            return Call::Moved(0);
+    let got = from.read(buf);
+    match got {
+        Err(e) => failed(e),
+        Ok(n) => {
+            if n == 0 {
+                return Call::End;
+            }
+            Call::Moved(n)
         }
-        return Call::Failed;
     }
-    let n = io::count(got, buf);
-    if n == 0 {
-        return Call::End;
-    }
-    Call::Moved(n)
 }
 
 // One write. One that takes no byte is one that failed.
-fn write_some(fd: i32, buf: &[u8]) -> Call
+fn write_some<W: Write>(to: &mut W, buf: &[u8]) -> Call
     ensures { moved_within (length buf.now) result }
 {
-    let put = libc::write(fd, buf);
-    if put < 0 {
-        if interrupted() {
-            return Call::Moved(0);
+    let put = to.write(buf);
+    match put {
+        Err(e) => failed(e),
+        Ok(n) => {
+            if n == 0 {
+                return Call::Failed(Error::new(ErrorKind::WriteZero, "no byte was taken"));
+            }
+            Call::Moved(n)
         }
-        return Call::Failed;
     }
-    let n = io::count(put, buf);
-    if n == 0 {
-        return Call::Failed;
-    }
-    Call::Moved(n)
+}
+
+// The error of a stream for which the calls have run out.
+fn too_many() -> Error {
+    Error::other("too many calls")
 }
 
 // Reads until the input ends, the buffer is full or a read fails.
-pub fn read_input(fd: i32, buf: &mut [u8]) -> Input
+pub fn read_input<R: Read>(from: &mut R, buf: &mut [u8]) -> Input
     ensures { input_within (length buf.new) result }
 {
     let mut done = 0;
     let mut calls = MOST_CALLS;
     while done < buf.len() {
         if calls == 0 {
-            return Input::Failed;
+            return Input::Failed(too_many());
         }
         calls -= 1;
-        let call = read_some(fd, &mut buf[done..]);
+        let call = read_some(from, &mut buf[done..]);
         match call {
-            Call::Failed => return Input::Failed,
+            Call::Failed(e) => return Input::Failed(e),
             Call::End => return Input::Bytes(done),
             Call::Moved(n) => done += n,
         }
@@ -85,28 +94,37 @@ pub fn read_input(fd: i32, buf: &mut [u8]) -> Input
     Input::Bytes(done)
 }
 
-// Writes all bytes, and tells whether all are written.
-pub fn write_output(fd: i32, bytes: &[u8]) -> bool {
+// Writes all bytes, or tells why not all are written.
+pub fn write_output<W: Write>(to: &mut W, bytes: &[u8]) -> io::Result<()> {
     let mut done = 0;
     let mut calls = MOST_CALLS;
     while done < bytes.len() {
         if calls == 0 {
-            return false;
+            return Err(too_many());
         }
         calls -= 1;
-        let call = write_some(fd, &bytes[done..]);
+        let call = write_some(to, &bytes[done..]);
         match call {
             Call::Moved(n) => done += n,
-            Call::Failed => return false,
-            Call::End => return false,
+            Call::Failed(e) => return Err(e),
+            Call::End => return Err(too_many()),
         }
     }
-    true
+    Ok(())
 }
 
-// Writes the bytes to standard output; a write that fails is told on standard error, with the words.
-pub fn print(bytes: &[u8], words: &[u8]) {
-    if !write_output(STDOUT_FILENO, bytes) {
-        os::fail(words);
+// Tells a failure on standard error, with the words. Where that fails too, nothing is left to be done.
+pub fn tell(rt: &impl Eprint, words: &str, why: Error) {
+    let _ = eprintln!(rt; "{words}: {why}");
+}
+
+// Writes the bytes to standard output, and tells whether all are written; a write that fails is told on standard error, with the words.
+pub fn print(rt: &(impl Print + Eprint), bytes: &[u8], words: &str) -> bool {
+    match write_output(&mut io::writer(rt), bytes) {
+        Ok(()) => true,
+        Err(e) => {
+            tell(rt, words, e);
+            false
+        }
     }
 }
