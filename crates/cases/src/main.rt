@@ -1,10 +1,13 @@
 // Compares the library with a brute-force listing of reachable logs and with a second file reader. Prints how much was compared, what was refused, and how
 // much was wrong.
+#![tactic(auto)]
+
 mod document;
 mod each;
 mod random;
 mod small;
 
+use std::io;
 use trial::tally;
 use trial::tally::Tally;
 
@@ -22,29 +25,32 @@ fn compare_files(t: Tally) -> Tally {
     trial_files::long_files::long_files(trial_files::damages::scatter_many(80, 10000, damaged))
 }
 
-fn print(t: Tally) {
+fn print(rt: &impl Print, t: Tally) -> io::Result<()> {
     tally::say(
+        rt,
         t,
         b"judge: logs #, verdict 1 #, reachable logs #\ntable: built #, records #, too short #\nsame: pairs #, same #\nfirst order: logs #, not their own #\nfiles: written #, read #, not refused #\nlog reader: events #, ends #\nedges: #, refusals combined #\n",
         tally::LOGS,
         1,
-    );
+    )?;
     tally::say(
+        rt,
         t,
         b"one-way masks: logs #, pairs reachable one way #\n",
         tally::ONE_WAY_LOGS,
         1,
-    );
-    tally::say_all_refusals(t);
+    )?;
+    tally::say_all_refusals(rt, t)?;
     tally::say(
+        rt,
         t,
         b"wrong: judge #, table #, same #, first order #, refusal #, file #, log reader #, edge #\n",
         tally::JUDGE,
         1,
-    );
+    )
 }
 
-fn main() {
+fn main(rt: HostRuntime) -> io::Result<()> {
     let logs = trial_long::long_logs(compare_logs(tally::nothing()));
-    print(compare_files(trial_refusals::all_refusals(logs)));
+    print(&rt, compare_files(trial_refusals::all_refusals(logs)))
 }

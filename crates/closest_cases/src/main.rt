@@ -1,6 +1,9 @@
 // Compares the closest order with a listing of all orders and their swaps, with every budget from 0 to one more than all pairs of a prefix and a state; and so for
 // logs with terms. Prints how much was compared, what was refused, and how much was wrong.
+#![tactic(auto)]
+
 use profile::Shape;
+use std::io;
 use trial::cells::{part8, part16, part32, plus, times};
 use trial::logs::{log_count, put_log_number};
 use trial::random::{below, put_log, put_masks, put_moves, random_shape, seed_of};
@@ -171,34 +174,37 @@ fn all_halves(t: Tally) -> Tally {
     u
 }
 
-fn print(t: Tally) {
+fn print(rt: &impl Print, t: Tally) -> io::Result<()> {
     tally::say(
+        rt,
         t,
         b"logs #: verdict 1 #, with one-way masks #, closest order not the judge's #, not the log #; pairs of a prefix and a state #\nbudgets #: below all pairs with a floor above 0 #, and below the fewest swaps #; that cover all pairs #\norder buffers too short #, tables too short #, cost tables too short #; by hand #, refusals combined #\nwrong: listing #, judge #, budget #, short buffer #, by hand #, combined #\n",
         LOGS,
         1,
-    );
+    )?;
     tally::say(
+        rt,
         t,
         b"combined: refused by 2 #, 4 #, 6 #, 7 #, 8 #, 14 #, 15 #, 16 #, 9 #, 10 #, 17 #, not refused #\n",
         BY_DAMAGE,
         1,
-    );
+    )
 }
 
-fn print_terms(t: Tally) {
+fn print_terms(rt: &impl Print, t: Tally) -> io::Result<()> {
     tally::say(
+        rt,
         t,
         b"with terms: neighbours in two terms #, days that fall #, fewer prefixes than without terms #\n",
         TURNS,
         1,
-    );
-    print(t);
+    )?;
+    print(rt, t)
 }
 
-fn main() {
+fn main(rt: HostRuntime) -> io::Result<()> {
     let logs = random_profiles(10, 10000, false, all_of_two(tally::nothing()));
-    print(combine_all(compare_edges(logs)));
+    print(&rt, combine_all(compare_edges(logs)))?;
     let dated = random_profiles(11, 10000, true, all_halves(tally::nothing()));
-    print_terms(combine_all_terms(compare_term_edges(dated)));
+    print_terms(&rt, combine_all_terms(compare_term_edges(dated)))
 }

@@ -1,5 +1,8 @@
 // Gives the judge for grammars random grammars and logs, and compares every answer with a listing of all reachable logs and of the names from which each can
 // be derived. Prints how much was compared and how much was wrong.
+#![tactic(auto)]
+
+use std::io;
 use trial::cells::plus;
 use trial::random::{below, seed_of};
 use trial::tally;
@@ -29,12 +32,13 @@ fn all_cases(seed: usize, many: usize, t: Tally) -> Tally {
     u
 }
 
-fn main() {
+fn main(rt: HostRuntime) -> io::Result<()> {
     let t = all_edges(all_cases(13, 4000, tally::nothing()));
     tally::say(
+        &rt,
         t,
         b"grammars and logs #, one-way #: verdict 1 #, reachable logs #, of them derived #, records #\nrefused by 2 #, 4 #, 21 #, 7 #, 8 #, 9 #, 10 #, 22 #; edges #\nwrong: verdict #, order #, table #, refusal #, edge #\n",
         CASES,
         1,
-    );
+    )
 }

@@ -1,5 +1,8 @@
 // Asks for the ceiling with every list of up to k groups of k letters, for k from 1 to 4, right or wrong, and compares the answer with the rules letter by letter and with
 // a product over the log, and P by trying every set of events. Then the edges, and every combination of refusals. Prints how much was compared and how much was wrong.
+#![tactic(auto)]
+
+use std::io;
 use trial::random::below;
 use trial::tally;
 use trial::tally::Tally;
@@ -53,13 +56,14 @@ fn compare_large(many: usize, t: Tally) -> Tally {
     u
 }
 
-fn main() {
+fn main(rt: HostRuntime) -> io::Result<()> {
     let lists = compare_large(60, compare_small(tally::nothing()));
     let t = compare_combinations(compare_edges(lists));
     tally::say(
+        &rt,
         t,
         b"calls #: ceilings told #, of which P meets #, refused by 18 #; edges #, combinations of refusals #\nwrong: answers #, P above the ceiling #, edges #, combinations #\n",
         CALLS,
         1,
-    );
+    )
 }

@@ -1,6 +1,9 @@
 // Judges random logs under two lists of pairs, one of which holds every pair of the other, and compares both answers with a listing of reachable logs and with each
 // other: every such pair of lists of up to three letters, and random ones of up to sixteen. Prints how much was compared and how much was wrong.
+#![tactic(auto)]
+
 use profile::Shape;
+use std::io;
 use trial::cells::{part8, part16, part32, plus, times};
 use trial::random::{below, put_log, put_moves, random_shape, seed_of};
 use trial::tally;
@@ -78,22 +81,30 @@ fn compare_seeds(codes: usize, t: Tally) -> Tally {
     u
 }
 
-fn main() {
+fn main(rt: HostRuntime) -> io::Result<()> {
     let one = compare_codes(1, 1, 40, tally::nothing());
     let two = compare_codes(2, 9, 200, one);
     let three = compare_codes(3, 729, 8, two);
     let t = compare_seeds(1000, three);
     tally::say(
+        &rt,
         t,
         b"judged #, with verdict 1 #, reachable logs #\n",
         tally::LOGS,
         1,
-    );
+    )?;
     tally::say(
+        &rt,
         t,
         b"nested lists of pairs #: verdict 0 became 1 #, order became another #, P grew #, looks grew #, lists equal #\nwrong: verdict 1 became 0 #, order became later #, P shrank #, looks shrank #\n",
         NESTED,
         1,
-    );
-    tally::say(t, b"judge against the listing, wrong: #\n", tally::JUDGE, 1);
+    )?;
+    tally::say(
+        &rt,
+        t,
+        b"judge against the listing, wrong: #\n",
+        tally::JUDGE,
+        1,
+    )
 }

@@ -1,4 +1,6 @@
 // What the program prints for an input: document 01, "Program".
+#![tactic(auto)]
+
 ghost use Rattle.std.specs.Prelude.{◌≡◌, ◌+◌, ◌*◌, ◌≤◌, length};
 ghost use Rattle.profile.specs.Limits.{program_text};
 ghost use Rattle.profile.specs.Lists.{flat_map};

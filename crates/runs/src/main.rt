@@ -1,6 +1,9 @@
 // Gives the running judge random lists of events and questions, and compares every answer, record and table with a listing of prefixes as sets of events, and
 // with the judge. Prints how much was compared and how much was wrong.
+#![tactic(auto)]
+
 use profile::Shape;
+use std::io;
 use trial::cells::{GUARD32, part16, part32, plus, times};
 use trial::random::{below, put_masks, put_moves, random_shape, seed_of};
 use trial::tally;
@@ -75,12 +78,13 @@ fn all_runs(seed: usize, many: usize, t: Tally) -> Tally {
     u
 }
 
-fn main() {
+fn main(rt: HostRuntime) -> io::Result<()> {
     let t = all_runs(7, 5000, tally::nothing());
     tally::say(
+        &rt,
         t,
         b"runs #: starts refused #, events taken #, refused by 8 #, by 10 #, questions #, with verdict 1 #, records #\nrecord or table not as left: #\nwrong: start #, event #, question #, table #, judge #, listing #, not as left #\n",
         RUNS,
         1,
-    );
+    )
 }

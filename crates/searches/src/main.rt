@@ -1,9 +1,12 @@
 // Searches built tables for prefixes by their counts, and compares what is found with a listing of the prefixes by total and counts. Prints how much was
 // compared and how much was wrong.
+#![tactic(auto)]
+
 mod compare;
 mod vectors;
 
 use crate::compare::{TABLES, search_box, search_records};
+use std::io;
 use trial::calls::{build_in, table_part};
 use trial::cells::{part8, part16, part32, plus};
 use trial::logs::{log_count, put_log_number};
@@ -86,12 +89,13 @@ fn wide_logs(seed: usize, many: usize, t: Tally) -> Tally {
     u
 }
 
-fn main() {
+fn main(rt: HostRuntime) -> io::Result<()> {
     let t = wide_logs(11, 400, small_relations(5, tally::nothing()));
     tally::say(
+        &rt,
         t,
         b"search: tables #, searches #, found #\nwrong: search #\n",
         TABLES,
         1,
-    );
+    )
 }

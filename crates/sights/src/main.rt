@@ -1,6 +1,9 @@
 // Judges random logs for teachers who see some of their letters, and compares every answer, order and table with a listing of lists of letters. Prints how much
 // was compared and how much was wrong.
+#![tactic(auto)]
+
 use profile::Shape;
+use std::io;
 use trial::cells::{minus, part8, part16, part32, plus, quotient, times};
 use trial::logs::log_count;
 use trial::random::{below, put_log, put_masks, put_moves, random_shape, seed_of};
@@ -100,12 +103,13 @@ fn all_views(seed: usize, many: usize, t: Tally) -> Tally {
     u
 }
 
-fn main() {
+fn main(rt: HostRuntime) -> io::Result<()> {
     let t = all_views(12, 1500, compare_edges(tally::nothing()));
     tally::say(
+        &rt,
         t,
         b"views #: with hidden letters #, verdict 1 #, not as the judge of the visible part #, records #, refused by 9 #, by 10 #\npairs of one visible part #, as the judge #, edges #\nwrong: answer #, table #, refusal #, secret #, judge #, edge #\n",
         VIEWS,
         1,
-    );
+    )
 }

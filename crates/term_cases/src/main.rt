@@ -1,6 +1,9 @@
 // Compares the judge with terms with a brute-force listing of the logs that exchanges within terms reach, with the judge without terms, and with the
 // calendar. Prints how much was compared, what was refused, and how much was wrong.
+#![tactic(auto)]
+
 use profile::Shape;
+use std::io;
 use trial::cells::{part8, part16, part32, plus, times};
 use trial::logs::{log_count, put_log_number};
 use trial::random::{below, put_log, put_masks, put_moves, random_shape, seed_of};
@@ -135,22 +138,24 @@ fn all_halves(t: Tally) -> Tally {
     u
 }
 
-fn print(t: Tally) {
+fn print(rt: &impl Print, t: Tally) -> io::Result<()> {
     tally::say(
+        rt,
         t,
         b"logs #: verdict 1 #, reachable logs #, records #\nwith one-way masks #, neighbours in two terms #, days that fall #, fewer prefixes than without terms #, another verdict #, twelve terms #\none term that has every day #; order buffers too short #, tables too short #\nnumbers as a day and as a term #: dates #\nlists of terms #: right #\nlengths of days #, days in no term #\nrefusals combined #\nwrong: judge #, one term #, short buffer #, number #, list #, length or day in no term #, combined #\n",
         LOGS,
         1,
-    );
+    )?;
     tally::say(
+        rt,
         t,
         b"combined: refused by 2 #, 4 #, 6 #, 7 #, 8 #, 14 #, 15 #, 16 #, 9 #, 10 #, not refused #\n",
         BY_DAMAGE,
         1,
-    );
+    )
 }
 
-fn main() {
+fn main(rt: HostRuntime) -> io::Result<()> {
     let logs = random_profiles(8, 6000, all_halves(tally::nothing()));
-    print(combine_all(all_lists(8, 20000, all_numbers(logs))));
+    print(&rt, combine_all(all_lists(8, 20000, all_numbers(logs))))
 }

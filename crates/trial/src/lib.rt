@@ -1,5 +1,7 @@
 // What the test programs share: total reads and writes, random profiles and logs, profiles as rows of text, the tested calls on guarded buffers, and the
 // counters.
+#![tactic(auto)]
+
 pub mod answers;
 pub mod calls;
 pub mod cells;

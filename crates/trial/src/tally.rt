@@ -1,6 +1,6 @@
 // How much was compared, and what was wrong: counters by value, so that a test that shrinks or fails shows in what is printed.
 use crate::cells::{part8, plus};
-use libc::STDOUT_FILENO;
+use std::io;
 
 #[derive(Clone, Copy)]
 pub struct Tally {
@@ -141,40 +141,50 @@ fn cell(t: Tally, which: usize) -> u64 {
 }
 
 // Prints byte i of the text, or the counter where the byte is #; the counter after it.
-fn say_byte(t: Tally, text: &[u8], i: usize, which: usize, step: usize) -> usize {
+fn say_byte(
+    rt: &impl Print,
+    t: Tally,
+    text: &[u8],
+    i: usize,
+    which: usize,
+    step: usize,
+) -> io::Result<usize> {
     let one = part8(text, i, 1);
     if one.len() == 1 {
         if one[0] == b'#' {
-            io::print_decimal(STDOUT_FILENO, cell(t, which));
-            return plus(which, step);
+            rt.print(cell(t, which))?;
+            return Ok(plus(which, step));
         }
     }
-    io::write_all(STDOUT_FILENO, one);
-    which
+    rt.write_all(one)?;
+    Ok(which)
 }
 
 // Prints the text with a counter in place of each #: the first, and then each that is a step further.
-pub fn say(t: Tally, text: &[u8], first: usize, step: usize) {
+pub fn say(rt: &impl Print, t: Tally, text: &[u8], first: usize, step: usize) -> io::Result<()> {
     let mut which = first;
     for i in 0..text.len() {
-        which = say_byte(t, text, i, which, step);
+        which = say_byte(rt, t, text, i, which, step)?;
     }
+    Ok(())
 }
 
 // Prints the refusals by number n of every call.
-fn say_refusals(t: Tally, n: usize) {
-    io::write_all(STDOUT_FILENO, b"refusal ");
-    io::print_decimal(STDOUT_FILENO, n as u64);
+fn say_refusals(rt: &impl Print, t: Tally, n: usize) -> io::Result<()> {
+    rt.print("refusal ")?;
+    rt.print(n)?;
     say(
+        rt,
         t,
         b": judge #, build #, same #, first order #, read #, log part #, write #\n",
         plus(REFUSED, n),
         11,
-    );
+    )
 }
 
-pub fn say_all_refusals(t: Tally) {
+pub fn say_all_refusals(rt: &impl Print, t: Tally) -> io::Result<()> {
     for n in 1..11 {
-        say_refusals(t, n);
+        say_refusals(rt, t, n)?;
     }
+    Ok(())
 }
