@@ -1,5 +1,7 @@
 // In a log with terms, by the places and turns of each letter's next event, with no scan of the log, whether a letter's next event passes events of its own
 // term only.
+#![tactic(auto)]
+
 ghost use Rattle.std.specs.Prelude.{◌≡◌};
 ghost use Rattle.profile.specs.Prefixes.{at};
 ghost use Rattle.term_events.specs.InTerms.{in_term?, lets_in?};

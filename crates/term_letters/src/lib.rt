@@ -1,4 +1,6 @@
 // The letters that can be added to a prefix of a log with terms, given by its packed counts: document 02, Paper 8.
+#![tactic(auto)]
+
 ghost use Rattle.std.specs.Prelude.{◌≡◌, ◌&&◌, ◌≤◌, ◌<◌, ◌^◌, length};
 ghost use Rattle.profile.specs.Limits.{most_letters};
 ghost use Rattle.profile.specs.Automata.{union};
