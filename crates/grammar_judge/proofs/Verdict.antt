@@ -17,7 +17,7 @@ use Rattle.grammars.specs.Grammars.{Derivable, grammar_of}
 use Rattle.grammars.proofs.Spans.{Between, Spans, spans_whole, whole_spans}
 use Rattle.grammars.proofs.Places.{between_places, counts_of, first_place_none, last_place_all, place_of, total_marked, total_of}
 use Rattle.pairs.specs.Pairs.{AllKnown, Setting}
-use Rattle.deriving.specs.Deriving.{Written, splice}
+use Rattle.derivation.specs.Deriving.{Written, splice}
 use Rattle.grammar_judge.specs.GrammarJudge.{VerdictIs}
 
 module _ (k : ℕ) (masks w table : List ℕ) (records : ℕ) (s : Setting k masks w table records) (rules : List ℕ) where

@@ -28,7 +28,7 @@ fn put_verdict(
     if !rulesets::has(sets[records - 1], 0) {
         return false;
     }
-    deriving::put_part(
+    derivation::put_part(
         table,
         k,
         masks,

@@ -5,7 +5,7 @@ use Prim.Native.Nat.{ℕ, zero, suc, ◌+◌, ◌≤◌, ◌<◌}
 use native.Mathlib.Omega.{arith}
 use lib.ListN.{get_or, length, set, take, drop, length-append, length-drop}
 use lib.Seq.{drop-append-add, length-take-le, set_at, split_at, take-append-le, take_at, drop_at}
-use Rattle.deriving.specs.Deriving.{splice}
+use Rattle.derivation.specs.Deriving.{splice}
 
 drop_drop : (m n : ℕ) (l : List ℕ) → drop n (drop m l) ≡ drop (m + n) l
 drop_drop zero n l = let e : n ≡ 0 + n = omega arith in ap (λ k. drop k l) e

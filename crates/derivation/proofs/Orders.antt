@@ -14,11 +14,11 @@ use Rattle.grammars.proofs.Spans.{Between, Spans, spans_join}
 use Rattle.grammars.proofs.Places.{counts_of, spans_total, total_of}
 use Rattle.pairs.specs.Pairs.{Setting}
 use Rattle.parts.specs.Parts.{StepIs}
-use Rattle.deriving.specs.Deriving.{Written, splice}
+use Rattle.derivation.specs.Deriving.{Written, splice}
 use Rattle.parts.specs.declared.Split.{Split}
 use Rattle.parts.specs.declared.Step.TheVariants.{Leaf, Parts}
 use Rattle.pairs.proofs.Cells.{total_le}
-use Rattle.deriving.proofs.Splices.{splice_left, splice_length, splice_one, splice_right}
+use Rattle.derivation.proofs.Splices.{splice_left, splice_length, splice_one, splice_right}
 
 pub record Going (k : ℕ) (masks rules w : List ℕ) (i j name : ℕ) (before : List ℕ) (n from to : ℕ) (now : List ℕ) : Type 0 where
   pub low : i ≤ from

@@ -1,11 +1,13 @@
 // An order that can be derived, written by the sets of names of all pairs of prefixes: document 02, Paper 13, "and such a log is returned".
+#![tactic(auto)]
+
 ghost use Rattle.std.specs.Prelude.{◌≤◌, ◌<◌, length};
 ghost use Rattle.profile.specs.Traces.{independent};
 ghost use Rattle.grammars.specs.Grammars.{grammar_of};
 ghost use Rattle.grammars.proofs.Spans.{Between};
 ghost use Rattle.grammars.proofs.Places.{counts_of};
 ghost use Rattle.pairs.specs.Pairs.{AllKnown, Setting};
-ghost use Rattle.deriving.specs.Deriving.{Written};
+ghost use Rattle.derivation.specs.Deriving.{Written};
 
 use parts::{Step, next_step};
 
