@@ -1,4 +1,6 @@
 // The calls of a running judge as C has them: Paper 7. Each returns the refusal's number, or 0; the record, P and the number of events taken, is lent as two numbers. `capi` exports them.
+#![tactic(auto)]
+
 ghost use Rattle.std.specs.Prelude.{◌≡◌};
 ghost use Rattle.profile.specs.Automata.{profile_of};
 ghost use Rattle.calls.specs.Calls.{Asking, Starting, Stepping};

@@ -1,4 +1,6 @@
 // The passes over the table of costs: for each prefix and state the fewest swaps to come there, or to go from there to an accepted end; document 02, Paper 10.
+#![tactic(auto)]
+
 ghost use Rattle.std.specs.Prelude.{◌≡◌, List, ℕ, suc, ◌-◌, ◌≤◌, ◌<◌, length};
 ghost use Rattle.profile.specs.Limits.{most_letters};
 ghost use Rattle.profile.specs.Tables.{layout};

@@ -1,4 +1,6 @@
 // The running judge's event on a record that is lent: Paper 7, "its record belongs to the caller and each event updates it there".
+#![tactic(auto)]
+
 ghost use Rattle.std.specs.Prelude.{◌≡◌};
 ghost use Rattle.profile.specs.Automata.{profile_of};
 ghost use Rattle.running.specs.Running.{StepPromise};

@@ -1,4 +1,6 @@
 // The records that one event brings to the table of the running judge: Paper 7, "records stand in order of arrival".
+#![tactic(auto)]
+
 ghost use Rattle.std.specs.Prelude.{◌≡◌, cond, true, [], ◌+◌, ◌*◌, ◌≤◌, ◌<◌, length};
 ghost use Rattle.profile.specs.Limits.{most_letters, most_states};
 ghost use Rattle.profile.specs.Automata.{profile_of};

@@ -1,4 +1,6 @@
 // The running judge: Paper 7, "Verdict while the class is lending".
+#![tactic(auto)]
+
 ghost use Rattle.std.specs.Prelude.{◌≡◌, [], ◌∷◌, ◌++◌, ◌-◌, ◌*◌, ◌^◌, ◌≤◌, ◌<◌, ltb, length};
 ghost use Rattle.profile.specs.Limits.{most_states};
 ghost use Rattle.profile.specs.Automata.{meets, profile_of};

@@ -1,4 +1,6 @@
 // Events of the running judge: Paper 7, "its record belongs to the caller and each event updates it there".
+#![tactic(auto)]
+
 ghost use Rattle.std.specs.Prelude.{◌≡◌, [], ◌∷◌, ◌++◌, ◌*◌, ◌≤◌, ◌<◌, leb, ltb, length};
 ghost use Rattle.profile.specs.Limits.{most_letters, most_states};
 ghost use Rattle.profile.specs.Automata.{profile_of};

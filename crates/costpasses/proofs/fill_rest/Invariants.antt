@@ -1,0 +1,24 @@
+-- `costpasses::fill_rest` meets its contract. The loop's invariant: the letters of the records from j on have led back, and each cursor stands right. The measure is the
+-- records that are left.
+use borrow.Author.Rules.{rules}
+use native.Mathlib.Omega.{arith}
+use mathlib.Core.Path.{◌≡◌, refl, sym, ◌∙◌, ap, subst}
+use mathlib.Core.List.{List}
+use Prim.Native.Nat.{ℕ, suc, ◌-◌, ◌*◌, ◌<◌}
+use lib.ListN.{length, get_or, get_or-replicate, replicate}
+use Rattle.profile.specs.Limits.{most_letters}
+use Rattle.records.specs.Records.{counts_at, records_in}
+use Rattle.costcells.specs.Cells.{Cleared, Lowered}
+use Rattle.costtable.proofs.Filling.{backward_fills}
+use Rattle.costtable.proofs.Backward.{Backward, backward_start}
+use Rattle.costtable.proofs.Stepping.{HighAll, given_as_long, given_laid, high_record, high_start, row_fits}
+use Rattle.costpasses.proofs.fill_rest.Given as goal
+
+abbrev pub invariant-loop-j : goal.invariant-loop-j
+invariant-loop-j l =
+    (l.j < records_in l.t) × (l.whole ≡ counts_at l.t (records_in l.t - 1)) × (length l.cursors ≡ most_letters)
+    × ((i : ℕ) → suc i ≡ l.j → HighAll l.t i l.shape.k l.cursors) × (length l.costs ≡ length l.initial.costs)
+    × ((before : List ℕ) → Backward l.shape l.moves l.log l.t before l.initial.costs (records_in l.t - 1) l.shape.k → Backward l.shape l.moves l.log l.t before l.costs l.j l.shape.k)
+
+abbrev pub decreases-loop-j : goal.decreases-loop-j
+decreases-loop-j l = l.j

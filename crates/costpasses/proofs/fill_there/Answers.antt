@@ -1,0 +1,102 @@
+use borrow.Author.Rules.{rules}
+use native.Mathlib.Omega.{arith}
+use native.Mathlib.Numerals.{add-one}
+use mathlib.Core.Path.{◌≡◌, refl, sym, ◌∙◌, ap, subst}
+use mathlib.Core.List.{List}
+use Prim.Native.Nat.{ℕ, ◌-◌, ◌*◌, ◌≤◌, ◌<◌}
+use lib.ListN.{length, get_or, get_or-replicate, replicate}
+use Rattle.profile.specs.Limits.{most_letters}
+use Rattle.records.specs.Records.{counts_at, records_in}
+use Rattle.costcells.specs.Cells.{Cleared}
+use Rattle.costtable.proofs.Filling.{onward_fills}
+use Rattle.costtable.proofs.Onward.{Onward, onward_start}
+use Rattle.costtable.proofs.Stepping.{LowAll, given_as_long, given_laid, low_record, low_start, row_fits}
+use Rattle.costpasses.proofs.fill_there.Goals as goal
+
+pub overflow_sub-records : goal.overflow_sub-records
+overflow_sub-records c =
+    let b = c in
+    let a = b.args in
+    omega (arith, (given_laid a.shape a.moves.now a.t.now a.log.now a.starts.now a.places.now a.costs.now b.requires).some, c.records_in-records.ensures)
+
+pub counts_at-requires : goal.counts_at-requires
+counts_at-requires c =
+    let b = c in
+    let a = b.args in
+    omega (arith, (given_laid a.shape a.moves.now a.t.now a.log.now a.starts.now a.places.now a.costs.now b.requires).some, c.records_in-records.ensures)
+
+pub clear-requires : goal.clear-requires
+clear-requires c =
+    let b = c in
+    let a = b.args in
+    omega (arith, c.row_of-cells.ensures ∙ ap (λ n. n * a.shape.s) c.records_in-records.ensures, b.requires.room)
+
+pub lower-requires : goal.lower-requires
+lower-requires c =
+    let b = c in
+    let a = b.args in
+    omega (arith, row_fits a.shape a.moves.now a.t.now a.log.now a.starts.now a.places.now a.costs.now b.requires 0 (given_laid a.shape a.moves.now a.t.now a.log.now a.starts.now a.places.now a.costs.now b.requires).some, b.requires.lent.profile.starts, c.clear.ensures.as_long)
+
+pub loop-j-init : goal.loop-j-init
+loop-j-init c =
+    let b = c in
+    let a = b.args in
+    let n = c.records_in-records.ensures in (
+      omega arith,
+      n,
+      c.numbers-whole.ensures ∙ c.counts_at.ensures ∙ ap (λ m. counts_at a.t.now (m - 1)) n,
+      refl,
+      (λ lt. low_start a.t.now 0 a.shape.k (replicate most_letters 0) (λ x xk. get_or-replicate most_letters x 0 0 (omega (arith, b.requires.lent.records.letters, xk)))),
+      refl,
+      λ before o. o,
+    )
+
+pub loop-j-preserved : goal.loop-j-preserved
+loop-j-preserved c =
+    let b = c in
+    let a = b.args in
+    let l = c.loop-j in
+    let f = c.from_record in
+    let one = add-one l.j in (
+      omega arith,
+      l.invariant.1,
+      l.invariant.2,
+      f.auto.cursors ∙ l.invariant.3,
+      (λ lt. subst (λ n. LowAll a.t.now n a.shape.k f.new.cursors) (sym one)
+          (low_record a.shape a.moves.now a.t.now a.log.now a.starts.now a.places.now a.costs.now b.requires l.j (subst (λ n. n < records_in a.t.now) one lt) f.new.cursors f.ensures.low_all)),
+      f.auto.costs ∙ l.invariant.5,
+      λ before o. subst (λ n. Onward a.shape a.moves.now a.log.now a.t.now before f.new.costs n 0) (sym one)
+          (f.ensures.by_index before (l.invariant.6 before o)),
+    )
+
+pub shape_of-costs : goal.shape_of-costs
+shape_of-costs c =
+    c.loop-j.invariant.5 ∙ c.lower.auto.costs ∙ c.clear.auto.costs
+
+pub returns : goal.returns
+returns c =
+    let b = c in
+    let a = b.args in
+    let l = c.loop-j in
+    let begun = onward_start a.shape a.moves.now a.log.now a.t.now (given_laid a.shape a.moves.now a.t.now a.log.now a.starts.now a.places.now a.costs.now b.requires) a.costs.now c.clear.new.costs c.lower.new.costs
+    (subst (λ m. Cleared a.costs.now c.clear.new.costs 0 m) (c.row_of-cells.ensures ∙ ap (λ m. m * a.shape.s) c.records_in-records.ensures) c.clear.ensures)
+    c.lower.ensures b.requires.room in
+    λ masks may letter w g. onward_fills a.shape masks a.moves.now may letter w a.t.now a.log.now a.starts.now a.places.now g
+    a.costs.now l.costs l.j 0 (omega (arith, l.invariant.1)) (l.invariant.6 a.costs.now begun)
+
+pub row_of-cells-requires : goal.row_of-cells-requires
+row_of-cells-requires c =
+    let b = c in
+    let a = b.args in
+    omega (arith, ap (λ n. n * a.shape.s) c.records_in-records.ensures, b.requires.room, b.well_formed)
+
+pub from_record-requires : goal.from_record-requires
+from_record-requires c =
+    let b = c in
+    let a = b.args in
+    let l = c.loop-j in
+    let lt : l.j < records_in a.t.now = omega (arith, l.invariant.1) in record {
+      given = given_as_long a.shape a.moves.now a.t.now a.log.now a.starts.now a.places.now a.costs.now l.costs (l.invariant.5 ∙ c.lower.auto.costs ∙ c.clear.auto.costs) b.requires;
+      whole_value = l.invariant.2;
+      j_bound = (lt, l.invariant.3, l.invariant.4 lt);
+    }

@@ -1,0 +1,25 @@
+-- `costpasses::fill_there` meets its contract. The loop's invariant: the letters of the records before j have led on, and each cursor stands right. The measure is the
+-- records that are left.
+use borrow.Author.Rules.{rules}
+use native.Mathlib.Omega.{arith}
+use native.Mathlib.Numerals.{add-one}
+use mathlib.Core.Path.{◌≡◌, refl, sym, ◌∙◌, ap, subst}
+use mathlib.Core.List.{List}
+use Prim.Native.Nat.{ℕ, ◌-◌, ◌*◌, ◌≤◌, ◌<◌}
+use lib.ListN.{length, get_or, get_or-replicate, replicate}
+use Rattle.profile.specs.Limits.{most_letters}
+use Rattle.records.specs.Records.{counts_at, records_in}
+use Rattle.costcells.specs.Cells.{Cleared}
+use Rattle.costtable.proofs.Filling.{onward_fills}
+use Rattle.costtable.proofs.Onward.{Onward, onward_start}
+use Rattle.costtable.proofs.Stepping.{LowAll, given_as_long, given_laid, low_record, low_start, row_fits}
+use Rattle.costpasses.proofs.fill_there.Given as goal
+
+abbrev pub invariant-loop-j : goal.invariant-loop-j
+invariant-loop-j l =
+    (l.j ≤ l.records) × (l.records ≡ records_in l.t) × (l.whole ≡ counts_at l.t (records_in l.t - 1)) × (length l.cursors ≡ most_letters)
+    × (l.j < records_in l.t → LowAll l.t l.j l.shape.k l.cursors) × (length l.costs ≡ length l.initial.costs)
+    × ((before : List ℕ) → Onward l.shape l.moves l.log l.t before l.initial.costs 0 0 → Onward l.shape l.moves l.log l.t before l.costs l.j 0)
+
+abbrev pub decreases-loop-j : goal.decreases-loop-j
+decreases-loop-j l = l.records - l.j
