@@ -1,5 +1,7 @@
 // From one total to the next: the least counts that the cursors of a total give, with the letters that give them, and what the records at their cursors
 // hand on.
+#![tactic(auto)]
+
 ghost use Rattle.std.specs.Prelude.{◌≡◌, ◌≤◌, ◌<◌, length, get_or};
 ghost use Rattle.std.proofs.Math.Option.{some};
 ghost use Rattle.std.specs.Int.Bits.{bit_or};
