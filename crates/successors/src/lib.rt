@@ -1,4 +1,6 @@
 // Where the record with one more of a letter stands among records in order: a search between bounds, document 02, Paper 5.
+#![tactic(auto)]
+
 ghost use Rattle.std.specs.Prelude.{◌≤◌, ◌<◌};
 ghost use Rattle.counts.specs.Counts.{words};
 ghost use Rattle.records.specs.Records.{records_in};
