@@ -1,4 +1,6 @@
 // The verdict and the earliest accepted order, from the table of prefixes: document 01, "The judge".
+#![tactic(auto)]
+
 ghost use Rattle.std.specs.Prelude.{◌≡◌, true, ℕ, suc, ◌≤◌, ◌<◌, T, length};
 ghost use Rattle.profile.specs.Limits.{most_letters, most_states};
 ghost use Rattle.profile.specs.Rules.{order_by};
