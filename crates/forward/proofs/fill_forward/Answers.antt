@@ -1,0 +1,38 @@
+-- `forward::fill_forward` meets its contract.
+use mathlib.Core.Path.{sym, subst}
+use native.Mathlib.Omega.{arith}
+use borrow.Author.Rules.{rules}
+use Rattle.terms.specs.Coded.{rules_of}
+use Rattle.profile.specs.Automata.{profile_of}
+use Rattle.forward.specs.Forward.{Ready}
+use Rattle.forward.proofs.Fills.{first_begun, from_first, some_prefix}
+use Rattle.forward.proofs.fill_forward.Goals as goal
+
+pub returns-then-room-eq0 : goal.returns-then-room-eq0
+returns-then-room-eq0 c = omega (arith, some_prefix c.requires, c.if-room-eq0.true)
+
+pub put_first-number-requires : goal.put_first-number-requires
+put_first-number-requires c =
+    let h = c.requires in
+    record {
+      keepers_value = c.all_keepers-keepers.ensures;
+      ready = record { profile = h.profile; log = h.log; fits = omega (arith, h.fits); few = omega (arith, h.few); finds = h.finds };
+    }
+
+pub fill_totals-requires : goal.fill_totals-requires
+fill_totals-requires c =
+    let a = c.args in
+    let h = c.requires in
+    let x = c.put_first-number in record {
+      standing = (
+        subst (λ m. Ready (rules_of (profile_of a.shape a.masks.now a.moves.now) a.termed) a.log.now m a.room a.starts.now a.places.now a.turns.now a.termed) (sym x.auto.table) h,
+        first_begun h (omega arith) a.table.now x.new.table x.ensures.1,
+      );
+      t_in_bounds = ((omega arith, x.ensures.0), (c.by_letter.ensures, c.all_keepers-keepers.ensures));
+    }
+
+pub returns : goal.returns
+returns c =
+    let x = c.put_first-number in
+    let y = c.fill_totals in
+    from_first c.requires c.args.table.now x.new.table y.new.table x.ensures.1 y.result y.ensures

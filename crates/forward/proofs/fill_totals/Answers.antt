@@ -1,0 +1,86 @@
+use mathlib.Core.Path.{◌≡◌, refl, sym, ap, subst, subst₂}
+use Prim.Native.Nat.{ℕ, ◌+◌, ◌-◌}
+use mathlib.Core.Bool.{Bool}
+use mathlib.Core.List.{List}
+use Rattle.profile.specs.declared.Shape.{Shape}
+use native.Mathlib.Omega.{arith}
+use borrow.Author.Rules.{rules}
+use lib.ListN.{length}
+use Rattle.terms.specs.Coded.{rules_of}
+use Rattle.profile.specs.Automata.{profile_of}
+use Rattle.forward.specs.declared.Total.{Total}
+use Rattle.forward.specs.Forward.{Ready}
+use Rattle.forward.specs.Merging.{Begun, Grows, Prepared, Standing}
+use Rattle.forward.proofs.Fills.{Reaching, reaching_end, reaching_few, reaching_full, reaching_next, reaching_start}
+use Rattle.forward.proofs.fill_totals.Goals as goal
+use Rattle.forward.proofs.fill_totals.Goals.{After-next_part-at}
+
+pub loop-at-init : goal.loop-at-init
+loop-at-init c =
+    let a = c.args in
+    let h = c.requires in
+    (refl, refl, reaching_start a.number h.standing.1 h.t_in_bounds.0.0 h.t_in_bounds.0.1)
+
+pub fill_total-total-requires : goal.fill_total-total-requires
+fill_total-total-requires c =
+    let a = c.args in
+    let h = c.requires in
+    let l = c.loop-at in
+    let f = l.invariant.2 in
+    let e = sym l.invariant.0 in
+    subst
+    (λ z. Standing (rules_of (profile_of z a.masks.now a.moves.now) a.termed) a.log.now l.table l.at a.starts.now a.places.now a.turns.now a.termed
+    × Prepared (rules_of (profile_of z a.masks.now a.moves.now) a.termed) a.rows.now a.keepers.now)
+    (sym l.invariant.1) (
+      (
+        subst₂ (λ m z. Ready (rules_of (profile_of a.part.shape a.masks.now a.moves.now) a.termed) a.log.now m z a.starts.now a.places.now a.turns.now a.termed) (sym f.kept) e h.standing.0,
+        subst (λ z. Begun (rules_of (profile_of a.part.shape a.masks.now a.moves.now) a.termed) a.log.now l.table z l.at.t l.at.from l.at.first) e f.begins,
+      ),
+      h.t_in_bounds.1,
+    )
+
+-- what the callee tells of the total behind the part, in the terms of the first part
+grows : {room room' : ℕ} {shape shape' : Shape} {r r' : Total} (termed : Bool) (log masks moves : List ℕ) (t first : ℕ) (table table' : List ℕ)
+    → room' ≡ room → shape' ≡ shape → r ≡ r'
+    → Grows (rules_of (profile_of shape' masks moves) termed) log room' t first table table' r
+    → Grows (rules_of (profile_of shape masks moves) termed) log room t first table table' r'
+grows {room' = room'} {shape = shape} {r = r} termed log masks moves t first table table' a b e g =
+    subst₂ (λ z q. Grows (rules_of (profile_of shape masks moves) termed) log z t first table table' q) a e
+    (subst (λ z. Grows (rules_of (profile_of z masks moves) termed) log room' t first table table' r) b g)
+
+pub returns-in-Full : goal.returns-in-Full
+returns-in-Full c =
+    let f = c in
+    reaching_full c.requires.standing.0 c.loop-at.invariant.2 c.loop-at-test.true f.fill_total-total.new.table (grows _ _ _ _ _ _ _ _ c.loop-at.invariant.0 c.loop-at.invariant.1 c.in-Full.is c.fill_total-total.ensures)
+
+pub next_part-at-requires : goal.next_part-at-requires
+next_part-at-requires c =
+    let g = grows _ _ _ _ _ _ _ _ c.loop-at.invariant.0 c.loop-at.invariant.1 c.in-Put.is c.fill_total-total.ensures in
+    (omega (arith, c.loop-at-test.true, c.requires.standing.0.log.short), omega (arith, g.1, c.loop-at.invariant.0))
+
+-- the totals up to the one behind the part are put
+reaching : (c : After-next_part-at)
+    → Reaching (rules_of (profile_of c.args.part.shape c.args.masks.now c.args.moves.now) c.args.termed) c.args.log.now c.args.table.now c.fill_total-total.new.table
+    c.args.part.room (c.loop-at.at.t + 1) c.loop-at.at.first (c.loop-at.at.first + c.in-Put.records) (c.loop-at.looks + c.in-Put.pairs)
+reaching c =
+    let f = c in
+    reaching_next c.requires.standing.0 c.loop-at.invariant.2 c.loop-at-test.true c.in-Put.records c.in-Put.pairs f.fill_total-total.new.table (grows _ _ _ _ _ _ _ _ c.loop-at.invariant.0 c.loop-at.invariant.1 c.in-Put.is c.fill_total-total.ensures) f.fill_total-total.auto.table
+
+pub overflow_add-looks : goal.overflow_add-looks
+overflow_add-looks c = omega (arith, reaching_few c.requires.standing.0 (reaching (goal.at.overflow_add-looks c).After-next_part-at), c.requires.standing.0.few)
+
+pub loop-at-smaller : goal.loop-at-smaller
+loop-at-smaller c = omega (arith, c.loop-at-test.true, ap (λ p. p.t) c.next_part-at.ensures)
+
+pub loop-at-preserved : goal.loop-at-preserved
+loop-at-preserved c =
+    let a = c.args in
+    let l = c.loop-at in
+    let p = rules_of (profile_of a.part.shape a.masks.now a.moves.now) a.termed in
+    subst
+    (λ b. (b.room ≡ a.part.room) × (b.shape ≡ a.part.shape)
+    × Reaching p a.log.now a.table.now c.fill_total-total.new.table a.part.room b.t b.from b.first (l.looks + c.in-Put.pairs))
+    (sym c.next_part-at.ensures) (l.invariant.0, l.invariant.1, reaching (goal.at.loop-at-preserved c).After-next_part-at)
+
+pub returns : goal.returns
+returns c = reaching_end c.requires.standing.0 c.loop-at.invariant.2 c.loop-at-test.false

@@ -1,0 +1,22 @@
+-- `forward::fill_totals` meets its contract. The loop's invariant: the totals up to that of the part are put, and their pairs counted.
+use mathlib.Core.Path.{◌≡◌, refl, sym, ap, subst, subst₂}
+use Prim.Native.Nat.{◌+◌, ◌-◌}
+use native.Mathlib.Omega.{arith}
+use borrow.Author.Rules.{rules}
+use lib.ListN.{length}
+use Rattle.terms.specs.Coded.{rules_of}
+use Rattle.profile.specs.Automata.{profile_of}
+use Rattle.forward.specs.declared.Total.{Total}
+use Rattle.forward.specs.Forward.{Ready}
+use Rattle.forward.specs.Merging.{Begun, Grows, Prepared, Standing}
+use Rattle.forward.proofs.Fills.{Reaching, reaching_end, reaching_few, reaching_full, reaching_next, reaching_start}
+use Rattle.forward.proofs.fill_totals.Given as goal
+
+abbrev pub invariant-loop-at : goal.invariant-loop-at
+invariant-loop-at l =
+    (l.at.room ≡ l.initial.at.room) × (l.at.shape ≡ l.initial.at.shape)
+    × Reaching (rules_of (profile_of l.initial.at.shape l.masks l.moves) l.termed) l.log l.initial.table l.table l.initial.at.room l.at.t l.at.from l.at.first l.looks
+
+abbrev pub decreases-loop-at : goal.decreases-loop-at
+decreases-loop-at l =
+    length l.log - l.at.t

@@ -1,0 +1,48 @@
+-- `forward::next_counts` meets its contract.
+use mathlib.Core.Path.{sym, ◌∙◌, ap, subst}
+use native.Mathlib.Omega.{arith}
+use lib.Dec.{T}
+use borrow.Author.Rules.{rules}
+use Rattle.profile.specs.Traces.{bit}
+use Rattle.cursors.specs.Cursors.{advanced}
+use Rattle.merge.specs.Merge.{inherited, least_letters, least_words, passing, united}
+use Rattle.merge.proofs.Givers.{givers_inside}
+use Rattle.forward.proofs.next_counts.Goals as goal
+
+pub unite-handed-requires : goal.unite-handed-requires
+unite-handed-requires c =
+    let a = c.args in
+    let e = sym (ap least_letters c.in-At.is) ∙ c.least_counts-least.ensures.result_value_2 in
+    record {
+      k_le_most_letters = search rules;
+      k_in_bounds = search rules;
+      rows_value = c.requires.rows_value;
+      given = λ x h m. givers_inside a.level.now a.cursors.now a.k x (subst (λ S. T (bit S x)) e m);
+    }
+
+pub advance-requires : goal.advance-requires
+advance-requires c =
+    let s = c in
+    let a = s.args in
+    let e = sym (ap least_letters c.in-At.is) ∙ c.least_counts-least.ensures.result_value_2 in
+    record {
+      k_le_most_letters = (s.requires.k_le_most_letters.0, omega (arith, s.requires.k_le_most_letters.0, s.requires.k_le_most_letters.2));
+      given = λ x h m. givers_inside a.level.now a.cursors.now a.k x (subst (λ S. T (bit S x)) e m);
+    }
+
+pub returns-in-Nothing : goal.returns-in-Nothing
+returns-in-Nothing c = sym c.least_counts-least.ensures.result_value ∙ ap least_words c.in-Nothing.is
+
+pub returns-in-At : goal.returns-in-At
+returns-in-At c =
+    let a = c.args in
+    let x = c.least_counts-least in
+    let u = c.unite-handed.ensures in
+    let e = sym (ap least_letters c.in-At.is) ∙ x.ensures.result_value_2 in (
+      sym x.ensures.result_value ∙ ap least_words c.in-At.is,
+      u.0 ∙ ap (united a.k a.s a.moves.now a.level.now a.cursors.now) e,
+      u.1 ∙ ap (inherited a.k a.level.now a.cursors.now) e,
+      u.2 ∙ ap (passing a.k a.masks.now) e,
+      c.advance.ensures ∙ ap (advanced a.k a.level.now a.cursors.now) e,
+      e,
+    )
