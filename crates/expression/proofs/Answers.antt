@@ -174,3 +174,10 @@ module _ (k : ℕ) (u before : List ℕ) where
                   let shape : ℕ → ℕ → Shape = λ s f. record { k = k; s = s; start = 0; finals = f } in
                   (ap Profile (ap₂ shape (add-one n ∙ ap suc (sized e t)) m.0), m.1);
             }
+
+-- the first two refusals of a text that keeps the rules, as the function tells them
+pub told_deep : (k : ℕ) (u before : List ℕ) (d n : ℕ) → scanned k u ≡ Right d n → 1 ≤ k → k ≤ most_letters → deepest_brackets < d → (Refused DeepText ≡ making k u (length before)) × (before ≡ made_buffer k u before)
+told_deep k u before d n r h few more = makes_equal k u before _ _ (makes_deep k u before h few d n r more)
+
+pub told_long : (k : ℕ) (u before : List ℕ) (d n : ℕ) → scanned k u ≡ Right d n → 1 ≤ k → k ≤ most_letters → d ≤ deepest_brackets → most_typed < n → (Refused LongText ≡ making k u (length before)) × (before ≡ made_buffer k u before)
+told_long k u before d n r h few shallow more = makes_equal k u before _ _ (makes_long k u before h few d n r shallow more)

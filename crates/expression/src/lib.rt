@@ -57,6 +57,7 @@ fn write_moves(k: usize, s: usize, text: &[u8], moves: &mut [u32]) -> u32
 }
 
 // The profile of a right text whose brackets go `deepest` deep and that types n letters; refused by 12, 13 and 9.
+#[tactic(auto, using(crate::proofs::Answers::told_deep, crate::proofs::Answers::told_long))]
 fn make_right(k: usize, text: &[u8], deepest: usize, n: usize, moves: &mut [u32]) -> Made
     requires { (1 ≤ k) × (k ≤ most_letters) × (scanned k text.now ≡ Right deepest n) }
     ensures { (result ≡ making k text.now (length moves.old))

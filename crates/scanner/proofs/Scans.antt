@@ -10,7 +10,7 @@ use lib.Bits.{bit_or, or_zero_r}
 use lib.Dec.{T, eqb, eqb→eq, eqb_refl, leb, leb→le, ltb, ltb→lt}
 use lib.ListN.{drop, drop_of_length-le, get_or, get_or-replicate, length, length-set, replicate, set}
 use lib.Seq.{drop-cons, ext_get_or, get_or-set_other, get_or-set_same}
-use borrow.Author.Tests.{ne_eqb}
+use borrow.Author.Tests.{ne_eqb, not-true}
 use Rattle.profile.specs.Limits.{most_letters, most_states, most_typed}
 use Rattle.profile.proofs.Lists.{fst_of, is_true, snd_of}
 use Rattle.expressions.specs.Positions.{typed_as, when}
@@ -22,7 +22,8 @@ use Rattle.profile.proofs.Sets.{or_assoc}
 use Rattle.theory.proofs.Counting.{at_map, length_range}
 use Rattle.scanner.specs.declared.Scanned.{Scanned}
 use Rattle.scanner.specs.declared.Scanned.TheVariants.{Broken, Right}
-use Rattle.scanner.specs.Scan.{scanned, scanned_as, sets_of}
+use Rattle.scanner.specs.declared.Stand.{Stand}
+use Rattle.scanner.specs.Scan.{place_if, placed, scanned, scanned_as, sets_of}
 
 true_t : (b : Bool) → b ≡ true → T b
 true_t b e = subst T (sym e) tt
@@ -206,6 +207,10 @@ module _ (k : ℕ) (u : List ℕ) (w : Bool) (d m n i : ℕ) (p : Passed k u w d
         let deep : m ≡ deepest 0 u = omega (arith, z, p.deep ∙ ap (λ l. max m (deepest d l)) none_left) in
         let count : n ≡ length (letters_of k u) = omega (arith, p.count, ap (λ l. length (letters_of k l)) none_left) in
         ap₂ Right deep count ∙ sym (ap (λ o. scanned_as o (deepest 0 u) (length (letters_of k u))) right)
+
+-- a byte that is not good, as the step tells it
+pub passed_faulty : (k : ℕ) (u : List ℕ) (w : Bool) (d m n i : ℕ) (s : Stand) → Passed k u w d m n i → i < length u → placed s ≡ next (sign k (get_or u i 0)) w d → not s.good ≡ true → Broken i ≡ scanned k u
+passed_faulty k u w d m n i s p h e b = passed_stops k u w d m n i p h (sym e ∙ ap (λ g. place_if g s.want s.depth) (not-true s.good b))
 
 -- what the pass tells, taken apart
 module _ (k : ℕ) (u : List ℕ) where

@@ -111,6 +111,7 @@ fn letters_in(k: usize, c: u8) -> usize
 }
 
 // The pass over a text: 11 is decided over the whole of it, before depth and letters are looked at.
+#[tactic(auto, using(crate::proofs::Scans::passed_faulty))]
 pub fn scan(k: usize, text: &[u8]) -> Scanned
     requires { k ≤ most_letters }
     ensures { result ≡ scanned k text.now }

@@ -39,12 +39,12 @@ loop-i-preserved c =
     let f = c.is_letter in (
       omega arith,
       elim c.if-is_letter.branch [
-        then-is_letter w ↦
-          let q = sym f.ensures ∙ w.if-is_letter.true in
-          let b = letter_byte S.args.k (get_or u l.i 0) S.requires.0 q in
-          subst₂ (λ s n. Filled S.args.k u s n (l.i + 1)) (sym (w.sets-is ∙ w.add_number.ensures)) (sym w.n-is) (filled_yes S.args.k u l.sets l.n l.i (omega arith) l.invariant.1 q b.1)
+        | then-is_letter w ↦
+            let q = sym f.ensures ∙ w.if-is_letter.true in
+            let b = letter_byte S.args.k (get_or u l.i 0) S.requires.0 q in
+            subst₂ (λ s n. Filled S.args.k u s n (l.i + 1)) (sym (w.sets-is ∙ w.add_number.ensures)) (sym w.n-is) (filled_yes S.args.k u l.sets l.n l.i (omega arith) l.invariant.1 q b.1)
         | else-is_letter w ↦
-          subst₂ (λ s n. Filled S.args.k u s n (l.i + 1)) (sym w.sets-is) (sym w.n-is) (filled_no S.args.k u l.sets l.n l.i (omega arith) l.invariant.1 (sym f.ensures ∙ w.if-is_letter.false))
+            subst₂ (λ s n. Filled S.args.k u s n (l.i + 1)) (sym w.sets-is) (sym w.n-is) (filled_no S.args.k u l.sets l.n l.i (omega arith) l.invariant.1 (sym f.ensures ∙ w.if-is_letter.false))
       ],
     )
 

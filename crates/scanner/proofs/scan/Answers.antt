@@ -2,21 +2,14 @@ use mathlib.Core.Path.{sym, ◌∙◌, ap}
 use Prim.Native.Nat.{◌+◌}
 use native.Mathlib.Omega.{arith}
 use lib.ListN.{get_or}
-use borrow.Author.Tests.{not-false, not-true}
+use Rattle.std.proofs.Common.{rules, ◌≡◌, true}
+use borrow.Author.Tests.{not-false}
 use Rattle.scanner.specs.Scan.{place_if}
-use Rattle.scanner.proofs.Scans.{at_most_one, passed_goes, passed_open, passed_right, passed_start, passed_stops, passed_wanting}
+use Rattle.scanner.proofs.Scans.{at_most_one, passed_goes, passed_open, passed_right, passed_start, passed_wanting}
 use Rattle.scanner.proofs.scan.Goals as goal
 
 pub loop-i-init : goal.loop-i-init
 loop-i-init c = (omega arith, passed_start c.args.k c.args.text.now)
-
-pub returns-then-not-s : goal.returns-then-not-s
-returns-then-not-s c =
-    let S = c in
-    let l = c.loop-i in
-    let x = c.step-s.result in
-    passed_stops S.args.k S.args.text.now l.want l.depth l.deepest l.letters l.i l.invariant.1 (omega arith)
-    (sym c.step-s.ensures ∙ ap (λ g. place_if g x.want x.depth) (not-true x.good c.if-not-s.true))
 
 pub overflow_add-letters : goal.overflow_add-letters
 overflow_add-letters c =
@@ -29,7 +22,8 @@ loop-i-preserved c =
     let S = c in
     let l = c.loop-i in
     let x = c.step-s.result in
-    let q = sym c.step-s.ensures ∙ ap (λ g. place_if g x.want x.depth) (not-false x.good c.if-not-s.false) in (
+    let good : x.good ≡ true = search (rules, not-false) in
+    let q = sym c.step-s.ensures ∙ ap (λ g. place_if g x.want x.depth) good in (
       omega arith,
       passed_goes S.args.k S.args.text.now l.want l.depth l.deepest l.letters l.i l.invariant.1 (omega arith) S.requires x.want x.depth _ _ q c.larger-deepest.ensures
           (ap (λ n. l.letters + n) c.letters_in-letters.ensures),
