@@ -1,5 +1,5 @@
 /* Fumarehi: a proved judge of loan logs. The C interface of the static library libfumarehi.a, as './install PREFIX' puts it in place
- * ('rt staticlib capi' makes it, as target/staticlib/libcapi.a). docs/RULES.md has the rules, docs/FORMAT.md the log file.
+ * ('./library' makes it, as target/staticlib/libcapi.a). docs/RULES.md has the rules, docs/FORMAT.md the log file.
  *
  * Answers. Every function but fumarehi_next_event returns 0, or the number of the refusal that applies. If several do, it is the first of them in
  * this list, which is not by number throughout: those from 11 on stand where they are checked.

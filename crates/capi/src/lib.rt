@@ -1,4 +1,7 @@
-// What C and Rust link: each function returns the refusal's number, or 0, and tells the rest as numbers. `include/fumarehi.h` declares them.
+// What C and Rust call: each function returns the refusal's number, or 0, and tells the rest as numbers. The crate `capi_c` exports them, and
+// `include/fumarehi.h` declares them.
+#![tactic(auto)]
+
 ghost use Rattle.std.specs.Prelude.{◌≡◌, length};
 ghost use Rattle.profile.specs.Automata.{profile_of};
 ghost use Rattle.profile.specs.Refusals.{refusal_place};
@@ -34,8 +37,7 @@ fn place_of(r: Refusal) -> u64
 }
 
 // The judge.
-#[unsafe(no_mangle)]
-pub extern "C" fn fumarehi_judge(
+pub fn fumarehi_judge(
     k: usize,
     s: usize,
     start: usize,
@@ -60,8 +62,7 @@ pub extern "C" fn fumarehi_judge(
 }
 
 // The prefix table.
-#[unsafe(no_mangle)]
-pub extern "C" fn fumarehi_table(
+pub fn fumarehi_table(
     k: usize,
     s: usize,
     start: usize,
@@ -94,8 +95,7 @@ pub extern "C" fn fumarehi_table(
 }
 
 // The search for a prefix by its counts, among the records of a table or of a part of one.
-#[unsafe(no_mangle)]
-pub extern "C" fn fumarehi_find(table: &[u32], counts: &[u32], told: &mut [u64; 2]) -> u32
+pub fn fumarehi_find(table: &[u32], counts: &[u32], told: &mut [u64; 2]) -> u32
     ensures { Finding table.now counts.now result told.new }
 {
     if counts.len() != counts::NUMBERS {
@@ -116,8 +116,7 @@ pub extern "C" fn fumarehi_find(table: &[u32], counts: &[u32], told: &mut [u64; 
 }
 
 // Same.
-#[unsafe(no_mangle)]
-pub extern "C" fn fumarehi_same(
+pub fn fumarehi_same(
     k: usize,
     masks: &[u16],
     first: &[u8],
@@ -144,8 +143,7 @@ pub extern "C" fn fumarehi_same(
 }
 
 // First order.
-#[unsafe(no_mangle)]
-pub extern "C" fn fumarehi_first_order(
+pub fn fumarehi_first_order(
     k: usize,
     masks: &[u16],
     log: &[u8],
@@ -169,8 +167,7 @@ pub extern "C" fn fumarehi_first_order(
 }
 
 // The file reader.
-#[unsafe(no_mangle)]
-pub extern "C" fn fumarehi_read_file(
+pub fn fumarehi_read_file(
     file: &[u8],
     masks: &mut [u16],
     moves: &mut [u32],
@@ -199,8 +196,7 @@ pub extern "C" fn fumarehi_read_file(
 }
 
 // The log part.
-#[unsafe(no_mangle)]
-pub extern "C" fn fumarehi_log_part(file: &[u8], told: &mut [u64; 3]) -> u32
+pub fn fumarehi_log_part(file: &[u8], told: &mut [u64; 3]) -> u32
     ensures { let a = log_location file.now in (result ≡ located_code a) × (told.new ≡ located_told a) }
 {
     let located = logfile::locate_log(file);
@@ -217,8 +213,7 @@ pub extern "C" fn fumarehi_log_part(file: &[u8], told: &mut [u64; 3]) -> u32
 }
 
 // The file writer.
-#[unsafe(no_mangle)]
-pub extern "C" fn fumarehi_write_file(
+pub fn fumarehi_write_file(
     k: usize,
     s: usize,
     start: usize,
@@ -253,8 +248,7 @@ pub extern "C" fn fumarehi_write_file(
 }
 
 // The log reader: the event at a place, which advances one.
-#[unsafe(no_mangle)]
-pub extern "C" fn fumarehi_next_event(log: &[u8], at: &mut usize) -> u32
+pub fn fumarehi_next_event(log: &[u8], at: &mut usize) -> u32
     ensures value { result ≡ event_number (event_of log.now at.old) }
     ensures at_after { at.new ≡ place_behind log.now at.old }
 {
@@ -268,13 +262,7 @@ pub extern "C" fn fumarehi_next_event(log: &[u8], at: &mut usize) -> u32
 }
 
 // Courses typed as an expression.
-#[unsafe(no_mangle)]
-pub extern "C" fn fumarehi_expression(
-    k: usize,
-    text: &[u8],
-    moves: &mut [u32],
-    told: &mut [u64; 4],
-) -> u32
+pub fn fumarehi_expression(k: usize, text: &[u8], moves: &mut [u32], told: &mut [u64; 4]) -> u32
     ensures { let a = making k text.now (length moves.old) in
         (result ≡ made_code a) × (told.new ≡ made_told a) × (moves.new ≡ made_buffer k text.now moves.old) }
 {
@@ -295,8 +283,7 @@ pub extern "C" fn fumarehi_expression(
 }
 
 // The running judge's start: `held` is its record, P and the number of events taken.
-#[unsafe(no_mangle)]
-pub extern "C" fn fumarehi_run_start(
+pub fn fumarehi_run_start(
     k: usize,
     s: usize,
     start: usize,
@@ -319,8 +306,7 @@ pub extern "C" fn fumarehi_run_start(
 }
 
 // The running judge's event.
-#[unsafe(no_mangle)]
-pub extern "C" fn fumarehi_run_event(
+pub fn fumarehi_run_event(
     k: usize,
     s: usize,
     start: usize,
@@ -344,8 +330,7 @@ pub extern "C" fn fumarehi_run_event(
 }
 
 // The running judge's question.
-#[unsafe(no_mangle)]
-pub extern "C" fn fumarehi_run_question(
+pub fn fumarehi_run_question(
     k: usize,
     s: usize,
     start: usize,
@@ -368,8 +353,7 @@ pub extern "C" fn fumarehi_run_question(
 }
 
 // The judge with terms: days and terms are numbers year × 10,000 + month × 100 + day, terms the first and the last day of each in turn.
-#[unsafe(no_mangle)]
-pub extern "C" fn fumarehi_judge_terms(
+pub fn fumarehi_judge_terms(
     k: usize,
     s: usize,
     start: usize,
@@ -395,8 +379,7 @@ pub extern "C" fn fumarehi_judge_terms(
 }
 
 // A teacher's view.
-#[unsafe(no_mangle)]
-pub extern "C" fn fumarehi_view(
+pub fn fumarehi_view(
     k: usize,
     s: usize,
     start: usize,
@@ -421,8 +404,7 @@ pub extern "C" fn fumarehi_view(
 }
 
 // The judge for grammars.
-#[unsafe(no_mangle)]
-pub extern "C" fn fumarehi_grammar(
+pub fn fumarehi_grammar(
     k: usize,
     masks: &[u16],
     names: usize,
@@ -439,8 +421,7 @@ pub extern "C" fn fumarehi_grammar(
 }
 
 // A ceiling: place, ceiling.
-#[unsafe(no_mangle)]
-pub extern "C" fn fumarehi_ceiling(
+pub fn fumarehi_ceiling(
     k: usize,
     masks: &[u16],
     log: &[u8],
@@ -453,8 +434,7 @@ pub extern "C" fn fumarehi_ceiling(
 }
 
 // The order closest to what was recorded: place, verdict, P, looks, swaps, floor.
-#[unsafe(no_mangle)]
-pub extern "C" fn fumarehi_closest(
+pub fn fumarehi_closest(
     k: usize,
     s: usize,
     start: usize,
@@ -480,8 +460,7 @@ pub extern "C" fn fumarehi_closest(
 }
 
 // The same for a log with terms; days and terms as the judge with terms has them.
-#[unsafe(no_mangle)]
-pub extern "C" fn fumarehi_closest_terms(
+pub fn fumarehi_closest_terms(
     k: usize,
     s: usize,
     start: usize,

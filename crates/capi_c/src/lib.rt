@@ -1,0 +1,340 @@
+// The static library that C and Rust link: each export calls the function of `capi` of that name, and says its clauses again. `include/fumarehi.h` declares
+// them.
+#![tactic(auto)]
+
+ghost use Rattle.std.specs.Prelude.{◌≡◌, length};
+ghost use Rattle.profile.specs.Automata.{profile_of};
+ghost use Rattle.comparison.specs.Comparison.{comparison};
+ghost use Rattle.order.specs.Order.{ordered_buffer, ordering};
+ghost use Rattle.logfile.specs.Files.{file_masks, file_moves, file_shape, filled, log_location, log_length, read_refusal, reading};
+ghost use Rattle.filewriter.specs.Written.{file_bytes, write_refusal, writing};
+ghost use Rattle.logreader.specs.Events.{event_of, place_behind};
+ghost use Rattle.expression.specs.Making.{made_buffer, making};
+ghost use Rattle.capi.specs.Numbers.{Building, Finding, Judging, compared_code, compared_told, event_number, located_code, located_told, made_code, made_told, ordered_code, ordered_told, reading_code, reading_told, writing_code, writing_told};
+ghost use Rattle.calls.specs.Calls.{Asking, Starting, Stepping};
+ghost use Rattle.term_calls.specs.TermCalls.{TermJudging};
+ghost use Rattle.view_calls.specs.ViewCalls.{Viewing};
+ghost use Rattle.grammar_calls.specs.GrammarCalls.{Judging as GrammarJudging};
+ghost use Rattle.ceiling_calls.specs.CeilingCalls.{Bounding};
+ghost use Rattle.closest_calls.specs.Calls.{Closing, TermClosing};
+
+// The judge.
+#[unsafe(no_mangle)]
+pub extern "C" fn fumarehi_judge(
+    k: usize,
+    s: usize,
+    start: usize,
+    finals: u32,
+    masks: &[u16],
+    moves: &[u32],
+    log: &[u8],
+    order: &mut [u8],
+    work: &mut [u32],
+    told: &mut [u64; 4],
+) -> u32
+    ensures { Judging (profile_of (record { k = k; s = s; start = start; finals = finals }) masks.now moves.now) log.now order.old order.new work.old work.new result told.new }
+{
+    capi::fumarehi_judge(k, s, start, finals, masks, moves, log, order, work, told)
+}
+
+// The prefix table.
+#[unsafe(no_mangle)]
+pub extern "C" fn fumarehi_table(
+    k: usize,
+    s: usize,
+    start: usize,
+    finals: u32,
+    masks: &[u16],
+    moves: &[u32],
+    log: &[u8],
+    table: &mut [u32],
+    told: &mut [u64; 3],
+) -> u32
+    ensures { Building (profile_of (record { k = k; s = s; start = start; finals = finals }) masks.now moves.now) log.now table.old table.new result told.new }
+{
+    capi::fumarehi_table(k, s, start, finals, masks, moves, log, table, told)
+}
+
+// The search for a prefix by its counts, among the records of a table or of a part of one.
+#[unsafe(no_mangle)]
+pub extern "C" fn fumarehi_find(table: &[u32], counts: &[u32], told: &mut [u64; 2]) -> u32
+    ensures { Finding table.now counts.now result told.new }
+{
+    capi::fumarehi_find(table, counts, told)
+}
+
+// Same.
+#[unsafe(no_mangle)]
+pub extern "C" fn fumarehi_same(
+    k: usize,
+    masks: &[u16],
+    first: &[u8],
+    second: &[u8],
+    told: &mut [u64; 3],
+) -> u32
+    ensures { let c = comparison k masks.now first.now second.now in (result ≡ compared_code c) × (told.new ≡ compared_told c) }
+{
+    capi::fumarehi_same(k, masks, first, second, told)
+}
+
+// First order.
+#[unsafe(no_mangle)]
+pub extern "C" fn fumarehi_first_order(
+    k: usize,
+    masks: &[u16],
+    log: &[u8],
+    order: &mut [u8],
+    told: &mut [u64; 1],
+) -> u32
+    ensures fact { let o = ordering k masks.now log.now (length order.old) in (result ≡ ordered_code o) × (told.new ≡ ordered_told o) }
+    ensures order_after { order.new ≡ ordered_buffer k masks.now log.now order.old }
+{
+    capi::fumarehi_first_order(k, masks, log, order, told)
+}
+
+// The file reader.
+#[unsafe(no_mangle)]
+pub extern "C" fn fumarehi_read_file(
+    file: &[u8],
+    masks: &mut [u16],
+    moves: &mut [u32],
+    told: &mut [u64; 6],
+) -> u32
+    ensures { let f = file.now in let q = read_refusal f (length masks.old) (length moves.old) in
+        let a = reading q (file_shape f) (log_length f) in
+        (result ≡ reading_code a) × (told.new ≡ reading_told a) × (masks.new ≡ filled q (file_masks f) masks.old)
+        × (moves.new ≡ filled q (file_moves f) moves.old) }
+{
+    capi::fumarehi_read_file(file, masks, moves, told)
+}
+
+// The log part.
+#[unsafe(no_mangle)]
+pub extern "C" fn fumarehi_log_part(file: &[u8], told: &mut [u64; 3]) -> u32
+    ensures { let a = log_location file.now in (result ≡ located_code a) × (told.new ≡ located_told a) }
+{
+    capi::fumarehi_log_part(file, told)
+}
+
+// The file writer.
+#[unsafe(no_mangle)]
+pub extern "C" fn fumarehi_write_file(
+    k: usize,
+    s: usize,
+    start: usize,
+    finals: u32,
+    masks: &[u16],
+    moves: &[u32],
+    log: &[u8],
+    file: &mut [u8],
+    told: &mut [u64; 2],
+) -> u32
+    ensures { let p = profile_of (record { k = k; s = s; start = start; finals = finals }) masks.now moves.now in
+        let l = file_bytes p log.now in let q = write_refusal p log.now (length file.old) in let a = writing q (length l) in
+        (result ≡ writing_code a) × (told.new ≡ writing_told a) × (file.new ≡ filled q l file.old) }
+{
+    capi::fumarehi_write_file(k, s, start, finals, masks, moves, log, file, told)
+}
+
+// The log reader: the event at a place, which advances one.
+#[unsafe(no_mangle)]
+pub extern "C" fn fumarehi_next_event(log: &[u8], at: &mut usize) -> u32
+    ensures value { result ≡ event_number (event_of log.now at.old) }
+    ensures at_after { at.new ≡ place_behind log.now at.old }
+{
+    capi::fumarehi_next_event(log, at)
+}
+
+// Courses typed as an expression.
+#[unsafe(no_mangle)]
+pub extern "C" fn fumarehi_expression(
+    k: usize,
+    text: &[u8],
+    moves: &mut [u32],
+    told: &mut [u64; 4],
+) -> u32
+    ensures { let a = making k text.now (length moves.old) in
+        (result ≡ made_code a) × (told.new ≡ made_told a) × (moves.new ≡ made_buffer k text.now moves.old) }
+{
+    capi::fumarehi_expression(k, text, moves, told)
+}
+
+// The running judge's start: `held` is its record, P and the number of events taken.
+#[unsafe(no_mangle)]
+pub extern "C" fn fumarehi_run_start(
+    k: usize,
+    s: usize,
+    start: usize,
+    finals: u32,
+    masks: &[u16],
+    moves: &[u32],
+    held: &mut [u64; 2],
+    table: &mut [u32],
+    told: &mut [u64; 1],
+) -> u32
+    ensures { Starting (profile_of (record { k = k; s = s; start = start; finals = finals }) masks.now moves.now) held.old held.new table.old table.new result told.new }
+{
+    capi::fumarehi_run_start(k, s, start, finals, masks, moves, held, table, told)
+}
+
+// The running judge's event.
+#[unsafe(no_mangle)]
+pub extern "C" fn fumarehi_run_event(
+    k: usize,
+    s: usize,
+    start: usize,
+    finals: u32,
+    masks: &[u16],
+    moves: &[u32],
+    letter: u8,
+    held: &mut [u64; 2],
+    table: &mut [u32],
+    told: &mut [u64; 1],
+) -> u32
+    ensures { Stepping (profile_of (record { k = k; s = s; start = start; finals = finals }) masks.now moves.now) letter held.old held.new table.old table.new result told.new }
+{
+    capi::fumarehi_run_event(k, s, start, finals, masks, moves, letter, held, table, told)
+}
+
+// The running judge's question.
+#[unsafe(no_mangle)]
+pub extern "C" fn fumarehi_run_question(
+    k: usize,
+    s: usize,
+    start: usize,
+    finals: u32,
+    masks: &[u16],
+    moves: &[u32],
+    held: &[u64; 2],
+    table: &[u32],
+    told: &mut [u64; 4],
+) -> u32
+    ensures { Asking (profile_of (record { k = k; s = s; start = start; finals = finals }) masks.now moves.now) held.now table.now result told.new }
+{
+    capi::fumarehi_run_question(k, s, start, finals, masks, moves, held, table, told)
+}
+
+// The judge with terms: days and terms are numbers year × 10,000 + month × 100 + day, terms the first and the last day of each in turn.
+#[unsafe(no_mangle)]
+pub extern "C" fn fumarehi_judge_terms(
+    k: usize,
+    s: usize,
+    start: usize,
+    finals: u32,
+    masks: &[u16],
+    moves: &[u32],
+    log: &[u8],
+    days: &[u32],
+    terms: &[u32],
+    order: &mut [u8],
+    work: &mut [u32],
+    told: &mut [u64; 4],
+) -> u32
+    ensures { TermJudging (profile_of (record { k = k; s = s; start = start; finals = finals }) masks.now moves.now) log.now days.now terms.now order.old order.new work.old work.new result told.new }
+{
+    capi::fumarehi_judge_terms(
+        k, s, start, finals, masks, moves, log, days, terms, order, work, told,
+    )
+}
+
+// A teacher's view.
+#[unsafe(no_mangle)]
+pub extern "C" fn fumarehi_view(
+    k: usize,
+    s: usize,
+    start: usize,
+    finals: u32,
+    visible: u32,
+    masks: &[u16],
+    moves: &[u32],
+    log: &[u8],
+    order: &mut [u8],
+    work: &mut [u32],
+    told: &mut [u64; 4],
+) -> u32
+    ensures { Viewing (profile_of (record { k = k; s = s; start = start; finals = finals }) masks.now moves.now) visible log.now order.old order.new work.old work.new result told.new }
+{
+    capi::fumarehi_view(
+        k, s, start, finals, visible, masks, moves, log, order, work, told,
+    )
+}
+
+// The judge for grammars.
+#[unsafe(no_mangle)]
+pub extern "C" fn fumarehi_grammar(
+    k: usize,
+    masks: &[u16],
+    names: usize,
+    rules: &[u16],
+    log: &[u8],
+    order: &mut [u8],
+    work: &mut [u32],
+    sets: &mut [u16],
+    told: &mut [u64; 4],
+) -> u32
+    ensures { GrammarJudging k masks.now names rules.now log.now order.old order.new work.old work.new sets.old sets.new result told.new }
+{
+    capi::fumarehi_grammar(k, masks, names, rules, log, order, work, sets, told)
+}
+
+// A ceiling: place, ceiling.
+#[unsafe(no_mangle)]
+pub extern "C" fn fumarehi_ceiling(
+    k: usize,
+    masks: &[u16],
+    log: &[u8],
+    groups: &[u16],
+    told: &mut [u64; 2],
+) -> u32
+    ensures { Bounding k masks.now log.now groups.now result told.new }
+{
+    capi::fumarehi_ceiling(k, masks, log, groups, told)
+}
+
+// The order closest to what was recorded: place, verdict, P, looks, swaps, floor.
+#[unsafe(no_mangle)]
+pub extern "C" fn fumarehi_closest(
+    k: usize,
+    s: usize,
+    start: usize,
+    finals: u32,
+    masks: &[u16],
+    moves: &[u32],
+    log: &[u8],
+    order: &mut [u8],
+    work: &mut [u32],
+    costs: &mut [u32],
+    budget: u64,
+    told: &mut [u64; 6],
+) -> u32
+    ensures { Closing (profile_of (record { k = k; s = s; start = start; finals = finals }) masks.now moves.now) log.now budget order.old order.new work.old work.new costs.old costs.new result told.new }
+{
+    capi::fumarehi_closest(
+        k, s, start, finals, masks, moves, log, order, work, costs, budget, told,
+    )
+}
+
+// The same for a log with terms; days and terms as the judge with terms has them.
+#[unsafe(no_mangle)]
+pub extern "C" fn fumarehi_closest_terms(
+    k: usize,
+    s: usize,
+    start: usize,
+    finals: u32,
+    masks: &[u16],
+    moves: &[u32],
+    log: &[u8],
+    days: &[u32],
+    terms: &[u32],
+    order: &mut [u8],
+    work: &mut [u32],
+    costs: &mut [u32],
+    budget: u64,
+    told: &mut [u64; 6],
+) -> u32
+    ensures { TermClosing (profile_of (record { k = k; s = s; start = start; finals = finals }) masks.now moves.now) log.now days.now terms.now budget order.old order.new work.old work.new costs.old costs.new result told.new }
+{
+    capi::fumarehi_closest_terms(
+        k, s, start, finals, masks, moves, log, days, terms, order, work, costs, budget, told,
+    )
+}

@@ -1,0 +1,18 @@
+-- `report::put_letters` meets its contract. The loop's invariant: the letters before place i are put, in at most four bytes each.
+use borrow.Author.Rules.{rules}
+use mathlib.Core.Path.{◌≡◌, refl, ◌∙◌, ap}
+use Prim.Native.Nat.{ℕ, ◌+◌, ◌-◌, ◌*◌, ◌≤◌, ◌<◌}
+use native.Mathlib.Omega.{arith}
+use lib.ListN.{length, get_or, take}
+use lib.Seq.{take_all}
+use Rattle.profile.specs.Lists.{flat_map}
+use Rattle.report.specs.Report.{Put, spaced}
+use Rattle.report.proofs.Decimal.{decimal_short}
+use Rattle.report.proofs.Texts.{put_as, put_kept, put_none, put_then, spaced_more}
+use Rattle.report.proofs.put_letters.Given as goal
+
+abbrev pub invariant-loop-i : goal.invariant-loop-i
+invariant-loop-i l = (l.i ≤ length l.letters) × (length l.out ≡ length l.initial.out) × Put l.initial.out l.at (flat_map spaced (take l.i l.letters)) l.out l.to × (l.to ≤ l.at + 4 * l.i)
+
+abbrev pub decreases-loop-i : goal.decreases-loop-i
+decreases-loop-i l = length l.letters - l.i

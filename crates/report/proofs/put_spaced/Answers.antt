@@ -1,0 +1,7 @@
+-- `report::put_spaced` meets its contract.
+use borrow.Author.Rules.{rules}
+use Rattle.report.proofs.Texts.{put_then}
+use Rattle.report.proofs.put_spaced.Goals as goal
+
+pub returns : goal.returns
+returns c = put_then c.put_bytes-digits.ensures c.put_decimal.ensures
