@@ -60,7 +60,7 @@ module _ (p : Profile) (w : List ℕ) (B : ℕ) (order order' table table' costs
   -- verdict, P, looks and the work table are those that the judge gives for the same profile, log, order buffer and work table
   pub as_the_judge : (order₁ table₁ : List ℕ) (r : Closest) (j : Judged) → Promise p w B order order' table table' costs costs' r → judge.Promise p w order order₁ table table₁ j
       → refused_by r ≡ none
-      → (verdict_number r ≡ judge.verdict-number j) × (told_prefixes r ≡ told.told-prefixes j) × (told_looks r ≡ told.told-looks j) × (table' ≡ table₁)
+      → (verdict_number r ≡ judge.verdict_number j) × (told_prefixes r ≡ told.told_prefixes j) × (told_looks r ≡ told.told_looks j) × (table' ≡ table₁)
   as_the_judge order₁ table₁ r j h g e = as_the_judge_by (plain p) w B order order' table table' costs costs' (closest_refusal p w (length order) (length table) (length costs)) order₁ table₁
       (before_none (judge_refusals p w (length order) (length table)) (prefixes_of p w) p.s (length costs) (sym h.refused ∙ e)) r j h g e
 

@@ -103,7 +103,7 @@ module _ (p : Rules) (w : List ℕ) (B : ℕ) (order order' table table' costs c
     same_counts a b = (ap some (a.prefixes ∙ sym b.prefixes), ap some (a.looks ∙ sym b.looks), a.table ∙ sym b.table)
 
     pub as_the_judge_by : (r : Closest) (j : Judged) → PromiseBy p w B order order' table table' costs costs' q r → judge.PromiseBy p w order order₁ table table₁ q₁ j → refused_by r ≡ none
-        → (verdict_number r ≡ judge.verdict-number j) × (told_prefixes r ≡ told.told-prefixes j) × (told_looks r ≡ told.told-looks j) × (table' ≡ table₁)
+        → (verdict_number r ≡ judge.verdict_number j) × (told_prefixes r ≡ told.told_prefixes j) × (told_looks r ≡ told.told_looks j) × (table' ≡ table₁)
     as_the_judge_by (Refused x) j h g e = absurd (some-ne-none x e)
     as_the_judge_by (NoOrder P n) (judged.Refused x) h g e = absurd (some-ne-none x (g.refused ∙ unrefused))
     as_the_judge_by (NoOrder P n) (judged.NoOrder Q m) h g e = let s = same_counts h.tells.2 g.told.2 in (refl, s.0, s.1, s.2)

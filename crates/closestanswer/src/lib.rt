@@ -1,4 +1,6 @@
 // The answer of the call for the closest order: document 02, Paper 10.
+#![tactic(auto)]
+
 use profile::Refusal;
 
 // The verdict, P and looks, with an order its swaps and the floor; or the refusal.

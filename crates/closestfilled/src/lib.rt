@@ -1,4 +1,6 @@
 // The answer of the call for the closest order over a filled table: document 02, Paper 10.
+#![tactic(auto)]
+
 ghost use Rattle.std.specs.Prelude.{◌≡◌, map, ◌≤◌, length};
 ghost use Rattle.profile.specs.Automata.{profile_of};
 ghost use Rattle.terms.specs.Coded.{event_letter, rules_of};

@@ -1,4 +1,6 @@
 // The order closest to what was recorded, its swaps and the floor, from the records of all prefixes: document 02, Paper 10.
+#![tactic(auto)]
+
 ghost use Rattle.std.specs.Prelude.{◌≡◌, true, ◌*◌, ◌≤◌, length, take};
 ghost use Rattle.profile.specs.Automata.{profile_of};
 ghost use Rattle.profile.specs.Rules.{order_by};

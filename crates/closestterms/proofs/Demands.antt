@@ -67,7 +67,7 @@ module _ (p : Profile) (w days terms : List ℕ) (B : ℕ) (order order' table t
   -- verdict, P, looks and the work table are those that the judge with terms gives for the same profile, log, days, terms, order buffer and work table
   pub as_the_judge : (order₁ table₁ : List ℕ) (r : Closest) (j : Judged) → Promise p w days terms B order order' table table' costs costs' r
       → termed.Promise p w days terms order order₁ table table₁ j → refused_by r ≡ none
-      → (verdict_number r ≡ judge.verdict-number j) × (told_prefixes r ≡ told.told-prefixes j) × (told_looks r ≡ told.told-looks j) × (table' ≡ table₁)
+      → (verdict_number r ≡ judge.verdict_number j) × (told_prefixes r ≡ told.told_prefixes j) × (told_looks r ≡ told.told_looks j) × (table' ≡ table₁)
   as_the_judge order₁ table₁ r j h g e = as_the_judge_by (with_terms p terms) (events w days) B order order' table table' costs costs'
       (dated_closest_refusal p w days terms (length order) (length table) (length costs)) order₁ table₁
       (before_none (dated_refusals p w days terms (length order) (length table)) (prefixes_by (with_terms p terms) (events w days)) p.s (length costs) (sym h.refused ∙ e)) r j h g e

@@ -1,4 +1,6 @@
 // The walk to the closest order, letter by letter, over a table of costs: document 02, Paper 10.
+#![tactic(auto)]
+
 ghost use Rattle.std.specs.Prelude.{◌≡◌, ◌+◌, ◌*◌, ◌-◌, ◌^◌, ◌≤◌, ◌<◌, length, take};
 ghost use Rattle.profile.specs.Automata.{forward_step};
 ghost use Rattle.profile.specs.Limits.{most_letters, most_states};

@@ -1,0 +1,30 @@
+-- `closestorder::put_order` meets its contract.
+use borrow.Author.Rules.{rules}
+use native.Mathlib.Omega.{arith}
+use Rattle.closestorder.proofs.Closing.{as_long, log_below}
+use Rattle.closestorder.proofs.put_order.Goals as goal
+
+pub place_events-requires : goal.place_events-requires
+place_events-requires c =
+    let h = c.requires.held in
+    omega (arith, as_long h, h.events.short, h.profile.relation.most)
+
+pub put_placed-requires : goal.put_placed-requires
+put_placed-requires c =
+    let a = c.args in
+    let h = c.requires.held in
+    let e = c.place_events.ensures in
+    let w = a.log.now in record {
+      held = h;
+      placed = record {
+          few = omega (arith, as_long h, h.events.short);
+          letters = h.profile.relation.most;
+          below_k = log_below h;
+          starts_rest = _;
+          places_rest = _;
+          starts_are = e.0;
+          places_are = e.1;
+        };
+      codes_value = c.requires.codes_value;
+      log_in_bounds = c.requires.log_in_bounds;
+    }

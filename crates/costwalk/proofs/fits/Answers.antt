@@ -1,0 +1,16 @@
+-- `costwalk::fits` meets its contract.
+use borrow.Author.Rules.{rules}
+use mathlib.Core.Path.{ap, subst}
+use Prim.Native.Nat.{◌*◌}
+use lib.Dec.{leb}
+use Rattle.costcells.specs.Cells.{Least}
+use Rattle.costwalk.proofs.fits.Goals as goal
+
+pub returns : goal.returns
+returns c =
+    let f = c.step_forward-reached in
+    let a = c.args in record {
+      cost = c.least_in-least.result;
+      least = subst (λ S. Least a.costs.now (a.r * a.shape.s) S c.least_in-least.result) f.ensures c.least_in-least.ensures;
+      told = ap (λ n. leb n a.left) c.plus.ensures;
+    }
