@@ -207,13 +207,18 @@ module _ (k : ℕ) (masks : List ℕ) (symmetric : Symmetric (independent masks)
     first_bytes : take (length w) (ordered_buffer k masks w before) ≡ first_letters masks w
     first_bytes = written k masks ordered_relation w before ordered_log room
 
+    -- what is written is a word of [w]
+    trace_written : Congruent (independent masks) w (take (length w) (ordered_buffer k masks w before))
+    trace_written =
+        subst (Congruent (independent masks) w) (sym first_bytes) (cong_of_reach (independent masks) ((reach_orders (independent masks) w (first_letters masks w)).1 (earliest_at (orders (independent masks) w) is_first).0))
+
     -- what is written is the least word of [w]; the other bytes stay
     pub first_trace : Congruent (independent masks) w (take (length w) (ordered_buffer k masks w before))
         × ((u : List ℕ) → Congruent (independent masks) w u → NoLater (take (length w) (ordered_buffer k masks w before)) u)
         × (drop (length w) (ordered_buffer k masks w before) ≡ drop (length w) before)
     first_trace =
         let n = earliest_at (orders (independent masks) w) is_first in (
-          subst (Congruent (independent masks) w) (sym first_bytes) (cong_of_reach (independent masks) ((reach_orders (independent masks) w (first_letters masks w)).1 n.0)),
+          trace_written,
           (λ u c. subst (λ v. NoLater v u) (sym first_bytes) (n.1 u ((reach_orders (independent masks) w u).0 (reach_of_cong (independent masks) symmetric c)))),
           sym (ap (drop (length w)) (answers k masks w before unrefused).1) ∙ drop_at (first_letters masks w) (drop (length w) before) (length w)
               (omega (arith, takes_length (independent masks) (order_of_mem (independent masks) w n.0))),
@@ -223,7 +228,7 @@ module _ (k : ℕ) (masks : List ℕ) (symmetric : Symmetric (independent masks)
   pub first_orders_trace : (v w before after : List ℕ) → first_order_refusal k masks v (length before) ≡ none → first_order_refusal k masks w (length after) ≡ none
       → (take (length v) (ordered_buffer k masks v before) ≡ take (length w) (ordered_buffer k masks w after)) ↔ Congruent (independent masks) v w
   first_orders_trace v w before after e f = (
-    λ q. cong_trans (subst (Congruent (independent masks) v) q (first_trace v before e).0) (cong_sym (first_trace w after f).0),
+    λ q. cong_trans (subst (Congruent (independent masks) v) q (trace_written v before e)) (cong_sym (trace_written w after f)),
     λ c.
         let r = ordered_relation v before e in
         equal_written k masks r v w (ordered_log v before e) (ordered_log w after f) before after (room v before e) (room w after f)

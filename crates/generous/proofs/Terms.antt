@@ -1,29 +1,20 @@
 -- Paper 9 for two calls of the judge with terms, with the same days and terms. `Promise p w days terms …` is what holds of such a call (`termed/specs/Termed`).
 use mathlib.Core.Path.{◌≡◌, subst₂}
-use mathlib.Core.List.{List, [], ◌∷◌}
+use mathlib.Core.List.{List}
 use mathlib.Core.Option.{some}
 use Prim.Native.Nat.{ℕ, ◌≤◌}
-use lib.Dec.{T, eqb}
 use lib.ListN.{length, take}
-use Rattle.profile.specs.Traces.{independent}
 use Rattle.profile.specs.Automata.{Profile}
 use Rattle.profile.specs.Orders.{NoLater}
-use Rattle.profile.proofs.Lists.{both, fst_of, snd_of}
 use Rattle.verdict.specs.Verdict.{verdict_number}
 use Rattle.verdict.specs.declared.Judged.{Judged}
 use Rattle.verdict.proofs.Promises.{told_looks, told_prefixes}
-use Rattle.terms.specs.Terms.{day_of, events, letter_of, may_in, term_of}
+use Rattle.terms.specs.Terms.{events, letter_of, may_in}
 use Rattle.terms.proofs.Logs.{events_length}
 use Rattle.termed.specs.Termed.{Promise}
 use Rattle.generous.specs.Generous.{HasVerdict, HoldsEveryBit, with_masks}
+use Rattle.generous.proofs.Pairs.{in_terms}
 use Rattle.generous.proofs.Generous.{looks_no_fewer_by, order_no_later_by, prefixes_no_fewer_by, verdict_stays_by}
-
--- more pairs, and in each term more exchanges
-in_terms : (masks more terms : List ℕ) → HoldsEveryBit more masks → (e f : ℕ) → T (may_in masks terms e f) → T (may_in more terms e f)
-in_terms masks more terms holds e f t =
-    let one = eqb (term_of terms (day_of e)) (term_of terms (day_of f)) in
-    both one (independent more (letter_of e) (letter_of f)) (fst_of one (independent masks (letter_of e) (letter_of f)) t)
-    (holds (letter_of e) (letter_of f) (snd_of one (independent masks (letter_of e) (letter_of f)) t))
 
 module _ (p : Profile) (more : List ℕ) (holds : HoldsEveryBit more p.masks) (w days terms order₁ order₁' table₁ table₁' order₂ order₂' table₂ table₂' : List ℕ)
     (i j : Judged) (g : Promise p w days terms order₁ order₁' table₁ table₁' i) (h : Promise (with_masks p more) w days terms order₂ order₂' table₂ table₂' j)

@@ -49,6 +49,13 @@ not_full l t e =
 pub place_for : (P n m : ℕ) → P ≤ n → record_numbers * n ≤ m → record_numbers * n ≤ usable_numbers → full_table P m ≡ false
 place_for P n m h a b = le-ltb (capacity layout m) P (omega arith)
 
+-- what is told with P, where P of the events is at most n
+pub told_within : (r : Rules) (v : List ℕ) (n : ℕ) → prefixes_by r v ≤ n → (order order' table table' : List ℕ) (j : Judged)
+    → judged r v order order' table table' j → (P : ℕ) → told_prefixes j ≡ some P → P ≤ n
+told_within r v n b order order' table table' (Refused x) h P e = absurd (none-ne-some P e)
+told_within r v n b order order' table table' (NoOrder Q m) h P e = omega (arith, some-injective Q P e, h.2.prefixes, b)
+told_within r v n b order order' table table' (Order Q m) h P e = omega (arith, some-injective Q P e, h.3.prefixes, b)
+
 -- ---- any rules that exchange no more than the masks let
 
 module _ (r : Rules) (masks w groups : List ℕ) (n : ℕ) (told : told_ceiling (bounding r.profile.k masks w groups) ≡ some n)
@@ -58,21 +65,15 @@ module _ (r : Rules) (masks w groups : List ℕ) (n : ℕ) (told : told_ceiling 
 
   -- "P never exceeds it"
   pub within_by : (order order' table table' : List ℕ) (j : Judged) → judged r v order order' table table' j → (P : ℕ) → told_prefixes j ≡ some P → P ≤ n
-  within_by order order' table table' (Refused x) h P e = absurd (none-ne-some P e)
-  within_by order order' table table' (NoOrder Q m) h P e = omega (arith, some-injective Q P e, h.2.prefixes, prefixes_within)
-  within_by order order' table table' (Order Q m) h P e = omega (arith, some-injective Q P e, h.3.prefixes, prefixes_within)
+  within_by = told_within r v n (within_ceiling r.profile.k masks w groups n told r.may r.letter sub v events)
 
 -- ---- the judge
-
-map_id : (l : List ℕ) → map (λ a. a) l ≡ l
-map_id [] = refl
-map_id (a ∷ l) = ap (◌∷◌ a) (map_id l)
 
 module _ (p : Profile) (w groups : List ℕ) (n : ℕ) (told : told_ceiling (bounding p.k p.masks w groups) ≡ some n)
     (order order' table table' : List ℕ) (j : Judged) (h : Promise p w order order' table table' j) where
   -- "P never exceeds it": the P that the judge tells, whatever it was lent
   pub within_judged : (P : ℕ) → told_prefixes j ≡ some P → P ≤ n
-  within_judged = within_by (plain p) p.masks w groups n told (λ a b t. t) w (map_id w) order order' table table' j h.told
+  within_judged = told_within (plain p) w n (within p.k p.masks w groups n told) order order' table table' j h.told
 
   -- "How large a table to buy": with a table of n records, as long as the usable numbers hold them, 10 is not given
   pub table_suffices : record_numbers * n ≤ length table → record_numbers * n ≤ usable_numbers → j ≢ Refused FullTable
