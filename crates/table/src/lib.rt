@@ -1,4 +1,6 @@
 // The table of prefixes: document 01, "Prefixes and their table".
+#![tactic(auto)]
+
 ghost use Rattle.std.specs.Prelude.{false, length};
 ghost use Rattle.profile.specs.Automata.{profile_of};
 ghost use Rattle.terms.specs.Coded.{rules_of};
