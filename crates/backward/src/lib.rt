@@ -8,7 +8,7 @@ ghost use Rattle.terms.specs.Coded.{rules_of};
 ghost use Rattle.profile.specs.Tables.{layout, record_length};
 ghost use Rattle.profile.specs.Traces.{bit};
 ghost use Rattle.rows.specs.Rows.{by_letter};
-ghost use Rattle.backward.specs.Backward.{Drafted, Inside, back_from, clear_at, cleared, done_at, filled_all, flag_before, flags as flags-in, moved, with_flags, without_flags};
+ghost use Rattle.backward.specs.Backward.{Drafted, Inside, back_from, clear_at, cleared, done_at, filled_all, flag_before, flags as flags_in, moved, with_flags, without_flags};
 
 use profile::Shape;
 use profile::limits::{MOST_LETTERS, MOST_MOVES};
@@ -92,7 +92,7 @@ fn back_of(
 
 // The flags of the first eight letters of a set, as one number has them.
 fn flags(set: u32) -> u32
-    ensures { result ≡ flags-in set }
+    ensures { result ≡ flags_in set }
 {
     FREE * (set % 16) + FREE_ABOVE * (set / 16 % 16)
 }
