@@ -5,7 +5,7 @@ ghost use Rattle.std.specs.Prelude.{◌||◌, ◌≡◌};
 ghost use Rattle.profile.specs.Lists.{any};
 ghost use Rattle.profile.specs.Automata.{profile_of};
 ghost use Rattle.profile.specs.Refusals.{bit_from, checked, letters_out_of_range, lowest, mask_bit, profile_refusals, relation_refusals};
-ghost use Rattle.profile.specs.Refusals.{profile_out_of_range as profile-out-of-range-by};
+ghost use Rattle.profile.specs.Refusals.{profile_out_of_range as profile_out_of_range_by};
 
 use profile::limits::{MOST_LETTERS, MOST_STATES};
 use profile::{Check, Refusal, Shape};
@@ -25,7 +25,7 @@ fn relation_out_of_range(k: usize, masks: &[u16]) -> bool
 
 // 2: k, s or start out of range, or masks or moves not exactly k and s × k long.
 fn profile_out_of_range(shape: Shape, masks: &[u16], moves: &[u32]) -> bool
-    ensures { result ≡ profile-out-of-range-by (profile_of shape masks.now moves.now) }
+    ensures { result ≡ profile_out_of_range_by (profile_of shape masks.now moves.now) }
 {
     let k = shape.k;
     let s = shape.s;

@@ -27,7 +27,7 @@ use Rattle.records.proofs.Drafts.{drafts_length}
 use Rattle.search.proofs.Prefixes.{records_many, whole_inside, whole_sorted}
 use Rattle.earliest.specs.Earliest.{Table, found?, record_count, with_order}
 use Rattle.earliest.proofs.Records.{listed}
-use Rattle.swaps.specs.Closest.{after as after-th, covers, fewest_swaps, order_with, pair_swaps, pairs, smaller, sorted}
+use Rattle.swaps.specs.Closest.{after as after_th, covers, fewest_swaps, order_with, pair_swaps, pairs, smaller, sorted}
 use Rattle.swaps.specs.Swaps.{swaps}
 use Rattle.swaps.proofs.Bounds.{fewest_small}
 use Rattle.swaps.proofs.Letters.{swaps_letters}
@@ -164,7 +164,7 @@ module _ {p : Rules} {w log t : List ℕ} (h : Held p w log t) where
 
       module _ (B n few : ℕ) (is_all : n ≡ records_in t * p.profile.s) (is-few : fewest_swaps p.may p.letter (automaton p.profile) w ≡ some few) (before after : List ℕ) where
         -- B does not cover all pairs: the judge's order
-        pub close_judges : (f c : ℕ) → B < length (pair_costs (take n costs)) → f ≡ smaller few (after-th B (sorted (pair_costs (take n costs))))
+        pub close_judges : (f c : ℕ) → B < length (pair_costs (take n costs)) → f ≡ smaller few (after_th B (sorted (pair_costs (take n costs))))
             → c ≡ swaps (λ a. a) log (take (length log) after) → after ≡ with_order (order_by p w) before → Close p w B before after c f
         close_judges f c less is-floor is-swaps e = record {
           order = judges.0;
@@ -175,7 +175,7 @@ module _ {p : Rules} {w log t : List ℕ} (h : Held p w log t) where
           its_swaps = is-swaps ∙ ap (λ l. swaps (λ a. a) l (take (length log) after)) (sym h.letters) ∙ sym (swaps_letters p.letter w (take (length log) after))
               ∙ ap (swaps p.letter w) (front_log before after e);
           its_floor = floor_is p.may p.letter (automaton p.profile) (lawful p.profile) w p.profile.k p.profile.s B is-few
-              ∙ ap some (sym (is-floor ∙ ap (λ l. smaller few (after-th B (sorted l))) (all_pairs is_all)));
+              ∙ ap some (sym (is-floor ∙ ap (λ l. smaller few (after_th B (sorted l))) (all_pairs is_all)));
         }
 
         -- B covers all pairs: the earliest order of the fewest swaps

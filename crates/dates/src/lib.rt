@@ -3,7 +3,7 @@
 
 ghost use Rattle.std.specs.Prelude.{◌≡◌, ◌++◌, map, ◌<◌, length, drop, get_or};
 ghost use Rattle.profile.specs.Refusals.{checked, lowest};
-ghost use Rattle.terms.specs.Terms.{bad_term, events as events-of, in_term?, no_term, rise?, rises?, term_count, term_of as term-by, term_refusals};
+ghost use Rattle.terms.specs.Terms.{bad_term, events as events_of, in_term?, no_term, rise?, rises?, term_count, term_of as term_by, term_refusals};
 ghost use Rattle.terms.specs.Coded.{Coding, code_of};
 
 use profile::{Check, Refusal};
@@ -79,7 +79,7 @@ fn in_term(terms: &[u32], d: u32, i: usize) -> bool
 
 // The term that a day is in, counted from 0; the number of terms where it is in none.
 fn term_of(terms: &[u32], d: u32) -> usize
-    ensures { result ≡ term-by terms.now d }
+    ensures { result ≡ term_by terms.now d }
 {
     let n = terms.len() / 2;
     let mut i = 0;
@@ -129,7 +129,7 @@ pub fn check_terms(log: &[u8], days: &[u32], terms: &[u32]) -> Check
 // Puts the code of each event: its letter and its term in one byte.
 pub fn code_events(log: &[u8], days: &[u32], terms: &[u32], codes: &mut [u8])
     requires { Coding log.now days.now terms.now (length codes.old) }
-    ensures { codes.new ≡ map (code_of terms.now) (events-of log.now days.now) ++ drop (length log.now) codes.old }
+    ensures { codes.new ≡ map (code_of terms.now) (events_of log.now days.now) ++ drop (length log.now) codes.old }
 {
     let mut i = 0;
     while i < log.len() {

@@ -3,7 +3,7 @@
 
 ghost use Rattle.std.specs.Prelude.{◌≡◌, not};
 ghost use Rattle.profile.specs.Lists.{any};
-ghost use Rattle.terms.specs.Days.{day?, leap?, month_days as days-of-month};
+ghost use Rattle.terms.specs.Days.{day?, leap?, month_days as days_of_month};
 
 use terms::{FIRST_YEAR, LAST_YEAR};
 
@@ -22,7 +22,7 @@ fn leap(y: u32) -> bool
 
 // The days of month m of year y; 0 where there is no such month.
 fn month_days(y: u32, m: usize) -> u32
-    ensures { result ≡ days-of-month y m }
+    ensures { result ≡ days_of_month y m }
 {
     let february = if leap(y) { 29u32 } else { 28u32 };
     let days = [0u32, 31, february, 31, 30, 31, 30, 31, 31, 30, 31, 30, 31];

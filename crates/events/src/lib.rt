@@ -3,7 +3,7 @@
 
 ghost use Rattle.std.specs.Prelude.{◌≡◌, ◌≤◌, ◌<◌};
 ghost use Rattle.profile.specs.Limits.{most_letters};
-ghost use Rattle.profile.specs.Traces.{independent as independent-by};
+ghost use Rattle.profile.specs.Traces.{independent as independent_by};
 ghost use Rattle.events.specs.Events.{all_keepers, comes_next?, keepers, keeps?};
 
 use places::place_at;
@@ -11,7 +11,7 @@ use profile::limits::{MOST_LETTERS, Place};
 
 // Letter y keeps x from coming next while its next event is earlier: it is another letter, and x may not pass it.
 fn keeps(masks: &[u16], x: usize, y: usize) -> bool
-    ensures { result ≡ keeps? (independent-by masks.now) x y }
+    ensures { result ≡ keeps? (independent_by masks.now) x y }
 {
     if y == x {
         return false;
@@ -22,7 +22,7 @@ fn keeps(masks: &[u16], x: usize, y: usize) -> bool
 // The set of the letters below k that keep x.
 fn keepers_of(masks: &[u16], k: usize, x: usize) -> u32
     requires { k ≤ most_letters }
-    ensures { result ≡ keepers (independent-by masks.now) k x }
+    ensures { result ≡ keepers (independent_by masks.now) k x }
 {
     let mut set = 0u32;
     let mut y = 0;
@@ -38,7 +38,7 @@ fn keepers_of(masks: &[u16], k: usize, x: usize) -> u32
 // The set of the letters below k that keep each letter.
 pub fn all_keepers(masks: &[u16], k: usize) -> [u32; MOST_LETTERS]
     requires { k ≤ most_letters }
-    ensures { result ≡ all_keepers (independent-by masks.now) k }
+    ensures { result ≡ all_keepers (independent_by masks.now) k }
 {
     let mut sets = [0u32; MOST_LETTERS];
     let mut x = 0;
@@ -61,8 +61,8 @@ pub fn comes_next(
     x: usize,
 ) -> bool
     requires k_le_most_letters { (k ≤ most_letters) × (x < k) }
-    requires keepers_value { keepers.now ≡ all_keepers (independent-by masks.now) k }
-    ensures { result ≡ comes_next? (independent-by masks.now) k n next.now x }
+    requires keepers_value { keepers.now ≡ all_keepers (independent_by masks.now) k }
+    ensures { result ≡ comes_next? (independent_by masks.now) k n next.now x }
 {
     let own = place_at(next, x);
     if n <= own as usize {

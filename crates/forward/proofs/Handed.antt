@@ -24,7 +24,7 @@ use Rattle.theory.proofs.Profiles.{distinct}
 use Rattle.theory.proofs.SetLoops.{passing_below, passing_bit}
 use Rattle.terms.specs.Coded.{event_letter, may_of}
 use Rattle.parents.proofs.Complements.{bits_below, complement_bit}
-use Rattle.parents.proofs.Parents.{hits_less, hits_removable, inherited as handed-on, passed_before}
+use Rattle.parents.proofs.Parents.{hits_less, hits_removable, inherited as handed_on, passed_before}
 use Rattle.cursors.proofs.Levels.{level_whole}
 use Rattle.events.specs.Events.{comes_next?}
 use Rattle.letters.specs.Letters.{letter_by, neither, next_by, tested_by}
@@ -128,7 +128,7 @@ module _ {p : Rules} {w : List ℕ} {m room : ℕ} {starts places turns : List �
   given_at q b =
       let u = union_at (λ x. other_letters t (at cursors x) x) (filter (bit G) (below k)) q b in
       let o = others_at u.0 u.1 q u.2 in
-      (o.0, handed-on p.may p.letter (apart r) prefix u.0 q (removable u.0 u.1) o.1 o.2)
+      (o.0, handed_on p.may p.letter (apart r) prefix u.0 q (removable u.0 u.1) o.1 o.2)
 
   -- letters that the masks let pass may pass
   module _ (free : (a b : ℕ) → T (independent masks (p.letter a) (p.letter b)) → T (p.may a b)) where

@@ -3,14 +3,14 @@
 
 ghost use Rattle.std.specs.Prelude.{◌≡◌};
 ghost use Rattle.profile.specs.Refusals.{checked, log_refusals, lowest};
-ghost use Rattle.profile.specs.Refusals.{bad_place as bad-place-of};
+ghost use Rattle.profile.specs.Refusals.{bad_place as bad_place_of};
 
 use profile::limits::LONGEST;
 use profile::{Check, Refusal};
 
 // 8: the first place of a log byte of k or more; the log's length where there is none.
 fn bad_place(k: usize, log: &[u8]) -> usize
-    ensures { result ≡ bad-place-of k log.now }
+    ensures { result ≡ bad_place_of k log.now }
 {
     let mut i = 0;
     while i < log.len() {

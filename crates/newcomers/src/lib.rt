@@ -5,7 +5,7 @@ ghost use Rattle.std.specs.Prelude.{◌≡◌, cond, true, [], ◌+◌, ◌*◌,
 ghost use Rattle.profile.specs.Limits.{most_letters, most_states};
 ghost use Rattle.profile.specs.Automata.{profile_of};
 ghost use Rattle.profile.specs.Tables.{layout, record_length};
-ghost use Rattle.profile.specs.Traces.{independent as independent-by};
+ghost use Rattle.profile.specs.Traces.{independent as independent_by};
 ghost use Rattle.counts.specs.Counts.{words};
 ghost use Rattle.records.specs.Records.{counts_at};
 ghost use Rattle.newcomers.specs.Newcomers.{Brought, Inside, Moved, PlaceFor, PlaceTold, Put, PutIf, Scanned, allows?, count_in, gives?, joining, joins_at?, led_at, led_from};
@@ -23,7 +23,7 @@ fn allows(
     b: usize,
 ) -> bool
     requires { b < most_letters }
-    ensures { result ≡ allows? (independent-by masks.now) last.now a own.now b }
+    ensures { result ≡ allows? (independent_by masks.now) last.now a own.now b }
 {
     if counts::count_of(own, b) == counts::count_of(last, b) {
         return true;
@@ -41,7 +41,7 @@ fn joins(
     last: &[u32; COUNT_NUMBERS],
 ) -> bool
     requires { (k ≤ most_letters) × (record_length layout * j + record_length layout ≤ length t.now) }
-    ensures { result ≡ joins_at? (independent-by masks.now) k last.now a (counts_at t.now j) }
+    ensures { result ≡ joins_at? (independent_by masks.now) k last.now a (counts_at t.now j) }
 {
     let own = counts::numbers(records::counts_at(t, j));
     let mut b = 0;
@@ -65,7 +65,7 @@ fn one_if(b: bool) -> usize
 // How many of the n records an event of letter a can be added to.
 pub fn number_joining(t: &[u32], n: usize, masks: &[u16], k: usize, a: usize) -> usize
     requires { (k ≤ most_letters) × (1 ≤ n) × (record_length layout * n ≤ length t.now) }
-    ensures value { result ≡ length (joining (independent-by masks.now) k t.now n a) }
+    ensures value { result ≡ length (joining (independent_by masks.now) k t.now n a) }
     ensures upper_bound { result ≤ n }
 {
     let last = counts::numbers(records::counts_at(t, n - 1));
@@ -258,8 +258,8 @@ fn put_if_joins(
     places: &mut [usize],
 ) -> usize
     requires k_le_most_letters { (shape.k ≤ most_letters) × (shape.s ≤ most_states) × (most_letters ≤ length places.old) × (at.r < at.i) × (record_length layout * at.i ≤ length t.old) }
-    requires layout_in_bounds { joins_at? (independent-by masks.now) shape.k last.now a (counts_at t.old at.r) ≡ true → record_length layout * at.i + record_length layout ≤ length t.old }
-    ensures { PutIf (profile_of shape masks.now moves.now) (joins_at? (independent-by masks.now) shape.k last.now a (counts_at t.old at.r)) at.first at.i at.r a t.old t.new places.old places.new result }
+    requires layout_in_bounds { joins_at? (independent_by masks.now) shape.k last.now a (counts_at t.old at.r) ≡ true → record_length layout * at.i + record_length layout ≤ length t.old }
+    ensures { PutIf (profile_of shape masks.now moves.now) (joins_at? (independent_by masks.now) shape.k last.now a (counts_at t.old at.r)) at.first at.i at.r a t.old t.new places.old places.new result }
 {
     let k = shape.k;
     let first = at.first;
@@ -274,7 +274,7 @@ fn put_if_joins(
 
 // Puts the records that an event of letter a brings behind the n records.
 pub fn put_newcomers(t: &mut [u32], n: usize, shape: Shape, masks: &[u16], moves: &[u32], a: usize)
-    requires { (shape.k ≤ most_letters) × (shape.s ≤ most_states) × (1 ≤ n) × (record_length layout * (n + length (joining (independent-by masks.now) shape.k t.old n a)) ≤ length t.old) }
+    requires { (shape.k ≤ most_letters) × (shape.s ≤ most_states) × (1 ≤ n) × (record_length layout * (n + length (joining (independent_by masks.now) shape.k t.old n a)) ≤ length t.old) }
     ensures { Brought (profile_of shape masks.now moves.now) n a t.old t.new }
 {
     let last = counts::numbers(records::counts_at(t, n - 1));

@@ -2,7 +2,7 @@
 #![tactic(auto)]
 
 ghost use Rattle.std.specs.Prelude.{◌≡◌, [], ◌∷◌, ◌++◌, ◌+◌, ◌*◌, ◌≤◌, length, set};
-ghost use Rattle.profile.specs.Tables.{capacity as capacity-of, layout, record_length};
+ghost use Rattle.profile.specs.Tables.{capacity as capacity_of, layout, record_length};
 ghost use Rattle.counts.specs.Counts.{words};
 ghost use Rattle.records.specs.Records.{counts_at, forward_at, last_at, put_record, records_in};
 
@@ -21,7 +21,7 @@ pub fn records_in(t: &[u32]) -> usize
 
 // How many records the table has place for; "a rest below" ten, "and all numbers past the first 4,294,967,292, are unused".
 pub fn capacity(table: &[u32]) -> usize
-    ensures { result ≡ capacity-of layout (length table.now) }
+    ensures { result ≡ capacity_of layout (length table.now) }
 {
     let n = table.len();
     if USABLE_NUMBERS < n {
