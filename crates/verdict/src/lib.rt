@@ -1,4 +1,6 @@
 // The judge: document 01, "The judge".
+#![tactic(auto)]
+
 ghost use Rattle.std.specs.Prelude.{◌≡◌, [], ◌∷◌, ◌++◌, true, ◌≤◌, length};
 ghost use Rattle.std.proofs.Math.Option.{some};
 ghost use Rattle.profile.specs.Automata.{profile_of};
