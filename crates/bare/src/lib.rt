@@ -1,4 +1,6 @@
 // The work table of a judge for grammars: document 02, Paper 13, "forward and backward are 0 here".
+#![tactic(auto)]
+
 ghost use Rattle.std.specs.Prelude.{◌≡◌};
 ghost use Rattle.std.proofs.Math.Option.{none};
 ghost use Rattle.profile.specs.Refusals.{log_refusals, lowest, relation_refusals};
