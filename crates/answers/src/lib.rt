@@ -1,4 +1,6 @@
 // A judge's answer as numbers, as C has it.
+#![tactic(auto)]
+
 ghost use Rattle.std.specs.Prelude.{◌≡◌};
 ghost use Rattle.verdict.specs.Verdict.{judged_code, judged_told};
 
