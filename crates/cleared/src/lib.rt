@@ -1,4 +1,6 @@
 // The judge on the usable part of the table; after 10 nothing is left in it.
+#![tactic(auto)]
+
 ghost use Rattle.std.specs.Prelude.{◌≡◌, ◌≤◌, length, replicate};
 ghost use Rattle.profile.specs.Automata.{automaton, profile_of};
 ghost use Rattle.cleared.specs.Cleared.{Clean, answer, order_left, table_left, usable as usable_of};
