@@ -23,15 +23,15 @@ use Rattle.closestfilled.proofs.Answering as filled
 module _ (p : Profile) (w : List ℕ) (B : ℕ) (order table costs : List ℕ) where
   pub told_short : {r : Refusal} → length order < length w
       → some r ≡ lowest (profile_refusals p ++ (log_refusals p.k w ++ ((true, ShortBuffer) ∷ []))) → Promise p w B order order table table costs costs (Refused r)
-  told_short h e = filled.refused-before (plain p) w B order table costs (judge_refusals p w (length order) (length table)) (order_short p w (length order) (length table) h e) table (λ ne. refl) (spared_same table)
+  told_short h e = filled.refused_before (plain p) w B order table costs (judge_refusals p w (length order) (length table)) (order_short p w (length order) (length table) h e) table (λ ne. refl) (spared_same table)
 
   module _ (fits : length w ≤ length order) (table' : List ℕ) where
     pub told_refused : (r : Refusal) → Built.Promise p w table table' (built.Refused r) → Promise p w B order order table table' costs costs (Refused r)
     told_refused r h =
-        filled.refused-before (plain p) w B order table costs (judge_refusals p w (length order) (length table))
+        filled.refused_before (plain p) w B order table costs (judge_refusals p w (length order) (length table))
         (h.refused ∙ sym (order_fits p w (length order) (length table) fits)) table' h.table.0 h.table.1
 
     pub told_answer : (P n : ℕ) → Built.Promise p w table table' (built.Filled P n) → (order' costs' : List ℕ) (r : Closest)
         → answered (plain p) w B P n order order' costs costs' r → Promise p w B order order' table table' costs costs' r
-    told_answer P n h = filled.told-answer (plain p) w B order table costs (judge_refusals p w (length order) (length table)) table' P n
+    told_answer P n h = filled.told_answer (plain p) w B order table costs (judge_refusals p w (length order) (length table)) table' P n
         (h.refused ∙ sym (order_fits p w (length order) (length table) fits)) h.table

@@ -1,4 +1,6 @@
 // The order closest to what was recorded: document 02, Paper 10.
+#![tactic(auto)]
+
 ghost use Rattle.profile.specs.Automata.{profile_of};
 ghost use Rattle.closestanswer.specs.Answers.{Promise};
 
