@@ -1,1 +1,2 @@
 // What a ceiling says of the judge's answers; no code.
+#![tactic(auto)]
