@@ -87,26 +87,26 @@ module _ (p : Profile) (symmetric : Symmetric (independent p.masks)) (w order or
   -- verdict 1 exactly when [w] is in the trace language [L] of the profile, 0 exactly when it is not
   pub verdict_trace : (verdict_number j ≡ some 1) ↔ InLanguage (independent p.masks) (λ a. a) (automaton p) w
   verdict_trace = (
-    λ e. let x = (judge.order-exactly p w order order' table table' unrefused j call e).0 in
+    λ e. let x = (judge.order_exactly p w order order' table table' unrefused j call e).0 in
         record { word = take (length w) order'; same = cong_of_reach (independent p.masks) x.reached; accepted = x.accepted },
     λ l. ⊎_elim
-        (λ z. absurd ((judge.no-order-exactly p w order order' table table' unrefused j call).0 z l.word
+        (λ z. absurd ((judge.no_order_exactly p w order order' table table' unrefused j call).0 z l.word
         (record { reached = reach_of_cong (independent p.masks) symmetric l.same; accepted = l.accepted })))
         (λ e. e)
-        (judge.verdict-cases p w order order' table table' unrefused j call),
+        (judge.verdict_cases p w order order' table table' unrefused j call),
   )
 
   pub no_order_trace : (verdict_number j ≡ some 0) ↔ (InLanguage (independent p.masks) (λ a. a) (automaton p) w → ⊥)
   no_order_trace = (
     λ z l. zero_one (sym z ∙ verdict_trace.1 l),
-    λ f. ⊎_elim (λ z. z) (λ e. absurd (f (verdict_trace.0 e))) (judge.verdict-cases p w order order' table table' unrefused j call),
+    λ f. ⊎_elim (λ z. z) (λ e. absurd (f (verdict_trace.0 e))) (judge.verdict_cases p w order order' table table' unrefused j call),
   )
 
   -- the order is the least accepted word of [w]
   pub order_trace : verdict_number j ≡ some 1
       → Congruent (independent p.masks) w (take (length w) order') × Accepted (automaton p) (λ a. a) (take (length w) order')
       × ((u : List ℕ) → Congruent (independent p.masks) w u → Accepted (automaton p) (λ a. a) u → u ≢ take (length w) order' → Earlier (take (length w) order') u)
-  order_trace e = let x = judge.order-exactly p w order order' table table' unrefused j call e in (
+  order_trace e = let x = judge.order_exactly p w order order' table table' unrefused j call e in (
     cong_of_reach (independent p.masks) x.0.reached,
     x.0.accepted,
     λ u c a ne. x.1 u (record { reached = reach_of_cong (independent p.masks) symmetric c; accepted = a }) ne,
@@ -131,8 +131,8 @@ module _ (p : Profile) (symmetric : Symmetric (independent p.masks)) (w before a
   tenth : List (Bool × Refusal)
   tenth = (full_table (prefixes_by (plain p) w) (length before), FullTable) ∷ []
 
-  conditions : (c : Bool × Refusal) → Mem c (table.build-refusals p w (length before)) → c.0 ≡ false
-  conditions = (lowest_none (table.build-refusals p w (length before))).0 (sym call.refused)
+  conditions : (c : Bool × Refusal) → Mem c (table.build_refusals p w (length before)) → c.0 ≡ false
+  conditions = (lowest_none (table.build_refusals p w (length before))).0 (sym call.refused)
 
   good_profile : GoodProfile p
   unfolding tenth

@@ -36,7 +36,7 @@ pub admitted_exactly : (p : Profile) (w : List ℕ) (n m : ℕ) → Admitted (ju
 admitted_exactly p w n m = (λ a. (none_exactly (admission_refusals p w n)).1 (a, refl), λ e. ((none_exactly (admission_refusals p w n)).0 e).0)
 
 pub admitted_known : (p : Profile) (w : List ℕ) (n m : ℕ) → Admitted (judge_refusals p w n m) → known.Admitted p w n
-admitted_known p w n m a = known.admitted-at p w n ((admitted_exactly p w n m).0 a)
+admitted_known p w n m a = known.admitted_at p w n ((admitted_exactly p w n m).0 a)
 
 -- nothing refuses the call exactly when the log is admitted and its prefixes fit
 pub judgeable : (p : Profile) (w : List ℕ) (n m : ℕ) → (judge_refusal p w n m ≡ none) ↔ Judgeable p w n m
@@ -49,19 +49,19 @@ module _ (p : Profile) (w order order' table table' : List ℕ) (j : Judged) (ca
   pub ten_admitted : Admitted (judge_refusals p w (length order) (length table)) → (j ≡ Refused FullTable) ↔ (capacity layout (length table) < prefixes_by (plain p) w)
   ten_admitted a =
       let h = ten_exactly (judge_refusals p w (length order) (length table)) (prefixes_by (plain p) w) (length table) (or_none (full_table (prefixes_by (plain p) w) (length table))) a in
-      let r = judge.refused-exactly p w order order' table table' j call FullTable in
+      let r = judge.refused_exactly p w order order' table table' j call FullTable in
       (λ e. h.0 (r.0 e), λ lt. r.1 (h.1 lt))
 
 -- the same of `table::build`
 module _ (p : Profile) (w before after : List ℕ) (b : Built) (call : table.Promise p w before after b) where
-  pub built_admitted : (table.refused-by b ≡ none) ↔ Buildable p w (length before)
+  pub built_admitted : (table.refused_by b ≡ none) ↔ Buildable p w (length before)
   built_admitted =
-      let h = unrefused_exactly (table.build-refusals p w (length before)) (prefixes_by (plain p) w) (length before) (or_none (full_table (prefixes_by (plain p) w) (length before))) in
+      let h = unrefused_exactly (table.build_refusals p w (length before)) (prefixes_by (plain p) w) (length before) (or_none (full_table (prefixes_by (plain p) w) (length before))) in
       (λ e. h.0 (sym call.refused ∙ e), λ a. call.refused ∙ h.1 a)
 
-  pub build_ten_admitted : Admitted (table.build-refusals p w (length before)) → (table.refused-by b ≡ some FullTable) ↔ (capacity layout (length before) < prefixes_by (plain p) w)
+  pub build_ten_admitted : Admitted (table.build_refusals p w (length before)) → (table.refused_by b ≡ some FullTable) ↔ (capacity layout (length before) < prefixes_by (plain p) w)
   build_ten_admitted a =
-      let h = ten_exactly (table.build-refusals p w (length before)) (prefixes_by (plain p) w) (length before) (or_none (full_table (prefixes_by (plain p) w) (length before))) a in
+      let h = ten_exactly (table.build_refusals p w (length before)) (prefixes_by (plain p) w) (length before) (or_none (full_table (prefixes_by (plain p) w) (length before))) a in
       (λ e. h.0 (sym call.refused ∙ e), λ lt. call.refused ∙ h.1 lt)
 
 -- ---- demand 3
@@ -73,17 +73,17 @@ module _ (p : Profile) (w order order' table table' : List ℕ) (ready : Judgeab
 
   -- there is a verdict, 0 or 1
   pub verdict_given : (verdict_number j ≡ some 0) ⊎ (verdict_number j ≡ some 1)
-  verdict_given = judge.verdict-cases p w order order' table table' unrefused j call
+  verdict_given = judge.verdict_cases p w order order' table table' unrefused j call
 
   -- "The log gets 'no order' exactly when no log reachable from it by exchanges is accepted."
   pub no_order_exactly : (verdict_number j ≡ some 0) ↔ ((v : List ℕ) → Witness p w v → ⊥)
-  no_order_exactly = judge.no-order-exactly p w order order' table table' unrefused j call
+  no_order_exactly = judge.no_order_exactly p w order order' table table' unrefused j call
 
   -- "Otherwise the order returned is reachable from it, accepted, and earlier in letter order than every other log that is both"; the other bytes stay
   pub order_exactly : verdict_number j ≡ some 1
       → Witness p w (take (length w) order') × ((u : List ℕ) → Witness p w u → u ≢ take (length w) order' → Earlier (take (length w) order') u)
       × (drop (length w) order' ≡ drop (length w) order)
-  order_exactly = judge.order-exactly p w order order' table table' unrefused j call
+  order_exactly = judge.order_exactly p w order order' table table' unrefused j call
 
 -- two calls, whatever buffers each was lent
 module _ (p : Profile) (v w : List ℕ) (order₁ order₁' table₁ table₁' order₂ order₂' table₂ table₂' : List ℕ)
@@ -100,20 +100,20 @@ module _ (p : Profile) (v w : List ℕ) (order₁ order₁' table₁ table₁' o
   module _ (same : Same (independent p.masks) v w) where
     pub judged_same : (verdict_number i ≡ verdict_number j) × (told_prefixes i ≡ told_prefixes j) × (told_looks i ≡ told_looks j)
         × (verdict_number i ≡ some 1 → take (length v) order₁' ≡ take (length w) order₂')
-    judged_same = judge.judged-same p v w order₁ order₁' table₁ table₁' order₂ order₂' table₂ table₂' e₁ e₂ same i j g h
+    judged_same = judge.judged_same p v w order₁ order₁' table₁ table₁' order₂ order₂' table₂ table₂' e₁ e₂ same i j g h
 
     -- Paper 5: "Logs reachable from each other in both directions must, where both get a verdict, leave equal count fields, record by record"
     pub fields_same : (r n : ℕ) → r < prefixes_by (plain p) v → n < layout.numbers
         → get_or table₁' (record_length layout * r + n) 0 ≡ get_or table₂' (record_length layout * r + n) 0
-    fields_same = judge.fields-same p v w order₁ order₁' table₁ table₁' order₂ order₂' table₂ table₂' e₁ e₂ same i j g h
+    fields_same = judge.fields_same p v w order₁ order₁' table₁ table₁' order₂ order₂' table₂ table₂' e₁ e₂ same i j g h
 
   -- Paper 4: "If log v is reachable from log w and v has an accepted order, then w has one that is no later in letter order". P of v is at most P of w
   module _ (reach : Reachable (independent p.masks) w v) where
     pub judged_reach : verdict_number i ≡ some 1 → (verdict_number j ≡ some 1) × NoLater (take (length w) order₂') (take (length v) order₁')
-    judged_reach = judge.judged-reach p v w order₁ order₁' table₁ table₁' order₂ order₂' table₂ table₂' e₁ e₂ reach i j g h
+    judged_reach = judge.judged_reach p v w order₁ order₁' table₁ table₁' order₂ order₂' table₂ table₂' e₁ e₂ reach i j g h
 
     pub counted_reach : (P Q : ℕ) → told_prefixes i ≡ some P → told_prefixes j ≡ some Q → P ≤ Q
-    counted_reach = judge.counted-reach p v w order₁ order₁' table₁ table₁' order₂ order₂' table₂ table₂' e₁ e₂ reach i j g h
+    counted_reach = judge.counted_reach p v w order₁ order₁' table₁ table₁' order₂ order₂' table₂ table₂' e₁ e₂ reach i j g h
 
 -- "This holds for one log judged twice, so a larger table changes none of these three."
 module _ (p : Profile) (w : List ℕ) (order₁ order₁' table₁ table₁' order₂ order₂' table₂ table₂' : List ℕ)
