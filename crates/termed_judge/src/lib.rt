@@ -1,4 +1,6 @@
 // The judge of a log with terms: document 02, Paper 8.
+#![tactic(auto)]
+
 ghost use Rattle.std.specs.Prelude.{true, ◌≤◌, length};
 ghost use Rattle.profile.specs.Automata.{profile_of};
 ghost use Rattle.terms.specs.Coded.{rules_of};

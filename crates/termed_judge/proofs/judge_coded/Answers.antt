@@ -1,0 +1,51 @@
+-- `termed_judge::judge_coded` meets its contract: what is told of the order and the table follows from what filling the table gives.
+use borrow.Author.Rules.{rules}
+use mathlib.Core.Path.{sym, ◌∙◌, subst}
+use mathlib.Core.Bool.{true}
+use Rattle.profile.specs.Automata.{profile_of}
+use Rattle.terms.specs.Coded.{rules_of}
+use Rattle.table.specs.Table.{Fills}
+use Rattle.termed_judge.proofs.Answers.{ready, told_none, told_refused, told_some}
+use Rattle.termed_judge.proofs.judge_coded.Goals as goal
+
+pub put_verdict-requires : goal.put_verdict-requires
+put_verdict-requires c =
+    let s = c in
+    let a = s.args in
+    let b = c.fill_coded-built in
+    let p = rules_of (profile_of a.shape a.masks.now a.moves.now) true in
+    let h = subst (Fills p a.codes.now a.work.now b.new.table) c.in-Filled.is b.ensures in
+    record {
+      table = ready p a.codes.now a.order.now a.work.now b.new.table c.in-Filled.prefixes c.in-Filled.looks h s.requires.coded_call.profile s.requires.coded_call.events b.auto.table;
+      records_value = h.table.0;
+      log_in_bounds = s.requires.codes_in_bounds;
+    }
+
+pub returns-in-Refused : goal.returns-in-Refused
+returns-in-Refused c =
+    let s = c in
+    let a = s.args in
+    let b = c.fill_coded-built in
+    let p = rules_of (profile_of a.shape a.masks.now a.moves.now) true in
+    let h = subst (Fills p a.codes.now a.work.now b.new.table) c.in-Refused.is b.ensures in
+    told_refused p a.codes.now a.order.now a.work.now b.new.table c.in-Refused.r h
+
+pub returns-then-put_verdict : goal.returns-then-put_verdict
+returns-then-put_verdict c =
+    let s = c in
+    let a = s.args in
+    let b = c.fill_coded-built in
+    let p = rules_of (profile_of a.shape a.masks.now a.moves.now) true in
+    let h = subst (Fills p a.codes.now a.work.now b.new.table) c.in-Filled.is b.ensures in
+    let v = c.put_verdict in
+    told_some p a.codes.now a.order.now a.work.now b.new.table c.in-Filled.prefixes c.in-Filled.looks h v.new.order (sym v.ensures.value ∙ c.if-put_verdict.true) v.ensures.order_after
+
+pub returns-else-put_verdict : goal.returns-else-put_verdict
+returns-else-put_verdict c =
+    let s = c in
+    let a = s.args in
+    let b = c.fill_coded-built in
+    let p = rules_of (profile_of a.shape a.masks.now a.moves.now) true in
+    let h = subst (Fills p a.codes.now a.work.now b.new.table) c.in-Filled.is b.ensures in
+    let v = c.put_verdict in
+    told_none p a.codes.now a.order.now a.work.now b.new.table c.in-Filled.prefixes c.in-Filled.looks h v.new.order (sym v.ensures.value ∙ c.if-put_verdict.false) v.ensures.order_after
