@@ -12,7 +12,6 @@ use lib.Seq.{drop_at, take_at}
 use Rattle.profile.specs.Traces.{Reachable, independent}
 use Rattle.profile.specs.Automata.{automaton}
 use Rattle.profile.specs.Orders.{Same}
-use Rattle.profile.specs.Refusals.{log_refusals, lowest, relation_refusals}
 use Rattle.profile.specs.declared.Refusal.{Refusal}
 use Rattle.profile.specs.declared.Refusal.TheVariants.{FullTable, ShortSets}
 use Rattle.profile.proofs.Cases.{free}
@@ -20,7 +19,7 @@ use Rattle.profile.proofs.Traces.{order_of_reach, takes_length}
 use Rattle.theory.proofs.Comparison.{prefix_count_same}
 use Rattle.theory.proofs.Looks.{looks_same}
 use Rattle.theory.proofs.Profiles.{distinct}
-use Rattle.theory.proofs.Refusals.{GoodLog, Relation, log_at, relation_at}
+use Rattle.theory.proofs.Refusals.{log_at, relation_at}
 use Rattle.grammars.specs.Grammars.{Derivable, grammar_of}
 use Rattle.grammars.proofs.Verdicts.{derivable_grows, derivable_reach, empty_none, prefixes_grow}
 use Rattle.table.specs.Table.{Spared}
@@ -28,7 +27,7 @@ use Rattle.verdict.specs.declared.Judged.{Judged}
 use Rattle.verdict.specs.declared.Judged.TheVariants.{NoOrder, Order, Refused}
 use Rattle.verdict.specs.Verdict.{refused_by, verdict_number}
 use Rattle.verdict.proofs.Promises.{told_looks, told_prefixes}
-use Rattle.bare.specs.Bare.{Counted, prefixes_of}
+use Rattle.bare.specs.Bare.{Counted}
 use Rattle.grammar_judge.specs.GrammarJudge.{Promise, grammar_refusal}
 use Rattle.grammar_judge.proofs.Answers.{passed}
 

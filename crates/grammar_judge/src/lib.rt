@@ -1,4 +1,6 @@
 // The judge for grammars: document 02, Paper 13, "Nested loans".
+#![tactic(auto)]
+
 ghost use Rattle.std.specs.Prelude.{◌*◌, ◌≤◌, length};
 ghost use Rattle.pairs.specs.Pairs.{Setting};
 ghost use Rattle.grammar_judge.specs.GrammarJudge.{Promise, VerdictIs};

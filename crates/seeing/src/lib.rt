@@ -1,4 +1,6 @@
 // The answer for a visible part: the judge with a profile whose moves have the hidden letters in them, then hidden letters behind each forward set.
+#![tactic(auto)]
+
 ghost use Rattle.std.specs.Prelude.{◌≡◌, ◌≤◌, length};
 ghost use Rattle.profile.specs.Automata.{automaton, profile_of};
 ghost use Rattle.views.specs.Views.{view as view_of};

@@ -1,4 +1,6 @@
 // A teacher's view: Paper 12. The letters that the mask has are copied from the log; all that is told follows from these.
+#![tactic(auto)]
+
 ghost use Rattle.profile.specs.Automata.{profile_of};
 ghost use Rattle.view.specs.Viewing.{Viewed};
 

@@ -1,4 +1,6 @@
 // A teacher's view as C has it: Paper 12. `capi` exports it.
+#![tactic(auto)]
+
 ghost use Rattle.profile.specs.Automata.{profile_of};
 ghost use Rattle.view_calls.specs.ViewCalls.{Viewing};
 
