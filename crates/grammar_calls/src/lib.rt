@@ -1,4 +1,6 @@
 // The judge for grammars as C has it: Paper 13. It returns the refusal's number, or 0, and tells the place, the verdict, P and looks. `capi` exports it.
+#![tactic(auto)]
+
 ghost use Rattle.grammar_calls.specs.GrammarCalls.{Judging};
 
 pub fn judge(
