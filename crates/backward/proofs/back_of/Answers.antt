@@ -107,25 +107,28 @@ loop-rest-preserved c =
     let few : n < 2 ^ 32 = i.0 in
     let first = rest_first n some few in
     let whole = ap back (lowest 32 n some few) in
-    let less : r < 2 ^ 32 = omega (arith, and_le_r n (n - 1)) in (elim c.if-x-k.branch [ then-x-k w ↦ let q = w.flagged_before-r.ensures ∙ ap (flag_before t x) (i.4.0 x first) in
-    let e = is_true (bit (letters_at t a.j) x) (i.2 x first) in
-    let same = backward_same a.k a.s a.moves.now a.rows.now c.requires.rows_value (omega arith) (omega arith) x w.if-x-k.true in
-    let to = w.backward_by-out.ensures ∙ ap (λ S. backward_by a.s a.rows.now S x) (w.last_at.ensures ∙ ap (last_at t) q) ∙ same (last_at t (flag_before t x (from x))) in (
-      less,
-      ap length w.cursors-is ∙ simp length-set i.1,
-      λ y m. i.2 y (rest_in n some few y m),
-      ap (λ o. bit_or o (back r)) (w.out-is ∙ ap (bit_or l.out) to) ∙ or_assoc l.out (f x) (back r)
-          ∙ ap (bit_or l.out) (sym (union_in f x r a.k w.if-x-k.true) ∙ whole) ∙ i.3,
-      subst (Moved t a.j a.k a.cursors.now r) (sym w.cursors-is)
-          (move_yes t a.j a.k a.cursors.now n some few l.cursors i.4 w.flagged_before-r.result (omega arith)
-          (q ∙ sym (ap (λ b. cond b (flag_before t x (from x)) (from x)) e))),
-    ) | else-x-k w ↦ (
-      less,
-      ap length w.cursors-is ∙ i.1,
-      λ y m. i.2 y (rest_in n some few y m),
-      ap (λ o. bit_or o (back r)) w.out-is ∙ ap (bit_or l.out) (sym (union_out f x r a.k w.if-x-k.false) ∙ whole) ∙ i.3,
-      subst (Moved t a.j a.k a.cursors.now r) (sym w.cursors-is) (move_no t a.j a.k a.cursors.now n some few l.cursors i.4 w.if-x-k.false),
-    ) ])
+    let less : r < 2 ^ 32 = omega (arith, and_le_r n (n - 1)) in (elim c.if-x-k.branch [
+      | then-x-k w ↦ let q = w.flagged_before-r.ensures ∙ ap (flag_before t x) (i.4.0 x first) in
+          let e = is_true (bit (letters_at t a.j) x) (i.2 x first) in
+          let same = backward_same a.k a.s a.moves.now a.rows.now c.requires.rows_value (omega arith) (omega arith) x w.if-x-k.true in
+          let to = w.backward_by-out.ensures ∙ ap (λ S. backward_by a.s a.rows.now S x) (w.last_at.ensures ∙ ap (last_at t) q) ∙ same (last_at t (flag_before t x (from x))) in (
+            less,
+            ap length w.cursors-is ∙ simp length-set i.1,
+            λ y m. i.2 y (rest_in n some few y m),
+            ap (λ o. bit_or o (back r)) (w.out-is ∙ ap (bit_or l.out) to) ∙ or_assoc l.out (f x) (back r)
+                ∙ ap (bit_or l.out) (sym (union_in f x r a.k w.if-x-k.true) ∙ whole) ∙ i.3,
+            subst (Moved t a.j a.k a.cursors.now r) (sym w.cursors-is)
+                (move_yes t a.j a.k a.cursors.now n some few l.cursors i.4 w.flagged_before-r.result (omega arith)
+                (q ∙ sym (ap (λ b. cond b (flag_before t x (from x)) (from x)) e))),
+          )
+      | else-x-k w ↦ (
+        less,
+        ap length w.cursors-is ∙ i.1,
+        λ y m. i.2 y (rest_in n some few y m),
+        ap (λ o. bit_or o (back r)) w.out-is ∙ ap (bit_or l.out) (sym (union_out f x r a.k w.if-x-k.false) ∙ whole) ∙ i.3,
+        subst (Moved t a.j a.k a.cursors.now r) (sym w.cursors-is) (move_no t a.j a.k a.cursors.now n some few l.cursors i.4 w.if-x-k.false),
+      )
+    ])
 
 pub returns : goal.returns
 returns c =

@@ -72,8 +72,8 @@ loop-j-preserved c =
     let before : suc (l.j - 1) < length (in_order p w) = omega (arith, l.invariant.0, records_are s.requires.profile s.requires.log a.table.now a.records s.requires) in
     let put = c.put_done-in-loop-j.ensures
     ∙ ap (done_at l.table (l.j - 1))
-        (b.ensures.value
-        ∙ swept_back s.requires.profile s.requires.log l.table _ (l.j - 1) from (down p w s.requires.log l.table _ l.j from some (l.invariant.3 s.requires.log)) before) in (
+    (b.ensures.value
+    ∙ swept_back s.requires.profile s.requires.log l.table _ (l.j - 1) from (down p w s.requires.log l.table _ l.j from some (l.invariant.3 s.requires.log)) before) in (
       omega arith,
       c.put_done-in-loop-j.auto.table ∙ l.invariant.1,
       b.auto.cursors ∙ l.invariant.2,

@@ -46,10 +46,13 @@ loop-left-preserved c =
     let l = c.loop-left in
     let x = count_trailing_zeros 32 l.left in
     let some : 0 < l.left = omega arith in
-    let from = moving_from t a.k cs a.set l.left some l.cursors l.invariant in (elim c.if-x-k.branch [ then-x-k w ↦ let e = w.seek-next.ensures ∙ ap (λ i. seek_from t i x) (add-one (at l.cursors x) ∙ ap suc from) in
-    subst (Moving t a.k cs a.set (bit_and l.left (l.left - 1))) (sym w.cursors-is)
-    (moving_next t a.k cs a.set l.left some l.cursors l.invariant w.if-x-k.true (omega arith) w.seek-next.result e) | else-x-k w ↦ subst (Moving t a.k cs a.set (bit_and l.left (l.left - 1))) (sym w.cursors-is)
-    (moving_skip t a.k cs a.set l.left some l.cursors l.invariant w.if-x-k.false) ])
+    let from = moving_from t a.k cs a.set l.left some l.cursors l.invariant in (elim c.if-x-k.branch [
+      | then-x-k w ↦ let e = w.seek-next.ensures ∙ ap (λ i. seek_from t i x) (add-one (at l.cursors x) ∙ ap suc from) in
+          subst (Moving t a.k cs a.set (bit_and l.left (l.left - 1))) (sym w.cursors-is)
+          (moving_next t a.k cs a.set l.left some l.cursors l.invariant w.if-x-k.true (omega arith) w.seek-next.result e)
+      | else-x-k w ↦ subst (Moving t a.k cs a.set (bit_and l.left (l.left - 1))) (sym w.cursors-is)
+          (moving_skip t a.k cs a.set l.left some l.cursors l.invariant w.if-x-k.false)
+    ])
 
 pub shape_of-cursors : goal.shape_of-cursors
 shape_of-cursors c = c.loop-left.invariant.long

@@ -61,7 +61,6 @@ returns-in-Nothing c =
 
 pub returns-after-termed : goal.returns-after-termed
 returns-after-termed c =
-    
     let a = c.args in
     let h = c.requires.halfway in
     let x = c.next_counts-next in
@@ -82,7 +81,6 @@ returns-after-termed c =
 
 pub returns-else-first-j : goal.returns-else-first-j
 returns-else-first-j c =
-    
     let a = c.args in
     let h = c.requires.halfway in
     let x = c.next_counts-next in

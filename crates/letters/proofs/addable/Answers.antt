@@ -33,13 +33,16 @@ loop-x-preserved c =
     let e : c.comes_next.result ≡ p l.x = c.comes_next.ensures in
     let bit-x : 1 * 2 ^ l.x % 2 ^ 32 ≡ 2 ^ l.x = shl_exact {a = 1} 1 l.x 32 (omega arith) (omega arith) ∙ one-mul (2 ^ l.x) in
     let done = filter p (below l.x) in
-    (elim c.if-comes_next.branch [ then-comes_next v ↦ let f = below_yes p l.x (subst T (sym v.if-comes_next.true ∙ e) tt) in (
-      omega arith,
-      omega (arith, v.number-is),
-      v.set-is ∙ ap₂ bit_or l.invariant.2 bit-x ∙ sym (ap (union (λ y. 2 ^ y)) f ∙ union_last (λ y. 2 ^ y) done l.x),
-      v.number-is ∙ omega (arith, l.invariant.3, ap length f, length-append done (l.x ∷ [])),
-    ) | else-comes_next v ↦ let f = below_no p l.x (subst (λ b. T (not b)) (sym v.if-comes_next.false ∙ e) tt) in
-    (omega arith, omega (arith, v.number-is), v.set-is ∙ l.invariant.2 ∙ sym (ap (union (λ y. 2 ^ y)) f), v.number-is ∙ l.invariant.3 ∙ sym (ap length f)) ])
+    (elim c.if-comes_next.branch [
+      | then-comes_next v ↦ let f = below_yes p l.x (subst T (sym v.if-comes_next.true ∙ e) tt) in (
+        omega arith,
+        omega (arith, v.number-is),
+        v.set-is ∙ ap₂ bit_or l.invariant.2 bit-x ∙ sym (ap (union (λ y. 2 ^ y)) f ∙ union_last (λ y. 2 ^ y) done l.x),
+        v.number-is ∙ omega (arith, l.invariant.3, ap length f, length-append done (l.x ∷ [])),
+      )
+      | else-comes_next v ↦ let f = below_no p l.x (subst (λ b. T (not b)) (sym v.if-comes_next.false ∙ e) tt) in
+          (omega arith, omega (arith, v.number-is), v.set-is ∙ l.invariant.2 ∙ sym (ap (union (λ y. 2 ^ y)) f), v.number-is ∙ l.invariant.3 ∙ sym (ap length f))
+    ])
 
 pub returns : goal.returns
 returns c =

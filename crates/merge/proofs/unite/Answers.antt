@@ -55,10 +55,13 @@ loop-rest-preserved c =
     let P = passing a.k a.masks.now in (
       omega (arith, and_le_r n (n - 1), small),
       (λ y q. l.invariant.1 y (rest_in n some small y q)),
-      (elim c.if-x-k.branch [ then-x-k w ↦ let lt = w.if-x-k.true in
-          let same = forward_same a.k a.s a.moves.now a.rows.now b.requires.rows_value (omega arith) (omega arith) x lt (forward_at a.level.now (at a.cursors.now x)) in
-          ap (λ (o : Handed). bit_or o.forward (U r)) w.out-is ∙ ap (λ v. bit_or v (U r)) (w.with_parent-out.ensures.0 ∙ ap (bit_or l.out.forward) same)
-          ∙ over_taken f a.k n some small l.out.forward lt ∙ l.invariant.2 | else-x-k w ↦ ap (λ (o : Handed). bit_or o.forward (U r)) w.out-is ∙ ap (bit_or l.out.forward) (over_left f a.k n some small w.if-x-k.false) ∙ l.invariant.2 ]),
+      (elim c.if-x-k.branch [
+        | then-x-k w ↦ let lt = w.if-x-k.true in
+            let same = forward_same a.k a.s a.moves.now a.rows.now b.requires.rows_value (omega arith) (omega arith) x lt (forward_at a.level.now (at a.cursors.now x)) in
+            ap (λ (o : Handed). bit_or o.forward (U r)) w.out-is ∙ ap (λ v. bit_or v (U r)) (w.with_parent-out.ensures.0 ∙ ap (bit_or l.out.forward) same)
+            ∙ over_taken f a.k n some small l.out.forward lt ∙ l.invariant.2
+        | else-x-k w ↦ ap (λ (o : Handed). bit_or o.forward (U r)) w.out-is ∙ ap (bit_or l.out.forward) (over_left f a.k n some small w.if-x-k.false) ∙ l.invariant.2
+      ]),
       (elim c.if-x-k.branch [ then-x-k w ↦ ap (λ (o : Handed). bit_or o.letters (I r)) w.out-is ∙ ap (λ v. bit_or v (I r)) w.with_parent-out.ensures.1 ∙ over_taken g a.k n some small l.out.letters w.if-x-k.true ∙ l.invariant.3 | else-x-k w ↦ ap (λ (o : Handed). bit_or o.letters (I r)) w.out-is ∙ ap (bit_or l.out.letters) (over_left g a.k n some small w.if-x-k.false) ∙ l.invariant.3 ]),
       (elim c.if-x-k.branch [ then-x-k w ↦ ap (λ (o : Handed). bit_or o.passed (P r)) w.out-is ∙ ap (λ v. bit_or v (P r)) w.with_parent-out.ensures.2 ∙ over_taken m a.k n some small l.out.passed w.if-x-k.true ∙ l.invariant.4 | else-x-k w ↦ ap (λ (o : Handed). bit_or o.passed (P r)) w.out-is ∙ ap (bit_or l.out.passed) (over_left m a.k n some small w.if-x-k.false) ∙ l.invariant.4 ]),
     )

@@ -33,9 +33,12 @@ loop-i-preserved c =
     let l = c.loop-i in
     let a = c.args in
     let lt = c.loop-i-test.true in
-    (elim c.if-a-x.branch [ then-a-x v ↦ let e = places_left_yes a.log.now l.i a.x lt v.if-a-x.true in
-    (omega arith, rw (v.places-is, v.to-is, add-one l.to) (rw e at l.invariant.1), omega (arith, ap length e, v.to-is), ap length v.places-is ∙ length-set l.places l.to l.i ∙ l.invariant.3) | else-a-x v ↦ let e = places_left_no a.log.now l.i a.x lt v.if-a-x.false in
-    (omega arith, rw (v.places-is, v.to-is) (rw e at l.invariant.1), omega (arith, ap length e, v.to-is), ap length v.places-is ∙ l.invariant.3) ])
+    (elim c.if-a-x.branch [
+      | then-a-x v ↦ let e = places_left_yes a.log.now l.i a.x lt v.if-a-x.true in
+          (omega arith, rw (v.places-is, v.to-is, add-one l.to) (rw e at l.invariant.1), omega (arith, ap length e, v.to-is), ap length v.places-is ∙ length-set l.places l.to l.i ∙ l.invariant.3)
+      | else-a-x v ↦ let e = places_left_no a.log.now l.i a.x lt v.if-a-x.false in
+          (omega arith, rw (v.places-is, v.to-is) (rw e at l.invariant.1), omega (arith, ap length e, v.to-is), ap length v.places-is ∙ l.invariant.3)
+    ])
 
 pub bounds-places-to-2 : goal.bounds-places-to-2
 bounds-places-to-2 c = room (goal.at.bounds-places-to-2 c).At-loop-i

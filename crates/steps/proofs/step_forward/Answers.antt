@@ -45,9 +45,9 @@ loop-rest-preserved c =
     let e = ap step (lowest 32 n (omega arith) (omega arith)) in (
       omega (arith, and_le_r n (n - 1)),
       elim c.if-q-s.branch [
-        then-q-s w ↦
-          ap (λ o. bit_or o (step r)) (w.out-is ∙ ap (bit_or out) w.leads_from-out.ensures) ∙ or_assoc out (f q) (step r)
-          ∙ ap (bit_or out) (sym (union_in f q r a.s w.if-q-s.true) ∙ e) ∙ i
+        | then-q-s w ↦
+            ap (λ o. bit_or o (step r)) (w.out-is ∙ ap (bit_or out) w.leads_from-out.ensures) ∙ or_assoc out (f q) (step r)
+            ∙ ap (bit_or out) (sym (union_in f q r a.s w.if-q-s.true) ∙ e) ∙ i
         | else-q-s w ↦ ap (λ o. bit_or o (step r)) w.out-is ∙ ap (bit_or out) (sym (union_out f q r a.s w.if-q-s.false) ∙ e) ∙ i
       ],
     )
