@@ -15,9 +15,9 @@ returns-then-records-lt2 c =
 
 pub fill_sets-requires : goal.fill_sets-requires
 fill_sets-requires c = record {
-      setting = c.requires.0;
-      records_in_bounds = c.requires.1;
-    }
+  setting = c.requires.0;
+  records_in_bounds = c.requires.1;
+}
 
 pub bounds-sets-records : goal.bounds-sets-records
 bounds-sets-records c =

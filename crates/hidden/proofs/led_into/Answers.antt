@@ -31,7 +31,7 @@ loop-q-preserved c =
     let m : p l.q ≡ c.meet.result = sym c.meet.ensures in (
       search rules,
       elim c.if-meet.branch [
-        then-meet w ↦ w.out-is ∙ ap₂ bit_or l.invariant.1 one ∙ sym (union_next (λ q. 2 ^ q) p l.q true (m ∙ w.if-meet.true))
-      | else-meet w ↦ w.out-is ∙ l.invariant.1 ∙ sym (union_next (λ q. 2 ^ q) p l.q false (m ∙ w.if-meet.false))
+        | then-meet w ↦ w.out-is ∙ ap₂ bit_or l.invariant.1 one ∙ sym (union_next (λ q. 2 ^ q) p l.q true (m ∙ w.if-meet.true))
+        | else-meet w ↦ w.out-is ∙ l.invariant.1 ∙ sym (union_next (λ q. 2 ^ q) p l.q false (m ∙ w.if-meet.false))
       ],
     )
