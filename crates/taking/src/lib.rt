@@ -16,6 +16,7 @@ use profile::{Check, Refusal, Shape};
 use running::{Running, Step, Stepped};
 
 // The lowest refusal of an event by its letter and the record alone: 2, 4, 6, 7, 8, or 10 where P records do not fit.
+#[tactic(auto, using(crate::proofs::Taking::tells_eight, crate::proofs::Taking::tells_none, crate::proofs::Taking::tells_seven, crate::proofs::Taking::tells_ten))]
 fn check_event(
     shape: Shape,
     masks: &[u16],
