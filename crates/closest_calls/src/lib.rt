@@ -1,4 +1,6 @@
 // The calls for the closest order as C has them: Paper 10. They return the refusal's number, or 0. `capi` exports them.
+#![tactic(auto)]
+
 ghost use Rattle.std.specs.Prelude.{◌≡◌};
 ghost use Rattle.profile.specs.Automata.{profile_of};
 ghost use Rattle.closest_calls.specs.Calls.{Closing, TermClosing, closest_code, closest_told};

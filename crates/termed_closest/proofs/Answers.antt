@@ -25,11 +25,11 @@ module _ (p : Rules) (w : List ℕ) (B : ℕ) (order table table' costs : List �
 
   -- the records do not fit
   pub told_refused : (r : Refusal) → Fills p w table table' (built.Refused r) → Answered p w B order order table table' costs costs (Refused r)
-  told_refused r h = filled.refused-before p w B order table costs tenth
+  told_refused r h = filled.refused_before p w B order table costs tenth
       (ap some h.answer.0 ∙ sym (rw (lt-ltb (capacity layout (length table)) (prefixes_by p w) h.answer.1, lowest))) table' h.table.0 h.table.1
 
   -- the table is filled
   pub told_answer : (P n : ℕ) → Fills p w table table' (built.Filled P n) → (order' costs' : List ℕ) (r : Closest)
       → answered p w B P n order order' costs costs' r → Answered p w B order order' table table' costs costs' r
-  told_answer P n h = filled.told-answer p w B order table costs tenth table' P n
+  told_answer P n h = filled.told_answer p w B order table costs tenth table' P n
       (sym (rw (le-ltb (capacity layout (length table)) (prefixes_by p w) h.answer, lowest))) h.table

@@ -1,4 +1,6 @@
 // The order closest to what was recorded, of a log with terms: document 02, Papers 10 and 8.
+#![tactic(auto)]
+
 ghost use Rattle.std.specs.Prelude.{true, ◌≤◌, length};
 ghost use Rattle.profile.specs.Automata.{profile_of};
 ghost use Rattle.terms.specs.Coded.{rules_of};

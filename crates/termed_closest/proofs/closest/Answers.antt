@@ -1,0 +1,55 @@
+-- `termed_closest::closest` meets its contract: the checks come first, then the events are coded, and the order is that of the codes.
+use borrow.Author.Rules.{rules}
+use mathlib.Core.Path.{◌≡◌, sym, ◌∙◌, ap, subst}
+use mathlib.Core.Bool.{true}
+use mathlib.Core.Option.{none}
+use native.Mathlib.Omega.{arith}
+use lib.ListN.{length}
+use Rattle.profile.specs.Automata.{profile_of}
+use Rattle.profile.specs.Refusals.{checked, lowest}
+use Rattle.terms.specs.Coded.{rules_of}
+use Rattle.term_checks.specs.Admission.{dated_admission}
+use Rattle.term_checks.proofs.Admission.{DatedAdmitted, dated_admitted}
+use Rattle.termed_judge.specs.CodedCalls.{CodedCall}
+use Rattle.termed_judge.proofs.Codes.{coded_call, coded_front, coding}
+use Rattle.termed_closest.specs.CodedAnswers.{Answered}
+use Rattle.termed_closest.proofs.Codes.{told_early, told_late}
+use Rattle.termed_closest.proofs.closest.Goals as goal
+use Rattle.termed_closest.proofs.closest.Goals.{In_default}
+
+pub returns-in-Bad : goal.returns-in-Bad
+returns-in-Bad c =
+    let a = c.args in
+    told_early (profile_of a.shape a.masks.now a.moves.now) a.log.now a.days.now a.terms.now a.budget a.order.now a.work.now a.costs.now c.in-Bad.r (sym c.check_call-checked.ensures ∙ ap checked c.in-Bad.is)
+
+-- nothing but 10 and 17 can refuse
+unrefused : (c : In_default) → let a = c.args in lowest (dated_admission (profile_of a.shape a.masks.now a.moves.now) a.log.now a.days.now a.terms.now (length a.order.now)) ≡ none
+unrefused c = sym c.check_call-checked.ensures ∙ ap checked c.in_default.is
+
+admitted : (c : In_default) → let a = c.args in DatedAdmitted (profile_of a.shape a.masks.now a.moves.now) a.log.now a.days.now a.terms.now (length a.order.now)
+admitted c = let a = c.args in dated_admitted (profile_of a.shape a.masks.now a.moves.now) a.log.now a.days.now a.terms.now (length a.order.now) (unrefused c)
+
+pub code_events-requires : goal.code_events-requires
+code_events-requires c = let a = c.args in let x = admitted (goal.at.code_events-requires c).In_default in coding (profile_of a.shape a.masks.now a.moves.now) a.log.now a.days.now a.terms.now x 4000 x.log.short
+
+pub slice_bounds-closest_coded-end : goal.slice_bounds-closest_coded-end
+slice_bounds-closest_coded-end c = let x = admitted (goal.at.slice_bounds-closest_coded-end c).In_default in omega (arith, x.log.short, c.code_events.auto.codes)
+
+pub closest_coded-requires : goal.closest_coded-requires
+closest_coded-requires c =
+    let a = c.args in
+    let x = admitted (goal.at.closest_coded-requires c).In_default in
+    let front = coded_front (profile_of a.shape a.masks.now a.moves.now) a.log.now a.days.now a.terms.now x _ _ c.code_events.ensures in
+    record {
+      coded_call = subst (CodedCall (profile_of a.shape a.masks.now a.moves.now) a.log.now) (sym front) (coded_call (profile_of a.shape a.masks.now a.moves.now) a.log.now a.days.now a.terms.now x);
+      log_in_bounds = x.room;
+    }
+
+pub returns : goal.returns
+returns c =
+    let a = c.args in
+    let told = (goal.at.returns c).In_default in
+    let x = admitted told in
+    let j = c.closest_coded in
+    told_late (profile_of a.shape a.masks.now a.moves.now) a.log.now a.days.now a.terms.now a.budget a.order.now a.work.now a.costs.now (unrefused told) _ _ _ j.result
+    (subst (λ w. Answered (rules_of (profile_of a.shape a.masks.now a.moves.now) true) w a.budget a.order.now j.new.order a.work.now j.new.work a.costs.now j.new.costs j.result) (coded_front (profile_of a.shape a.masks.now a.moves.now) a.log.now a.days.now a.terms.now x _ _ c.code_events.ensures) j.ensures)

@@ -1,0 +1,41 @@
+-- `termed_closest::closest_coded` meets its contract: what is told follows from what filling the table gives, and from the answer over it.
+use borrow.Author.Rules.{rules}
+use mathlib.Core.Path.{sym, subst}
+use mathlib.Core.Bool.{true}
+use Rattle.profile.specs.Automata.{profile_of}
+use Rattle.terms.specs.Coded.{rules_of}
+use Rattle.table.specs.Table.{Fills}
+use Rattle.termed_judge.proofs.Answers.{ready}
+use Rattle.termed_closest.proofs.Answers.{told_answer, told_refused}
+use Rattle.termed_closest.proofs.closest_coded.Goals as goal
+
+pub answer-requires : goal.answer-requires
+answer-requires c =
+    let s = c in
+    let a = s.args in
+    let b = c.fill_coded-built in
+    let p = rules_of (profile_of a.shape a.masks.now a.moves.now) true in
+    let h = subst (Fills p a.codes.now a.work.now b.new.table) c.in-Filled.is b.ensures in
+    record {
+      table = ready p a.codes.now a.order.now a.work.now b.new.table c.in-Filled.prefixes c.in-Filled.looks h s.requires.coded_call.profile s.requires.coded_call.events b.auto.table;
+      prefixes_value = h.table.0;
+      codes_value = sym s.requires.coded_call.letters;
+      log_in_bounds = s.requires.log_in_bounds;
+    }
+
+pub returns-in-Refused : goal.returns-in-Refused
+returns-in-Refused c =
+    let a = c.args in
+    let b = c.fill_coded-built in
+    let p = rules_of (profile_of a.shape a.masks.now a.moves.now) true in
+    let h = subst (Fills p a.codes.now a.work.now b.new.table) c.in-Refused.is b.ensures in
+    told_refused p a.codes.now a.budget a.order.now a.work.now b.new.table a.costs.now c.in-Refused.r h
+
+pub returns-in-Filled : goal.returns-in-Filled
+returns-in-Filled c =
+    let a = c.args in
+    let b = c.fill_coded-built in
+    let p = rules_of (profile_of a.shape a.masks.now a.moves.now) true in
+    let h = subst (Fills p a.codes.now a.work.now b.new.table) c.in-Filled.is b.ensures in
+    let o = c.answer in
+    told_answer p a.codes.now a.budget a.order.now a.work.now b.new.table a.costs.now c.in-Filled.prefixes c.in-Filled.looks h o.new.order o.new.costs o.result o.ensures
