@@ -1,4 +1,6 @@
 // The judge of a log with terms as C has it: document 02, Paper 8. `capi` exports it.
+#![tactic(auto)]
+
 ghost use Rattle.profile.specs.Automata.{profile_of};
 ghost use Rattle.term_calls.specs.TermCalls.{TermJudging};
 
