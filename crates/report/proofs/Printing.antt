@@ -1,6 +1,6 @@
 -- What is printed, from what the judge and the reader promise.
 use borrow.Author.Tests.{le-ltb, lt-ltb}
-use mathlib.Core.Path.{◌≡◌, sym, ◌∙◌, ap, ap₂, subst}
+use mathlib.Core.Path.{◌≡◌, refl, sym, ◌∙◌, ap, ap₂, subst}
 use mathlib.Core.List.Memᴰ
 use mathlib.Core.List.{List, [], ◌∷◌, ◌++◌}
 use mathlib.Core.Option.{Option, none, some}
@@ -23,9 +23,9 @@ use Rattle.logfile.specs.declared.Reading.TheVariants.{Refused as ReadRefused, T
 use Rattle.verdict.specs.Verdict.{Promise}
 use Rattle.verdict.specs.declared.Judged.TheVariants.{NoOrder, Order, Refused}
 use Rattle.verdict.proofs.Judging.{admitted, order_length}
-use Rattle.report.specs.Report.{decimal, file_table, file_text, judged_table, judged_text, number_line, order_line, printed_with, refusal_line, response, table_after, table_left, too_long_line, unless_refused, verdict_lines, verdict_text, whether}
+use Rattle.report.specs.Report.{Put, Responds, decimal, file_table, file_text, judged_table, judged_text, number_line, order_line, printed_with, refusal_line, response, table_after, table_left, too_long_line, unless_refused, verdict_lines, verdict_text, whether}
 use Rattle.report.proofs.Decimal.{decimal_short}
-use Rattle.report.proofs.Texts.{length_three}
+use Rattle.report.proofs.Texts.{length_three, put_front}
 
 -- a line with a number of 64 bits
 pub line_short : (word : List ℕ) (n : ℕ) → n < 18446744073709551616 → length (number_line word n) ≤ length word + 21
@@ -129,3 +129,15 @@ module _ (f b a : List ℕ) (o : ℕ) where
     answer_file h e =
         let l = le-ltb longest_input (length f) h in
         (in_room ∙ printed_file f (length b) h, inside (subst (λ t. whether t (a ≡ b) (file_table f b a)) (sym l) e))
+
+-- ---- what the program's text function promises
+
+pub responds_long : {f out out' b : List ℕ} {r : ℕ} → program_text ≤ length out → longest_input < length f → Put out 0 too_long_line out' r → Responds f out out' b b r
+responds_long {f} {out} {out'} {b} room h p =
+    let t = answer_long f b b (length out) room h refl in
+    record { text = (put_front p).0 ∙ sym t.0; rest = (p.room, (put_front p).1); table = t.1 }
+
+pub responds_file : {f out out' b a : List ℕ} {r : ℕ} → program_text ≤ length out → length f ≤ longest_input → Put out 0 (file_text f (length b)) out' r → file_table f b a → Responds f out out' b a r
+responds_file {f} {out} {out'} {b} {a} room h p e =
+    let t = answer_file f b a (length out) room h e in
+    record { text = (put_front p).0 ∙ sym t.0; rest = (p.room, (put_front p).1); table = t.1 }

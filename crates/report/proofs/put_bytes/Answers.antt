@@ -1,8 +1,7 @@
-use borrow.Author.Rules.{rules}
-use mathlib.Core.Path.{◌≡◌, refl, ◌∙◌, ap}
-use Prim.Native.Nat.{◌+◌, ◌-◌, ◌≤◌}
+use mathlib.Core.Path.{refl, ◌∙◌, ap}
+use Prim.Native.Nat.{◌+◌}
 use native.Mathlib.Omega.{arith}
-use lib.ListN.{length, get_or, set, take, length-set}
+use lib.ListN.{get_or, set, length-set}
 use lib.Seq.{sets, take_all}
 use Rattle.logfile.proofs.Bytes.{sets_more}
 use Rattle.report.proofs.put_bytes.Goals as goal

@@ -16,7 +16,7 @@ slice_bounds-put_order-end c =
     let p = profile_of a.shape a.masks.now a.moves.now in
     let j = c.judge-judged in
     let h = subst (Promise p a.log.now (replicate longest 0) j.new.order a.work.now j.new.work) c.in-Order.is j.ensures in
-    omega (arith, order_room p a.log.now (replicate longest 0) j.new.order a.work.now j.new.work refl c.in-Order.prefixes c.in-Order.field-1 h, j.auto.order)
+    omega (arith, order_room p a.log.now (replicate longest 0) j.new.order a.work.now j.new.work refl c.in-Order.prefixes c.in-Order.looks h, j.auto.order)
 
 pub put_order-requires : goal.put_order-requires
 put_order-requires c =
@@ -25,7 +25,7 @@ put_order-requires c =
     let j = c.judge-judged in
     let h = subst (Promise p a.log.now (replicate longest 0) j.new.order a.work.now j.new.work) c.in-Order.is j.ensures in
     let v = c.put_verdict-end.ensures in
-    omega (arith, order_room p a.log.now (replicate longest 0) j.new.order a.work.now j.new.work refl c.in-Order.prefixes c.in-Order.field-1 h, length-take (length a.log.now - 0) j.new.order, v.upper_bound, put_kept v.put, c.requires)
+    omega (arith, order_room p a.log.now (replicate longest 0) j.new.order a.work.now j.new.work refl c.in-Order.prefixes c.in-Order.looks h, length-take (length a.log.now - 0) j.new.order, v.upper_bound, put_kept v.put, c.requires)
 
 pub returns-in-Refused-clause-put : goal.returns-in-Refused-clause-put
 returns-in-Refused-clause-put c =
@@ -49,7 +49,7 @@ returns-in-NoOrder-clause-put c =
     let p = profile_of a.shape a.masks.now a.moves.now in
     let j = c.judge-judged in
     let h = subst (Promise p a.log.now (replicate longest 0) j.new.order a.work.now j.new.work) c.in-NoOrder.is j.ensures in
-    put_as (sym (text_none p a.log.now (replicate longest 0) j.new.order a.work.now j.new.work refl c.in-NoOrder.prefixes c.in-NoOrder.field-1 h)) c.put_verdict.ensures.put
+    put_as (sym (text_none p a.log.now (replicate longest 0) j.new.order a.work.now j.new.work refl c.in-NoOrder.prefixes c.in-NoOrder.looks h)) c.put_verdict.ensures.put
 
 pub returns-in-NoOrder-clause-judged_table : goal.returns-in-NoOrder-clause-judged_table
 returns-in-NoOrder-clause-judged_table c =
@@ -57,7 +57,7 @@ returns-in-NoOrder-clause-judged_table c =
     let p = profile_of a.shape a.masks.now a.moves.now in
     let j = c.judge-judged in
     let h = subst (Promise p a.log.now (replicate longest 0) j.new.order a.work.now j.new.work) c.in-NoOrder.is j.ensures in
-    table_none p a.log.now (replicate longest 0) j.new.order a.work.now j.new.work refl c.in-NoOrder.prefixes c.in-NoOrder.field-1 h
+    table_none p a.log.now (replicate longest 0) j.new.order a.work.now j.new.work refl c.in-NoOrder.prefixes c.in-NoOrder.looks h
 
 pub returns-in-Order-clause-put : goal.returns-in-Order-clause-put
 returns-in-Order-clause-put c =
@@ -65,7 +65,7 @@ returns-in-Order-clause-put c =
     let p = profile_of a.shape a.masks.now a.moves.now in
     let j = c.judge-judged in
     let h = subst (Promise p a.log.now (replicate longest 0) j.new.order a.work.now j.new.work) c.in-Order.is j.ensures in
-    put_as (sym (text_some p a.log.now (replicate longest 0) j.new.order a.work.now j.new.work refl c.in-Order.prefixes c.in-Order.field-1 h)) (put_then c.put_verdict-end.ensures.put c.put_order.ensures)
+    put_as (sym (text_some p a.log.now (replicate longest 0) j.new.order a.work.now j.new.work refl c.in-Order.prefixes c.in-Order.looks h)) (put_then c.put_verdict-end.ensures.put c.put_order.ensures)
 
 pub returns-in-Order-clause-judged_table : goal.returns-in-Order-clause-judged_table
 returns-in-Order-clause-judged_table c =
@@ -73,4 +73,4 @@ returns-in-Order-clause-judged_table c =
     let p = profile_of a.shape a.masks.now a.moves.now in
     let j = c.judge-judged in
     let h = subst (Promise p a.log.now (replicate longest 0) j.new.order a.work.now j.new.work) c.in-Order.is j.ensures in
-    table_some p a.log.now (replicate longest 0) j.new.order a.work.now j.new.work refl c.in-Order.prefixes c.in-Order.field-1 h
+    table_some p a.log.now (replicate longest 0) j.new.order a.work.now j.new.work refl c.in-Order.prefixes c.in-Order.looks h

@@ -1,11 +1,10 @@
-use borrow.Author.Rules.{rules}
-use mathlib.Core.Path.{◌≡◌, refl, ◌∙◌, ap}
-use Prim.Native.Nat.{ℕ, ◌+◌, ◌-◌, ◌*◌, ◌≤◌, ◌<◌}
+use mathlib.Core.Path.{refl, ◌∙◌, ap}
+use Prim.Native.Nat.{ℕ, ◌≤◌, ◌<◌}
 use native.Mathlib.Omega.{arith}
-use lib.ListN.{length, get_or, take}
+use lib.ListN.{length, get_or}
 use lib.Seq.{take_all}
 use Rattle.profile.specs.Lists.{flat_map}
-use Rattle.report.specs.Report.{Put, spaced}
+use Rattle.report.specs.Report.{spaced}
 use Rattle.report.proofs.Decimal.{decimal_short}
 use Rattle.report.proofs.Texts.{put_as, put_kept, put_none, put_then, spaced_more}
 use Rattle.report.proofs.put_letters.Goals as goal

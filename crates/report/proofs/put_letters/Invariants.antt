@@ -1,14 +1,9 @@
 -- `report::put_letters` meets its contract. The loop's invariant: the letters before place i are put, in at most four bytes each.
-use borrow.Author.Rules.{rules}
-use mathlib.Core.Path.{◌≡◌, refl, ◌∙◌, ap}
-use Prim.Native.Nat.{ℕ, ◌+◌, ◌-◌, ◌*◌, ◌≤◌, ◌<◌}
-use native.Mathlib.Omega.{arith}
-use lib.ListN.{length, get_or, take}
-use lib.Seq.{take_all}
+use mathlib.Core.Path.{◌≡◌}
+use Prim.Native.Nat.{◌+◌, ◌-◌, ◌*◌, ◌≤◌}
+use lib.ListN.{length, take}
 use Rattle.profile.specs.Lists.{flat_map}
 use Rattle.report.specs.Report.{Put, spaced}
-use Rattle.report.proofs.Decimal.{decimal_short}
-use Rattle.report.proofs.Texts.{put_as, put_kept, put_none, put_then, spaced_more}
 use Rattle.report.proofs.put_letters.Given as goal
 
 abbrev pub invariant-loop-i : goal.invariant-loop-i

@@ -1,5 +1,4 @@
 -- `report::put_order` meets its contract.
-use borrow.Author.Rules.{rules}
 use Rattle.report.proofs.Texts.{put_then}
 use Rattle.report.proofs.put_order.Goals as goal
 
