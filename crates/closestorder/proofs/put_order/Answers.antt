@@ -17,14 +17,14 @@ put_placed-requires c =
     let w = a.log.now in record {
       held = h;
       placed = record {
-          few = omega (arith, as_long h, h.events.short);
-          letters = h.profile.relation.most;
-          below_k = log_below h;
-          starts_rest = _;
-          places_rest = _;
-          starts_are = e.0;
-          places_are = e.1;
-        };
+        few = omega (arith, as_long h, h.events.short);
+        letters = h.profile.relation.most;
+        below_k = log_below h;
+        starts_rest = _;
+        places_rest = _;
+        starts_are = e.0;
+        places_are = e.1;
+      };
       codes_value = c.requires.codes_value;
       log_in_bounds = c.requires.log_in_bounds;
     }

@@ -48,11 +48,11 @@ floor-floor-requires c =
 
 pub put_judges-swaps-requires : goal.put_judges-swaps-requires
 put_judges-swaps-requires c = record {
-      held = c.requires.held;
-      placed = c.requires.placed;
-      codes_value = c.requires.codes_value;
-      log_in_bounds = c.requires.log_in_bounds.0;
-    }
+  held = c.requires.held;
+  placed = c.requires.placed;
+  codes_value = c.requires.codes_value;
+  log_in_bounds = c.requires.log_in_bounds.0;
+}
 
 pub returns-then-budget-pairs : goal.returns-then-budget-pairs
 returns-then-budget-pairs c =

@@ -25,6 +25,7 @@ loop-i-preserved c =
       omega arith,
       elim c.if-costs-i.branch [ then-costs-i w ↦ omega arith | else-costs-i w ↦ omega arith ],
       rw add-one (elim c.if-costs-i.branch [
-          then-costs-i w ↦ omega (arith, at_most_on a.v l.i a.costs.now (omega arith) w.if-costs-i.true, l.invariant.2)
-        | else-costs-i w ↦ omega (arith, at_most_off a.v l.i a.costs.now (omega arith) w.if-costs-i.false, l.invariant.2) ]),
+        | then-costs-i w ↦ omega (arith, at_most_on a.v l.i a.costs.now (omega arith) w.if-costs-i.true, l.invariant.2)
+        | else-costs-i w ↦ omega (arith, at_most_off a.v l.i a.costs.now (omega arith) w.if-costs-i.false, l.invariant.2)
+      ]),
     )

@@ -57,7 +57,7 @@ loop-rest-preserved c =
       omega (arith, and_le_r n (n - 1)),
       omega (arith, and_le_r n (n - 1)),
       scan_more a.costs.now a.row a.states n (cost_in a.costs.now (a.row + count_trailing_zeros 32 n)) c.if-v-least.least l.least (omega arith) (omega arith) refl
-      (elim c.if-v-least.branch [ then-v-least w ↦ omega (arith, w.least-is, w.if-v-least.true) | else-v-least w ↦ omega (arith, w.least-is) ])
-      (elim c.if-v-least.branch [ then-v-least w ↦ omega (arith, w.least-is, e) | else-v-least w ↦ omega (arith, w.least-is, w.if-v-least.false, e) ])
-      (elim c.if-v-least.branch [ then-v-least w ↦ inr (w.least-is ∙ e) | else-v-least w ↦ inl w.least-is ]) l.invariant.2,
+          (elim c.if-v-least.branch [ then-v-least w ↦ omega (arith, w.least-is, w.if-v-least.true) | else-v-least w ↦ omega (arith, w.least-is) ])
+          (elim c.if-v-least.branch [ then-v-least w ↦ omega (arith, w.least-is, e) | else-v-least w ↦ omega (arith, w.least-is, w.if-v-least.false, e) ])
+          (elim c.if-v-least.branch [ then-v-least w ↦ inr (w.least-is ∙ e) | else-v-least w ↦ inl w.least-is ]) l.invariant.2,
     )

@@ -12,9 +12,9 @@ loop-x-init c = let a = c.args in (omega arith, passed_none a.shape a.moves.now 
 
 pub try_letter-next-requires : goal.try_letter-next-requires
 try_letter-next-requires c = record {
-      stands = c.requires.stands;
-      x_lt_k = c.loop-x-test.true;
-    }
+  stands = c.requires.stands;
+  x_lt_k = c.loop-x-test.true;
+}
 
 pub returns-in-Costs : goal.returns-in-Costs
 returns-in-Costs c =

@@ -45,9 +45,9 @@ step_cost-more-requires-clause-within c = let b = c in
     record {
       letter = below;
       left = subst (λ n. n < count (λ a. a) a.log.now x) (sym (field x below))
-            (next_left a.k a.log.now a.whole.now a.order.now b.requires.placed.letters b.requires.placed.few b.requires.placed.below_k b.requires.arranged l.i h);
+          (next_left a.k a.log.now a.whole.now a.order.now b.requires.placed.letters b.requires.placed.few b.requires.placed.below_k b.requires.arranged l.i h);
       fits = λ y lt. subst (λ n. n ≤ count (λ a. a) a.log.now y) (sym (field y lt))
-            (read_le a.k a.log.now a.whole.now a.order.now b.requires.placed.letters b.requires.placed.few b.requires.placed.below_k b.requires.arranged l.i y le);
+          (read_le a.k a.log.now a.whole.now a.order.now b.requires.placed.letters b.requires.placed.few b.requires.placed.below_k b.requires.arranged l.i y le);
       all = b.requires.arranged.all;
     }
 
