@@ -3,7 +3,7 @@ use Rattle.std.proofs.Common.{◌≤◌, ◌-◌}
 use Rattle.truncated.proofs.main.Given as goal
 
 abbrev pub invariant-loop-n : goal.invariant-loop-n
-invariant-loop-n g l = l.n ≤ 41
+invariant-loop-n l = l.n ≤ 41
 
 abbrev pub decreases-loop-n : goal.decreases-loop-n
-decreases-loop-n g l = 41 - l.n
+decreases-loop-n l = 41 - l.n
