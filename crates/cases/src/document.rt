@@ -2,10 +2,10 @@
 use crate::each::compare_log;
 use profile::Shape;
 use trial::cells::{equal8, part8, part16, part32, plus, times};
-use trial::rows::{digit, put_letters_in, put_masks_in, put_moves_in, rest_at, shape_in};
 use trial::shapes::alt;
 use trial::tally;
 use trial::tally::Tally;
+use trial::text_rows::{digit, put_letters_in, put_masks_in, put_moves_in, rest_at, shape_in};
 use trial_logs::compare::compare_table;
 use trial_logs::listing::{list, row};
 use trial_logs::paths::earliest_accepted;

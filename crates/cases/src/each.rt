@@ -2,8 +2,8 @@
 use profile::Shape;
 use trial::cells::{part8, part16, part32, times};
 use trial::logs::{log_count, put_log_number};
-use trial::rows::{digit, put_masks_in, put_moves_in, rest_at, shape_in};
 use trial::tally::Tally;
+use trial::text_rows::{digit, put_masks_in, put_moves_in, rest_at, shape_in};
 use trial_logs::orders::compare_with;
 
 // All calls on a log, and its file.

@@ -2,7 +2,7 @@
 use crate::vectors::{box_size, change, counts_of, key_of, put_box, put_record};
 use search::Found;
 use trial::cells::{minus, plus};
-use trial::records::record_at;
+use trial::record_numbers::record_at;
 use trial::tally;
 use trial::tally::Tally;
 use trial_logs::places::place_of;

@@ -1,7 +1,7 @@
 // Count vectors: a count for each of the sixteen letters.
 use counts::Counts;
 use trial::cells::{at8, byte, minus, plus, put8, quotient, rest, times};
-use trial::records::count_of;
+use trial::record_numbers::count_of;
 use trial_logs::places::weight;
 
 // Vector v of the box in which each letter below k has from 0 to one more than record `last` counts of it.

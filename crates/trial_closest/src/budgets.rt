@@ -13,7 +13,7 @@ use trial::calls::{BYTES, NUMBERS, judge_in};
 use trial::cells::{
     GUARD8, GUARD32, holds8, minus, part8, part16, part32, plus, times, untouched8, untouched32,
 };
-use trial::records::record_at;
+use trial::record_numbers::record_at;
 use trial::tally;
 use trial::tally::Tally;
 use trial_logs::listing::one_way;

@@ -7,7 +7,7 @@ use trial::cells::{
     GUARD8, GUARD16, GUARD32, part8, part16, plus, times, untouched8, untouched16, untouched32,
     wide32,
 };
-use trial::records::{BACKWARD, FORWARD, record_at, set_of, total_of};
+use trial::record_numbers::{BACKWARD, FORWARD, record_at, set_of, total_of};
 use trial::tally;
 use trial::tally::Tally;
 use trial_logs::listing::{list, listed, one_way};

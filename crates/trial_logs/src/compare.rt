@@ -5,7 +5,7 @@ use crate::orders::compare_orders;
 use crate::prefixes::prefix_count;
 use profile::Shape;
 use trial::cells::{minus, plus};
-use trial::records::record_at;
+use trial::record_numbers::record_at;
 use trial::tally;
 use trial::tally::Tally;
 

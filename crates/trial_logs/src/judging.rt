@@ -7,7 +7,7 @@ use profile::Shape;
 use trial::answers::{Answer, NONE, is_refusal, is_unchanged, is_verdict};
 use trial::calls::{BYTES, NUMBERS, build_in, judge_in, table_part};
 use trial::cells::{GUARD8, GUARD32, holds8, part8, untouched8, untouched32, wide32};
-use trial::records::{BACKWARD, FORWARD, record_at, set_of, total_of};
+use trial::record_numbers::{BACKWARD, FORWARD, record_at, set_of, total_of};
 use trial::tally;
 use trial::tally::Tally;
 

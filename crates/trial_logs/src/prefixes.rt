@@ -2,7 +2,7 @@
 // letter may be moved past by the marked one". Marks are the bits of a number, a bit for each event. A set that keeps the rule has the first so-many occurrences of each letter.
 use crate::listing::commute;
 use trial::cells::{at8, bit, byte, plus, put8};
-use trial::records::count_of;
+use trial::record_numbers::count_of;
 
 // How often the letter stands among the first `end` events.
 fn occurrences(log: &[u8], end: usize, letter: usize) -> usize {

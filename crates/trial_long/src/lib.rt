@@ -6,7 +6,7 @@ use trial::cells::{
     GUARD8, GUARD32, at8, byte, holds8, minus, one32, part8, plus, put_run, put32, times,
     untouched8, untouched32,
 };
-use trial::records::{BACKWARD, FORWARD, count_of, record_at, set_of, total_of};
+use trial::record_numbers::{BACKWARD, FORWARD, count_of, record_at, set_of, total_of};
 use trial::shapes::{alt, shape_of};
 use trial::tally;
 use trial::tally::{Tally, edge};

@@ -3,7 +3,7 @@ use crate::arrivals::set_at;
 use profile::Shape;
 use trial::calls::{NUMBERS, table_part};
 use trial::cells::{GUARD32, at8, at32, bit, minus, plus, untouched32};
-use trial::records::{FORWARD, RECORD, record_at};
+use trial::record_numbers::{FORWARD, RECORD, record_at};
 use trial_logs::judging::forward_of;
 
 // How many events of the set have the letter.

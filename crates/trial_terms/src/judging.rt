@@ -12,7 +12,7 @@ use trial::cells::{
     GUARD8, GUARD32, at32, copy8, equal8, holds8, minus, part8, part16, plus, untouched8,
     untouched32, wide32,
 };
-use trial::records::{BACKWARD, FORWARD, record_at, set_of, total_of};
+use trial::record_numbers::{BACKWARD, FORWARD, record_at, set_of, total_of};
 use trial::tally;
 use trial::tally::Tally;
 use trial_logs::listing::{list, one_way, row};

@@ -7,7 +7,7 @@ use trial::calls::{BYTES, NUMBERS, judge_in, table_part};
 use trial::cells::{
     GUARD8, GUARD32, at32, equal8, holds8, part8, plus, untouched8, untouched32, wide32,
 };
-use trial::records::{BACKWARD, FORWARD, RECORD, record_at, set_of, total_of};
+use trial::record_numbers::{BACKWARD, FORWARD, RECORD, record_at, set_of, total_of};
 use trial::tally;
 use trial::tally::Tally;
 use trial_logs::places::{key_of, place_of, put_keys};
