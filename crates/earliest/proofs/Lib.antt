@@ -2,3 +2,4 @@
 pub mod Records
 pub mod Choices
 pub mod Extraction
+pub mod Standing

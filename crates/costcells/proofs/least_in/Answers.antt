@@ -8,7 +8,6 @@ use Rattle.costcells.specs.Cells.{cost_in, none_cost}
 use lib.Count.{trailing_le, count_trailing_zeros}
 use lib.Bits.{and_le_r}
 use Rattle.costcells.proofs.least_in.Goals as goal
-use Rattle.costcells.proofs.least_in.Goals.{then-v-least, else-v-least}
 
 pub loop-rest-init : goal.loop-rest-init
 loop-rest-init c = (omega arith, omega arith, scan_start c.args.costs.now c.args.row c.args.states)
@@ -56,8 +55,8 @@ loop-rest-preserved c =
     let e = inside a.costs.now (a.row + count_trailing_zeros 32 n) 0 none_cost (omega (arith, q)) in (
       omega (arith, and_le_r n (n - 1)),
       omega (arith, and_le_r n (n - 1)),
-      scan_more a.costs.now a.row a.states n (cost_in a.costs.now (a.row + count_trailing_zeros 32 n)) c.if-v-least.least l.least (omega arith) (omega arith) refl
-          (elim c.if-v-least.branch [ then-v-least w ↦ omega (arith, w.least-is, w.if-v-least.true) | else-v-least w ↦ omega (arith, w.least-is) ])
-          (elim c.if-v-least.branch [ then-v-least w ↦ omega (arith, w.least-is, e) | else-v-least w ↦ omega (arith, w.least-is, w.if-v-least.false, e) ])
-          (elim c.if-v-least.branch [ then-v-least w ↦ inr (w.least-is ∙ e) | else-v-least w ↦ inl w.least-is ]) l.invariant.2,
+      scan_more a.costs.now a.row a.states n (cost_in a.costs.now (a.row + count_trailing_zeros 32 n)) _ l.least (omega arith) (omega arith) refl
+          (omega arith)
+          (grind (arith, e))
+          (search rules) l.invariant.2,
     )

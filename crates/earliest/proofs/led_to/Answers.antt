@@ -1,21 +1,9 @@
 -- `earliest::led_to` meets its contract.
-use borrow.Author.Rules.{rules}
-use mathlib.Core.Path.{◌≡◌, sym, ◌∙◌, ap, ap₂, subst}
+use mathlib.Core.Path.{sym, ◌∙◌, ap, ap₂}
 use mathlib.Core.Bool.{◌&&◌, cond}
-use native.Mathlib.Omega.{arith}
-use lib.Dec.{T, ltb, ltb→lt}
 use Rattle.profile.specs.Automata.{forward_step, meets}
-use Rattle.profile.proofs.Lists.{fst_of}
-use Rattle.counts.specs.Counts.{words}
-use Rattle.records.specs.Records.{last_at, records_in}
-use Rattle.search.specs.Search.{has?}
+use Rattle.records.specs.Records.{last_at}
 use Rattle.earliest.proofs.led_to.Goals as goal
-
-pub last_at-requires : goal.last_at-requires
-last_at-requires c =
-    let a = c.args in
-    let n = records_in a.t.now in
-    omega (arith, ltb→lt a.j n (fst_of (ltb a.j n) (has? a.t.now (words a.c) a.j) (subst T (sym c.if-stands_at.true ∙ c.stands_at.ensures) tt)))
 
 pub returns-then-meet : goal.returns-then-meet
 returns-then-meet c =

@@ -39,7 +39,7 @@ returns-then-more-gt-HIGHEST_CEILING c =
     product_high _ _ _ (whole (goal.at.returns-then-more-gt-HIGHEST_CEILING c).After-size) (product_one a.counts.now (drop (l.i + 1) a.groups.now)) c.if-more-gt-HIGHEST_CEILING.true
 
 pub loop-i-preserved : goal.loop-i-preserved
-loop-i-preserved c = (omega (arith, c.loop-i-test.true), whole (goal.at.loop-i-preserved c).After-size, c.if-more-gt-HIGHEST_CEILING.false)
+loop-i-preserved c = (omega (arith, c.loop-i-test.true), whole (goal.at.loop-i-preserved c).After-size, omega arith)
 
 pub returns : goal.returns
 returns c =
