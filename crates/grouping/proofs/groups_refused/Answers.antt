@@ -1,6 +1,9 @@
 -- `grouping::groups_refused` meets its contract: the four tests, in their order.
 use borrow.Author.Tests.{le-ltb, lt-ltb}
 use mathlib.Core.Path.{refl, sym, ◌∙◌}
+use native.Mathlib.Omega.{arith}
+use lib.ListN.{length}
+use Rattle.ceilings.specs.Ceilings.{most_groups}
 use Rattle.grouping.proofs.groups_refused.Goals as goal
 
 pub returns-then-groups-lt1 : goal.returns-then-groups-lt1
@@ -11,9 +14,9 @@ returns-then-groups-gt-MOST_GROUPS c = sym (rw (le-ltb _ _ c.if-groups-lt1.false
 
 pub returns-then-some_refused : goal.returns-then-some_refused
 returns-then-some_refused c =
-    sym (rw (le-ltb _ _ c.if-groups-lt1.false, le-ltb _ _ c.if-groups-gt-MOST_GROUPS.false, sym c.some_refused.ensures ∙ c.if-some_refused.true) refl)
+    sym (rw (le-ltb _ _ c.if-groups-lt1.false, le-ltb most_groups (length c.args.groups.now) (omega arith), sym c.some_refused.ensures ∙ c.if-some_refused.true) refl)
 
 pub returns : goal.returns
 returns c =
-    rw (le-ltb _ _ c.if-groups-lt1.false, le-ltb _ _ c.if-groups-gt-MOST_GROUPS.false, sym c.some_refused.ensures ∙ c.if-some_refused.false)
+    rw (le-ltb _ _ c.if-groups-lt1.false, le-ltb most_groups (length c.args.groups.now) (omega arith), sym c.some_refused.ensures ∙ c.if-some_refused.false)
     c.letter_missing.ensures
