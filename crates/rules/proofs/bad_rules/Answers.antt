@@ -1,7 +1,8 @@
 use mathlib.Core.Path.{refl, sym, ◌∙◌}
 use borrow.Author.Count.{below_more, below_none}
 use Rattle.checks.proofs.Loops.{any_none_at, any_some_at}
-use Rattle.grammars.specs.Grammars.{rule_out_of_range}
+use lib.ListN.{length}
+use Rattle.grammars.specs.Grammars.{most_names, most_rules, rule_out_of_range}
 use borrow.Author.Tests.{lt-ltb, le-ltb}
 use native.Mathlib.Omega.{arith}
 use Rattle.rules.proofs.bad_rules.Goals as goal
@@ -22,7 +23,7 @@ pub returns-then-bad_rule : goal.returns-then-bad_rule
 returns-then-bad_rule c =
     let a = c.args in
     let l = c.loop-i in
-    rw (le-ltb _ _ c.if-names-lt1.false, le-ltb _ _ c.if-names-gt-MOST_NAMES.false, le-ltb _ _ c.if-rules-gt-MOST_RULES.false)
+    rw (le-ltb a.names 1 (omega arith), le-ltb most_names a.names (omega arith), le-ltb most_rules (length a.rules.now) (omega arith))
     (sym (any_some_at (rule_out_of_range a.k a.names) a.rules.now l.i 0 (omega arith) (sym c.bad_rule.ensures ∙ c.if-bad_rule.true)))
 
 pub loop-i-preserved : goal.loop-i-preserved
@@ -32,5 +33,5 @@ pub returns : goal.returns
 returns c =
     let a = c.args in
     let l = c.loop-i in
-    rw (le-ltb _ _ c.if-names-lt1.false, le-ltb _ _ c.if-names-gt-MOST_NAMES.false, le-ltb _ _ c.if-rules-gt-MOST_RULES.false)
+    rw (le-ltb a.names 1 (omega arith), le-ltb most_names a.names (omega arith), le-ltb most_rules (length a.rules.now) (omega arith))
     (sym (any_none_at (rule_out_of_range a.k a.names) a.rules.now l.i 0 (omega arith) l.invariant.1))
