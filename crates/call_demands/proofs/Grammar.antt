@@ -44,14 +44,14 @@ module _ (k : ℕ) (masks : List ℕ) (names : ℕ) (rules w order order' table 
       let P = prefixes_of k masks w in
       let z = code_ten call.answer code told call.code_is call.told_is in
       let a = ten_exactly (grammar_refusals k masks names rules w (length order) (length table) (length sets)) P (length table) (or_none (full_table P (length table))) h in
-      let r = grammar.refused-exactly k masks names rules w order order' table table' sets sets' call.answer call.promise FullTable in
+      let r = grammar.refused_exactly k masks names rules w order order' table table' sets sets' call.answer call.promise FullTable in
       (λ e. a.0 (r.0 (z.0 e)), λ lt. z.1 (r.1 (a.1 lt)))
 
   -- a refusal gives its number and its place, "with no verdict or counts"
   pub refusal_told : (r : Refusal) → grammar_refusal k masks names rules w (length order) (length table) (length sets) ≡ some r
       → (code ≡ refusal_number r) × (told ≡ refusal_place r ∷ 0 ∷ 0 ∷ 0 ∷ [])
   refusal_told r e =
-      let q = (grammar.refused-exactly k masks names rules w order order' table table' sets sets' call.answer call.promise r).1 e in
+      let q = (grammar.refused_exactly k masks names rules w order order' table table' sets sets' call.answer call.promise r).1 e in
       (call.code_is ∙ ap judged_code q, call.told_is ∙ ap judged_told q)
 
   module _ (ready : GrammarJudgeable k masks names rules w (length order) (length table) (length sets)) where
@@ -66,18 +66,18 @@ module _ (k : ℕ) (masks : List ℕ) (names : ℕ) (rules w order order' table 
 
     pub verdict_told : (verdict_in told ≡ 0) ⊎ (verdict_in told ≡ 1)
     verdict_told = ⊎_elim (λ e. inl ((told_as 0).1 e)) (λ e. inr ((told_as 1).1 e))
-        (grammar.verdict-cases k masks names rules w order order' table table' sets sets' unrefused call.answer call.promise)
+        (grammar.verdict_cases k masks names rules w order order' table table' sets sets' unrefused call.answer call.promise)
 
     -- "The verdict is 1 exactly when some reachable log can be derived from name 0": 0 exactly when none can
     pub no_order_told : (verdict_in told ≡ 0) ↔ ((v : List ℕ) → Derivable (grammar_of rules) (independent masks) w v → ⊥)
     no_order_told =
-        let h = grammar.no-order-exactly k masks names rules w order order' table table' sets sets' unrefused call.answer call.promise in
+        let h = grammar.no_order_exactly k masks names rules w order order' table table' sets sets' unrefused call.answer call.promise in
         (λ e. h.0 ((told_as 0).0 e), λ f. (told_as 0).1 (h.1 f))
 
     -- "and such a log is returned"; the other bytes stay
     pub order_told : verdict_in told ≡ 1
         → Derivable (grammar_of rules) (independent masks) w (take (length w) order') × (drop (length w) order' ≡ drop (length w) order)
-    order_told e = grammar.order-exactly k masks names rules w order order' table table' sets sets' unrefused call.answer call.promise ((told_as 1).0 e)
+    order_told e = grammar.order_exactly k masks names rules w order order' table table' sets sets' unrefused call.answer call.promise ((told_as 1).0 e)
 
 -- two logs reachable from each other: the same verdict, P and looks, whatever buffers each call was lent. Which log is returned is free
 module _ (k : ℕ) (masks : List ℕ) (names : ℕ) (rules v w : List ℕ) (order₁ order₁' table₁ table₁' sets₁ sets₁' order₂ order₂' table₂ table₂' sets₂ sets₂' : List ℕ)
@@ -89,7 +89,7 @@ module _ (k : ℕ) (masks : List ℕ) (names : ℕ) (rules v w : List ℕ) (orde
   told_same same =
       let a = (judgeable k masks names rules v (length order₁) (length table₁) (length sets₁)).1 first in
       let b = (judgeable k masks names rules w (length order₂) (length table₂) (length sets₂)).1 second in
-      let x = grammar.judged-same k masks names rules v w order₁ order₁' table₁ table₁' sets₁ sets₁' order₂ order₂' table₂ table₂' sets₂ sets₂' a b
+      let x = grammar.judged_same k masks names rules v w order₁ order₁' table₁ table₁' sets₁ sets₁' order₂ order₂' table₂ table₂' sets₂ sets₂' a b
       g.answer h.answer g.promise h.promise same in
       told_equal g.answer h.answer code₁ code₂ told₁ told₂ g.code_is g.told_is
       h.code_is h.told_is (g.promise.refused ∙ a) (h.promise.refused ∙ b) x.0 x.1 x.2

@@ -30,7 +30,7 @@ use Rattle.call_demands.proofs.Numbers.{zero_unused}
 
 -- ---- the table
 
-zero_built : (b : Built) → (built_code b ≡ 0) ↔ (table.refused-by b ≡ none)
+zero_built : (b : Built) → (built_code b ≡ 0) ↔ (table.refused_by b ≡ none)
 zero_built (built.Refused r) = ((λ e. absurd (zero_unused r e)), λ e. absurd (some-ne-none r e))
 zero_built (built.Filled P n) = ((λ e. refl), λ e. refl)
 

@@ -44,14 +44,14 @@ module _ (p : Profile) (w days terms order order' table table' : List ℕ) (code
       let P = prefixes_by (with_terms p terms) (events w days) in
       let z = code_ten call.answer code told call.code_is call.told_is in
       let a = ten_exactly (dated_refusals p w days terms (length order) (length table)) P (length table) (or_none (full_table P (length table))) h in
-      let r = termed.refused-exactly p w days terms order order' table table' call.answer call.promise FullTable in
+      let r = termed.refused_exactly p w days terms order order' table table' call.answer call.promise FullTable in
       (λ e. a.0 (r.0 (z.0 e)), λ lt. z.1 (r.1 (a.1 lt)))
 
   -- a refusal gives its number and its place, "with no verdict or counts"
   pub refusal_told : (r : Refusal) → dated_refusal p w days terms (length order) (length table) ≡ some r
       → (code ≡ refusal_number r) × (told ≡ refusal_place r ∷ 0 ∷ 0 ∷ 0 ∷ [])
   refusal_told r e =
-      let q = (termed.refused-exactly p w days terms order order' table table' call.answer call.promise r).1 e in
+      let q = (termed.refused_exactly p w days terms order order' table table' call.answer call.promise r).1 e in
       (call.code_is ∙ ap judged_code q, call.told_is ∙ ap judged_told q)
 
   module _ (ready : TermsJudgeable p w days terms (length order) (length table)) where
@@ -66,12 +66,12 @@ module _ (p : Profile) (w days terms order order' table table' : List ℕ) (code
 
     pub verdict_told : (verdict_in told ≡ 0) ⊎ (verdict_in told ≡ 1)
     verdict_told = ⊎_elim (λ e. inl ((told_as 0).1 e)) (λ e. inr ((told_as 1).1 e))
-        (termed.verdict-cases p w days terms order order' table table' unrefused call.answer call.promise)
+        (termed.verdict_cases p w days terms order order' table table' unrefused call.answer call.promise)
 
     -- "The log gets 'no order' exactly when no log reachable from it by exchanges is accepted."
     pub no_order_told : (verdict_in told ≡ 0) ↔ ((v : List ℕ) → WitnessBy (with_terms p terms) (events w days) v → ⊥)
     no_order_told =
-        let h = termed.no-order-exactly p w days terms order order' table table' unrefused call.answer call.promise in
+        let h = termed.no_order_exactly p w days terms order order' table table' unrefused call.answer call.promise in
         (λ e. h.0 ((told_as 0).0 e), λ f. (told_as 0).1 (h.1 f))
 
     -- "Otherwise the order returned is reachable from it, accepted, and earlier in letter order than every other log that is both"; the other bytes stay
@@ -79,7 +79,7 @@ module _ (p : Profile) (w days terms order order' table table' : List ℕ) (code
         → ((x : List ℕ) × (map letter_of x ≡ take (length w) order') × WitnessBy (with_terms p terms) (events w days) x)
         × ((u : List ℕ) → WitnessBy (with_terms p terms) (events w days) u → map letter_of u ≢ take (length w) order' → Earlier (take (length w) order') (map letter_of u))
         × (drop (length w) order' ≡ drop (length w) order)
-    order_told e = termed.order-exactly p w days terms order order' table table' unrefused call.answer call.promise ((told_as 1).0 e)
+    order_told e = termed.order_exactly p w days terms order order' table table' unrefused call.answer call.promise ((told_as 1).0 e)
 
 -- "two such logs being judged with the same terms", reachable from each other: the same verdict, P, looks and order, whatever buffers each was lent
 module _ (p : Profile) (terms v days₁ w days₂ order₁ order₁' table₁ table₁' order₂ order₂' table₂ table₂' : List ℕ) (code₁ code₂ : ℕ) (told₁ told₂ : List ℕ)
@@ -91,7 +91,7 @@ module _ (p : Profile) (terms v days₁ w days₂ order₁ order₁' table₁ ta
   told_same same =
       let a = unrefused p v days₁ terms order₁ order₁' table₁ table₁' code₁ told₁ g first in
       let b = unrefused p w days₂ terms order₂ order₂' table₂ table₂' code₂ told₂ h second in
-      let x = termed.judged-same p terms v days₁ w days₂ order₁ order₁' table₁ table₁' order₂ order₂' table₂ table₂' a b same g.answer h.answer g.promise h.promise in
+      let x = termed.judged_same p terms v days₁ w days₂ order₁ order₁' table₁ table₁' order₂ order₂' table₂ table₂' a b same g.answer h.answer g.promise h.promise in
       let t = told_equal g.answer h.answer code₁ code₂ told₁ told₂ g.code_is g.told_is h.code_is h.told_is
       (g.promise.refused ∙ a) (h.promise.refused ∙ b) x.0 x.1 x.2 in
       (t.0, t.1, t.2, λ e. x.3 ((told_as p v days₁ terms order₁ order₁' table₁ table₁' code₁ told₁ g first 1).0 e))

@@ -46,13 +46,13 @@ module _ (p : Profile) (visible : ℕ) (w order order' table table' : List ℕ) 
       let P = view_prefixes p visible w in
       let z = code_ten call.answer code told call.code_is call.told_is in
       let a = ten_exactly (view_refusals p visible w (length order) (length table)) P (length table) (or_none (full_table P (length table))) h in
-      let r = viewed.refused-exactly p visible w order order' table table' call.answer call.promise FullTable in
+      let r = viewed.refused_exactly p visible w order order' table table' call.answer call.promise FullTable in
       (λ e. a.0 (r.0 (z.0 e)), λ lt. z.1 (r.1 (a.1 lt)))
 
   -- a refusal gives its number and its place, "with no verdict or counts"
   pub refusal_told : (r : Refusal) → view_refusal p visible w (length order) (length table) ≡ some r → (code ≡ refusal_number r) × (told ≡ refusal_place r ∷ 0 ∷ 0 ∷ 0 ∷ [])
   refusal_told r e =
-      let q = (viewed.refused-exactly p visible w order order' table table' call.answer call.promise r).1 e in
+      let q = (viewed.refused_exactly p visible w order order' table table' call.answer call.promise r).1 e in
       (call.code_is ∙ ap judged_code q, call.told_is ∙ ap judged_told q)
 
   module _ (ready : Viewable p visible w (length order) (length table)) where
@@ -67,12 +67,12 @@ module _ (p : Profile) (visible : ℕ) (w order order' table table' : List ℕ) 
 
     pub verdict_told : (verdict_in told ≡ 0) ⊎ (verdict_in told ≡ 1)
     verdict_told = ⊎_elim (λ e. inl ((told_as 0).1 e)) (λ e. inr ((told_as 1).1 e))
-        (viewed.verdict-cases p visible w order order' table table' call.answer call.promise unrefused)
+        (viewed.verdict_cases p visible w order order' table table' call.answer call.promise unrefused)
 
     -- "Verdict 1 means that some list of letters … has a visible part reachable from that part": verdict 0 exactly when none does
     pub no_order_told : (verdict_in told ≡ 0) ↔ ((u : List ℕ) → Shown p visible w u → ⊥)
     no_order_told =
-        let h = viewed.no-order-exactly p visible w order order' table table' call.answer call.promise unrefused in
+        let h = viewed.no_order_exactly p visible w order order' table table' call.answer call.promise unrefused in
         (λ e. h.0 ((told_as 0).0 e), λ f. (told_as 0).1 (h.1 f))
 
     -- "The order is the earliest such visible part"; the other bytes stay
@@ -80,7 +80,7 @@ module _ (p : Profile) (visible : ℕ) (w order order' table table' : List ℕ) 
         → Shown p visible w (take (length (seen visible w)) order')
         × ((u : List ℕ) → Shown p visible w u → u ≢ take (length (seen visible w)) order' → Earlier (take (length (seen visible w)) order') u)
         × (drop (length (seen visible w)) order' ≡ drop (length (seen visible w)) order)
-    order_told e = viewed.order-exactly p visible w order order' table table' call.answer call.promise unrefused ((told_as 1).0 e)
+    order_told e = viewed.order_exactly p visible w order order' table table' call.answer call.promise unrefused ((told_as 1).0 e)
 
 -- "with one mask for both logs": logs whose visible parts are reachable from each other get the same verdict, P, looks and order, whatever buffers each was lent
 module _ (p : Profile) (visible : ℕ) (v w order₁ order₁' table₁ table₁' order₂ order₂' table₂ table₂' : List ℕ) (code₁ code₂ : ℕ) (told₁ told₂ : List ℕ)
@@ -92,7 +92,7 @@ module _ (p : Profile) (visible : ℕ) (v w order₁ order₁' table₁ table₁
   told_same same =
       let a = unrefused p visible v order₁ order₁' table₁ table₁' code₁ told₁ g first in
       let b = unrefused p visible w order₂ order₂' table₂ table₂' code₂ told₂ h second in
-      let x = viewed.viewed-same p visible v w order₁ order₁' table₁ table₁' order₂ order₂' table₂ table₂' g.answer h.answer g.promise h.promise a b same in
+      let x = viewed.viewed_same p visible v w order₁ order₁' table₁ table₁' order₂ order₂' table₂ table₂' g.answer h.answer g.promise h.promise a b same in
       let t = told_equal g.answer h.answer code₁ code₂ told₁ told₂
       g.code_is g.told_is h.code_is h.told_is
       (answered p visible v order₁ order₁' table₁ table₁' code₁ told₁ g first) (answered p visible w order₂ order₂' table₂ table₂' code₂ told₂ h second)
@@ -100,7 +100,7 @@ module _ (p : Profile) (visible : ℕ) (v w order₁ order₁' table₁ table₁
         t.0,
         t.1,
         t.2,
-        λ e. viewed.viewed-order-same p visible v w order₁ order₁' table₁ table₁' order₂ order₂' table₂ table₂' g.answer h.answer g.promise h.promise a b same
+        λ e. viewed.viewed_order_same p visible v w order₁ order₁' table₁ table₁' order₂ order₂' table₂ table₂' g.answer h.answer g.promise h.promise a b same
             ((told_as p visible v order₁ order₁' table₁ table₁' code₁ told₁ g first 1).0 e),
       )
 
