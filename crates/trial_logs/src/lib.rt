@@ -6,5 +6,5 @@ pub mod judging;
 pub mod listing;
 pub mod orders;
 pub mod paths;
-pub mod places;
+pub mod place_keys;
 pub mod prefixes;
