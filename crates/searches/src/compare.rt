@@ -5,7 +5,7 @@ use trial::cells::{minus, plus};
 use trial::record_numbers::record_at;
 use trial::tally;
 use trial::tally::Tally;
-use trial_logs::places::place_of;
+use trial_logs::place_keys::place_of;
 
 // Counters, in the order in which they are printed.
 pub const TABLES: usize = 0;

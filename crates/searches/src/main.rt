@@ -14,7 +14,7 @@ use trial::random::{below, put_log, put_masks, seed_of};
 use trial::shapes::shape_of;
 use trial::tally;
 use trial::tally::Tally;
-use trial_logs::places::put_keys;
+use trial_logs::place_keys::put_keys;
 
 // Builds the table of a log, with the profile that accepts everything; every vector of the box where there are up to three letters, else those beside each record.
 fn compare_log(k: usize, masks: &[u16], log: &[u8], t: Tally) -> Tally {

@@ -2,7 +2,7 @@
 use counts::Counts;
 use trial::cells::{at8, byte, minus, plus, put8, quotient, rest, times};
 use trial::record_numbers::count_of;
-use trial_logs::places::weight;
+use trial_logs::place_keys::weight;
 
 // Vector v of the box in which each letter below k has from 0 to one more than record `last` counts of it.
 pub fn put_box(table: &[u32], last: usize, k: usize, v: usize, vector: &mut [u8]) {

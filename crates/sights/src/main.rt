@@ -11,7 +11,7 @@ use trial::tally;
 use trial::tally::Tally;
 use trial_views::edges::compare_edges;
 use trial_views::lists::{View, put_visible};
-use trial_views::view::{VIEWS, compare_judge, compare_secret, compare_view, mask_of};
+use trial_views::one_view::{VIEWS, compare_judge, compare_secret, compare_view, mask_of};
 
 // The length up to which all lists are tried.
 fn longest_of(k: usize) -> usize {

@@ -1,6 +1,6 @@
 // What a log is to get, by the listing of all reachable logs; with terms, of those that exchanges within terms reach.
+use crate::order_swaps::swaps;
 use crate::ranks::{NONE, Ranks, rank, swaps_after};
-use crate::swaps::swaps;
 use profile::Shape;
 use trial::cells::{copy8, one32, part8};
 use trial_logs::listing::{earlier, list, row};

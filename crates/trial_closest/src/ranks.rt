@@ -1,7 +1,7 @@
 // "Rank all pairs of a prefix and a state in its forward set by the fewest swaps with which that prefix, brought to the front, leads to that state": every
 // order of every prefix, put before the other events as recorded, with its swaps. What an event taken costs is not used. Events are numbered by their places
 // in the log, and each has a mask of the events that may pass it.
-use crate::swaps::{put_behind, swaps};
+use crate::order_swaps::{put_behind, swaps};
 use profile::Shape;
 use trial::cells::{bit, copy8, minus, one32, part8, plus, wide32};
 use trial_logs::listing::{list, row};

@@ -1,4 +1,6 @@
 // The judge for grammars against a listing: every reachable log, and for each the names from which it can be derived.
+#![tactic(auto)]
+
 pub mod cases;
 pub mod compare;
 pub mod derivations;

@@ -1,7 +1,7 @@
 // Build and judge against the listing: the verdict, the earliest accepted listed log, P, looks, every record, and the numbers and bytes that stay.
 use crate::listing::{list, row};
 use crate::paths::{backward, earliest_accepted, forward};
-use crate::places::{key_of, place_of, put_keys};
+use crate::place_keys::{key_of, place_of, put_keys};
 use crate::prefixes::{closed, look_count, marks_of, take_events};
 use profile::Shape;
 use trial::answers::{Answer, NONE, is_refusal, is_unchanged, is_verdict};

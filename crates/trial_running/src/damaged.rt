@@ -1,7 +1,7 @@
 // Calls on a record or a table that no call left: each answers, is refused as the record says, and writes nothing outside the lent part.
 use crate::lent::{event_in, question_in};
-use crate::records::room;
 use crate::run::{ANSWER, DAMAGED};
+use crate::run_records::room;
 use profile::Shape;
 use trial::calls::NUMBERS;
 use trial::cells::{byte, plus, put32, untouched32};

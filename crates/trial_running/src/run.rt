@@ -2,7 +2,7 @@
 // the record and the table are compared with the listing, and after each event the judge's answer for the events taken.
 use crate::arrivals::put_arrivals;
 use crate::lent::{event_in, question_in, start_in};
-use crate::records::{accepted, room, table_right};
+use crate::run_records::{accepted, room, table_right};
 use profile::Shape;
 use trial::answers::is_verdict;
 use trial::calls::judge_in;

@@ -17,7 +17,7 @@ use trial::tally;
 use trial::tally::Tally;
 use trial_logs::listing::{list, one_way, row};
 use trial_logs::paths::{backward, earliest_accepted, forward};
-use trial_logs::places::{key_of, place_of};
+use trial_logs::place_keys::{key_of, place_of};
 use trial_logs::prefixes::{closed, is_prefix, look_count, marks_of, prefix_count, take_events};
 
 // Writes the orders of the events that are marked, or of those that are not, as letters; how many they are.

@@ -1,4 +1,6 @@
 // The judge with terms against a listing: exchanges of events that are in one term, log by log.
+#![tactic(auto)]
+
 pub mod calendar;
 pub mod dated;
 pub mod exchanges;

@@ -1,6 +1,6 @@
 // Refusals of a view, one at a time and in pairs, and the edges of its buffers, by hand: Alt of document 01.
 use crate::lent::view_in;
-use crate::view::{EDGE, EDGES, is_cleared};
+use crate::one_view::{EDGE, EDGES, is_cleared};
 use profile::Shape;
 use trial::answers::{is_refusal, is_verdict};
 use trial::cells::{GUARD8, GUARD32, part8, part16, part32, untouched8, untouched32};

@@ -10,7 +10,7 @@ use trial::cells::{
 use trial::record_numbers::{BACKWARD, FORWARD, RECORD, record_at, set_of, total_of};
 use trial::tally;
 use trial::tally::Tally;
-use trial_logs::places::{key_of, place_of, put_keys};
+use trial_logs::place_keys::{key_of, place_of, put_keys};
 use trial_logs::prefixes::{closed, look_count, marks_of, prefix_count};
 
 // Counters, in the order in which they are printed.
