@@ -3,6 +3,8 @@
 // Y is byte 255; k 99 is the largest number.
 //
 //     02 0600 11 0017 17(01)
+#![tactic(auto)]
+
 use trial::calls::table_part;
 use trial::cells::{GUARD32, at8, at32, byte, minus, part8, part32, plus, put_run, times};
 use trial::tally;

@@ -1,4 +1,6 @@
 // Random longer texts, with logs that are made for them and logs at random.
+#![tactic(auto)]
+
 mod typing;
 
 use crate::typing::put_text;
