@@ -1,5 +1,5 @@
 // The file of a log: what the writer writes, byte by byte, what the reader makes of it, and the log's events.
-use crate::events::compare_events;
+use crate::read_events::compare_events;
 use crate::reading::compare_file;
 use crate::written::{bytes_right, file_size};
 use logfile::Reading;

@@ -1,5 +1,7 @@
 // Logs about 255 letters, where a count leaves one byte, and up to 4,000, which every call takes; 4,001 letters are refused by 7. Logs too long to list,
 // whose records have a closed form.
+#![tactic(auto)]
+
 use trial::answers::{Answer, NONE, is_refusal, is_unchanged, is_verdict, of_compared};
 use trial::calls::{BYTES, NUMBERS, build_in, first_order_in, judge_in, table_part};
 use trial::cells::{

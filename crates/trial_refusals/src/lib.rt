@@ -3,6 +3,8 @@
 // Bit i of a combination is a damage that is refused by 2, 4, 6, 7, 8, 9 or 10, but for bit 2: a pair that may be exchanged one way only, which nothing
 // refuses. The variant chooses its form. The call without a damage is that of case M8: three letters, a and b, b and c independent, the log cab, six
 // prefixes.
+#![tactic(auto)]
+
 use profile::Shape;
 use trial::answers::{Answer, is_refusal, is_unchanged, of_compared};
 use trial::calls::{build_in, first_order_in, judge_in, write_in};
