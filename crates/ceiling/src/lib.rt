@@ -5,7 +5,7 @@ ghost use Rattle.std.specs.Prelude.{◌≡◌};
 ghost use Rattle.ceiling.specs.Ceiling.{bounding};
 
 use ceilings::HIGHEST_CEILING;
-use profile::{Check, Refusal};
+use profile::Refusal;
 
 // The answer: the ceiling, or why there is none.
 #[derive(Clone, Copy)]
@@ -19,11 +19,11 @@ pub fn bound(k: usize, masks: &[u16], log: &[u8], groups: &[u16]) -> Bounded
     ensures { result ≡ bounding k masks.now log.now groups.now }
 {
     let relation = checks::check_relation(k, masks);
-    if let Check::Bad(r) = relation {
+    if let Err(r) = relation {
         return Bounded::Refused(r);
     }
     let letters = logcheck::check_log(k, log);
-    if let Check::Bad(r) = letters {
+    if let Err(r) = letters {
         return Bounded::Refused(r);
     }
     if grouping::groups_refused(k, masks, groups) {

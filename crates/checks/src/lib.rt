@@ -4,11 +4,11 @@
 ghost use Rattle.std.specs.Prelude.{◌||◌, ◌≡◌};
 ghost use Rattle.profile.specs.Lists.{any};
 ghost use Rattle.profile.specs.Automata.{profile_of};
-ghost use Rattle.profile.specs.Refusals.{bit_from, checked, letters_out_of_range, lowest, mask_bit, profile_refusals, relation_refusals};
+ghost use Rattle.profile.specs.Refusals.{bit_from, refused_by, letters_out_of_range, lowest, mask_bit, profile_refusals, relation_refusals};
 ghost use Rattle.profile.specs.Refusals.{profile_out_of_range as profile_out_of_range_by};
 
 use profile::limits::{MOST_LETTERS, MOST_STATES};
-use profile::{Check, Refusal, Shape};
+use profile::{Refusal, Shape};
 
 // 2: k out of range, or the masks not exactly k long.
 fn relation_out_of_range(k: usize, masks: &[u16]) -> bool
@@ -99,33 +99,33 @@ fn states_refused(finals: u32, moves: &[u32], s: usize) -> bool
 }
 
 // The lowest of refusals 2 and 4 that applies to k and the masks.
-pub fn check_relation(k: usize, masks: &[u16]) -> Check
-    ensures { checked result ≡ lowest (relation_refusals k masks.now) }
+pub fn check_relation(k: usize, masks: &[u16]) -> Result<(), Refusal>
+    ensures { refused_by result ≡ lowest (relation_refusals k masks.now) }
 {
     if relation_out_of_range(k, masks) {
-        Check::Bad(Refusal::OutOfRange)
+        Err(Refusal::OutOfRange)
     } else if mask_refused(k, masks) {
-        Check::Bad(Refusal::MaskBit)
+        Err(Refusal::MaskBit)
     } else {
-        Check::Good
+        Ok(())
     }
 }
 
 // The lowest of refusals 2, 4 and 6 that applies to a profile.
-pub fn check_profile(shape: Shape, masks: &[u16], moves: &[u32]) -> Check
-    ensures { checked result ≡ lowest (profile_refusals (profile_of shape masks.now moves.now)) }
+pub fn check_profile(shape: Shape, masks: &[u16], moves: &[u32]) -> Result<(), Refusal>
+    ensures { refused_by result ≡ lowest (profile_refusals (profile_of shape masks.now moves.now)) }
 {
     let k = shape.k;
     let s = shape.s;
     let finals = shape.finals;
     if profile_out_of_range(shape, masks, moves) {
-        return Check::Bad(Refusal::OutOfRange);
+        return Err(Refusal::OutOfRange);
     }
     if mask_refused(k, masks) {
-        return Check::Bad(Refusal::MaskBit);
+        return Err(Refusal::MaskBit);
     }
     if states_refused(finals, moves, s) {
-        return Check::Bad(Refusal::StateBit);
+        return Err(Refusal::StateBit);
     }
-    Check::Good
+    Ok(())
 }

@@ -7,7 +7,7 @@ ghost use Rattle.profile.specs.Orders.{project, same?};
 ghost use Rattle.profile.specs.Traces.{independent};
 ghost use Rattle.comparison.specs.Comparison.{comparison, pair_agrees?};
 
-use profile::{Check, Refusal};
+use profile::Refusal;
 
 // The answer of a comparison; a refusal has the log that it is about, 1 or 2, and 0 for none.
 #[derive(Clone, Copy)]
@@ -101,15 +101,15 @@ pub fn same(k: usize, masks: &[u16], first: &[u8], second: &[u8]) -> Compared
     ensures { result ≡ comparison k masks.now first.now second.now }
 {
     let relation = checks::check_relation(k, masks);
-    if let Check::Bad(r) = relation {
+    if let Err(r) = relation {
         return Compared::Refused(r, 0);
     }
     let one = logcheck::check_log(k, first);
-    if let Check::Bad(r) = one {
+    if let Err(r) = one {
         return Compared::Refused(r, 1);
     }
     let two = logcheck::check_log(k, second);
-    if let Check::Bad(r) = two {
+    if let Err(r) = two {
         return Compared::Refused(r, 2);
     }
     if all_agree(k, masks, first, second) {

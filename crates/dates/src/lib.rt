@@ -2,11 +2,11 @@
 #![tactic(auto)]
 
 ghost use Rattle.std.specs.Prelude.{◌≡◌, ◌++◌, map, ◌<◌, length, drop, get_or};
-ghost use Rattle.profile.specs.Refusals.{checked, lowest};
+ghost use Rattle.profile.specs.Refusals.{refused_by, lowest};
 ghost use Rattle.terms.specs.Terms.{bad_term, events as events_of, in_term?, no_term, rise?, rises?, term_count, term_of as term_by, term_refusals};
 ghost use Rattle.terms.specs.Coded.{Coding, code_of};
 
-use profile::{Check, Refusal};
+use profile::Refusal;
 use terms::{MOST_TERMS, TERM_BOUND};
 
 // What stands at place i; 0 past the end.
@@ -108,22 +108,22 @@ fn has_day_outside(days: &[u32], terms: &[u32]) -> bool
 }
 
 // The days and terms of a log: refused by 14, 15 and 16.
-pub fn check_terms(log: &[u8], days: &[u32], terms: &[u32]) -> Check
-    ensures { checked result ≡ lowest (term_refusals log.now days.now terms.now) }
+pub fn check_terms(log: &[u8], days: &[u32], terms: &[u32]) -> Result<(), Refusal>
+    ensures { refused_by result ≡ lowest (term_refusals log.now days.now terms.now) }
 {
     if days.len() != log.len() {
-        return Check::Bad(Refusal::BadDay);
+        return Err(Refusal::BadDay);
     }
     if days::has_bad_day(days) {
-        return Check::Bad(Refusal::BadDay);
+        return Err(Refusal::BadDay);
     }
     if terms_bad(terms) {
-        return Check::Bad(Refusal::BadTerm);
+        return Err(Refusal::BadTerm);
     }
     if has_day_outside(days, terms) {
-        return Check::Bad(Refusal::NoTerm);
+        return Err(Refusal::NoTerm);
     }
-    Check::Good
+    Ok(())
 }
 
 // Puts the code of each event: its letter and its term in one byte.

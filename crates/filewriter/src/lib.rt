@@ -8,7 +8,7 @@ ghost use Rattle.profile.specs.Automata.{profile_of};
 ghost use Rattle.filewriter.specs.Written.{Fit, Writes, file_bytes, low_bytes, trailer_of};
 
 use profile::limits::TRAILER_LENGTH;
-use profile::{Check, Refusal, Shape};
+use profile::{Refusal, Shape};
 
 // The answer of the writer: why the call is refused, or the file's length.
 #[derive(Clone, Copy)]
@@ -125,11 +125,11 @@ pub fn write_file(shape: Shape, masks: &[u16], moves: &[u32], log: &[u8], out: &
 {
     let k = shape.k;
     let of_profile = checks::check_profile(shape, masks, moves);
-    if let Check::Bad(r) = of_profile {
+    if let Err(r) = of_profile {
         return Writing::Refused(r);
     }
     let of_log = logcheck::check_log(k, log);
-    if let Check::Bad(r) = of_log {
+    if let Err(r) = of_log {
         return Writing::Refused(r);
     }
     let size = 2 * masks.len() + 4 * moves.len() + log.len() + TRAILER_LENGTH;

@@ -5,7 +5,7 @@ ghost use Rattle.std.specs.Prelude.{◌*◌, ◌≤◌, length};
 ghost use Rattle.pairs.specs.Pairs.{Setting};
 ghost use Rattle.grammar_judge.specs.GrammarJudge.{Promise, VerdictIs};
 
-use profile::{Check, Refusal};
+use profile::Refusal;
 use table::Built;
 use verdict::Judged;
 
@@ -60,14 +60,14 @@ pub fn judge(
     ensures { Promise k masks.now names rules.now log.now order.old order.new work.old work.new sets.old sets.new result }
 {
     let relation = checks::check_relation(k, masks);
-    if let Check::Bad(r) = relation {
+    if let Err(r) = relation {
         return Judged::Refused(r);
     }
     if rules::bad_rules(k, names, rules) {
         return Judged::Refused(Refusal::BadRule);
     }
     let letters = logcheck::check_log(k, log);
-    if let Check::Bad(r) = letters {
+    if let Err(r) = letters {
         return Judged::Refused(r);
     }
     if order.len() < log.len() {

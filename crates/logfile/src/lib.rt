@@ -3,14 +3,14 @@
 
 ghost use Rattle.std.specs.Prelude.{◌≡◌, false, ◌++◌, ◌+◌, ◌*◌, ◌≤◌, length, get_or, drop};
 ghost use Rattle.profile.specs.Limits.{finals_byte};
-ghost use Rattle.profile.specs.Refusals.{checked, lowest};
+ghost use Rattle.profile.specs.Refusals.{refused_by, lowest};
 ghost use Rattle.logfile.specs.Files.{Reads, content_refusals, distance_out_of_range, field, file_log, file_out_of_range, file_profile, file_refusals, file_shape, half, log_length, log_location, log_part_of, numbers_from, numbers_out_of_range, outside, section, trailer, word};
 
 use profile::limits::{
     FINALS_BYTE, LENGTH_BYTE, LENGTH_HIGH_BYTE, LETTERS_BYTE, LOG_BYTE, MASKS_BYTE, MOST_LETTERS,
     MOST_MOVES, MOST_STATES, MOVES_BYTE, START_BYTE, STATES_BYTE, TRAILER_LENGTH, ZERO_BYTE,
 };
-use profile::{Check, Refusal, Shape};
+use profile::{Refusal, Shape};
 
 // Where the log section of a file stands: why the file is refused, or the section's first place and its length.
 #[derive(Clone, Copy)]
@@ -211,9 +211,9 @@ fn fill_moves(f: &[u8], at: usize, n: usize, moves: &mut [u32])
 }
 
 // The lowest of refusals 4 and 6 to 8 that applies to a file whose sections stand inside it.
-fn check_content(f: &[u8]) -> Check
+fn check_content(f: &[u8]) -> Result<(), Refusal>
     requires { (file_out_of_range f.now ≡ false) × (distance_out_of_range f.now ≡ false) }
-    ensures { checked result ≡ lowest (content_refusals (file_profile f.now) (file_log f.now)) }
+    ensures { refused_by result ≡ lowest (content_refusals (file_profile f.now) (file_log f.now)) }
 {
     let shape = shape_of(f);
     let k = shape.k;
@@ -224,8 +224,8 @@ fn check_content(f: &[u8]) -> Check
     fill_masks(f, section_at(f, MASKS_BYTE), k, &mut masks);
     fill_moves(f, section_at(f, MOVES_BYTE), count, &mut moves);
     let of_profile = checks::check_profile(shape, &masks[0..k], &moves[0..count]);
-    if let Check::Bad(r) = of_profile {
-        return Check::Bad(r);
+    if let Err(r) = of_profile {
+        return Err(r);
     }
     let from = section_at(f, LOG_BYTE);
     let end = from + length_at(f);
@@ -233,17 +233,17 @@ fn check_content(f: &[u8]) -> Check
 }
 
 // The lowest of refusals 1 to 8 that applies to a file.
-fn check_file(f: &[u8]) -> Check
-    ensures { checked result ≡ lowest (file_refusals f.now) }
+fn check_file(f: &[u8]) -> Result<(), Refusal>
+    ensures { refused_by result ≡ lowest (file_refusals f.now) }
 {
     if f.len() < TRAILER_LENGTH {
-        return Check::Bad(Refusal::ShortFile);
+        return Err(Refusal::ShortFile);
     }
     if range_refused(f) {
-        return Check::Bad(Refusal::OutOfRange);
+        return Err(Refusal::OutOfRange);
     }
     if distance_refused(f) {
-        return Check::Bad(Refusal::Distance);
+        return Err(Refusal::Distance);
     }
     check_content(f)
 }
@@ -253,7 +253,7 @@ pub fn locate_log(file: &[u8]) -> Located
     ensures { result ≡ log_location file.now }
 {
     let check = check_file(file);
-    if let Check::Bad(r) = check {
+    if let Err(r) = check {
         return Located::Refused(r);
     }
     Located::At(section_at(file, LOG_BYTE), length_at(file))
@@ -264,7 +264,7 @@ pub fn log_part(file: &[u8]) -> &[u8]
     ensures { result.now ≡ log_part_of file.now }
 {
     let check = check_file(file);
-    if let Check::Bad(_) = check {
+    if let Err(_) = check {
         return &file[0..0];
     }
     let from = section_at(file, LOG_BYTE);
@@ -277,7 +277,7 @@ pub fn read_file(file: &[u8], masks: &mut [u16], moves: &mut [u32]) -> Reading
     ensures { Reads file.now masks.old masks.new moves.old moves.new result }
 {
     let check = check_file(file);
-    if let Check::Bad(r) = check {
+    if let Err(r) = check {
         return Reading::Refused(r);
     }
     let shape = shape_of(file);

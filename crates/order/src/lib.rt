@@ -11,7 +11,7 @@ ghost use Rattle.events.specs.Events.{all_keepers, comes_next?};
 ghost use Rattle.order.specs.Order.{Placed, first_letters, ordered_buffer, ordering};
 
 use profile::limits::{MOST_LETTERS, MOST_PLACES, Place};
-use profile::{Check, Refusal};
+use profile::Refusal;
 
 // The answer of a first order.
 #[derive(Clone, Copy)]
@@ -111,11 +111,11 @@ pub fn first_order(k: usize, masks: &[u16], log: &[u8], out: &mut [u8]) -> Order
         × (out.new ≡ ordered_buffer k masks.now log.now out.old) }
 {
     let relation = checks::check_relation(k, masks);
-    if let Check::Bad(r) = relation {
+    if let Err(r) = relation {
         return Ordered::Refused(r);
     }
     let letters = logcheck::check_log(k, log);
-    if let Check::Bad(r) = letters {
+    if let Err(r) = letters {
         return Ordered::Refused(r);
     }
     if out.len() < log.len() {

@@ -1,5 +1,5 @@
 -- Document 01, "Refused because of the input" and "… of the state of lent buffers": the refusals, the condition of each, and the lowest that applies.
-use Rattle.std.specs.Prelude.{Bool, true, false, not, ◌||◌, List, [], ◌∷◌, ◌++◌, map, ℕ, ◌+◌, ◌*◌, ◌^◌, eqb, ltb, leb, length, get_or}
+use Rattle.std.specs.Prelude.{Result, Ok, Err, Bool, true, false, not, ◌||◌, List, [], ◌∷◌, ◌++◌, map, ℕ, ◌+◌, ◌*◌, ◌^◌, eqb, ltb, leb, length, get_or}
 use Rattle.std.proofs.Math.Option.{Option, none, some}
 pub use Rattle.profile.specs.Limits.{longest}
 use Rattle.profile.specs.Limits.{most_letters, most_states}
@@ -8,8 +8,6 @@ use Rattle.profile.specs.Traces.{independent}
 use Rattle.profile.specs.Automata.{Profile}
 use Rattle.profile.specs.Rules.{plain, prefixes_by}
 use Rattle.profile.specs.Tables.{capacity, layout}
-use Rattle.profile.specs.declared.Check.{Check}
-use Rattle.profile.specs.declared.Check.TheVariants.{Good, Bad}
 use Rattle.profile.specs.declared.Refusal.{Refusal}
 use Rattle.profile.specs.declared.Refusal.TheVariants.{ShortFile, OutOfRange, Distance, MaskBit, StateBit, LongLog, BadLetter, ShortBuffer, FullTable, BadText, DeepText, LongText, BadDay, BadTerm, NoTerm, ShortCosts, BadGroups, HighCeiling, ViewBit, BadRule, ShortSets}
 
@@ -107,10 +105,10 @@ module _ {A : Type 0} where
   lowest [] = none
   lowest (c ∷ l) = elim c.0 [ true ↦ some c.1 | false ↦ lowest l ]
 
--- the refusal of a check; none where it is good
-abbrev pub checked : Check → Option Refusal
-checked Good = none
-checked (Bad r) = some r
+-- the refusal that an answer gives, a check's or a call's; none where it gives none
+abbrev pub refused_by : {T : Type 0} → Result T Refusal → Option Refusal
+refused_by (Ok t) = none
+refused_by (Err r) = some r
 
 -- the conditions of a relation, of a profile and of a log, by rising number
 abbrev pub relation_refusals : ℕ → List ℕ → List (Bool × Refusal)

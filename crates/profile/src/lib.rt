@@ -35,10 +35,3 @@ pub enum Refusal {
     BadRule,
     ShortSets,
 }
-
-// The answer of a check: nothing is refused, or the lowest refusal that applies.
-#[derive(Clone, Copy)]
-pub enum Check {
-    Good,
-    Bad(Refusal),
-}

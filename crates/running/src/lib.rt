@@ -5,12 +5,12 @@ ghost use Rattle.std.specs.Prelude.{◌≡◌, [], ◌∷◌, ◌++◌, ◌-◌,
 ghost use Rattle.profile.specs.Limits.{most_states};
 ghost use Rattle.profile.specs.Automata.{meets, profile_of};
 ghost use Rattle.profile.specs.Tables.{layout, packed, record_length};
-ghost use Rattle.profile.specs.Refusals.{checked, lowest, profile_refusals};
+ghost use Rattle.profile.specs.Refusals.{refused_by, lowest, profile_refusals};
 ghost use Rattle.profile.specs.declared.Refusal.TheVariants.{FullTable};
 ghost use Rattle.records.specs.Records.{forward_at, last_at, put_record};
 ghost use Rattle.running.specs.Running.{QuestionPromise, StartPromise};
 
-use profile::{Check, Refusal, Shape};
+use profile::{Refusal, Shape};
 
 // The record of a running judge: P, and the number of events taken.
 #[derive(Clone, Copy)]
@@ -52,17 +52,23 @@ pub enum Told {
 }
 
 // The lowest refusal of a start or a question: 2, 4, 6, or 10 where `prefixes` records do not fit.
-fn check_question(shape: Shape, masks: &[u16], moves: &[u32], prefixes: usize, room: usize) -> Check
-    ensures { checked result ≡ lowest (profile_refusals (profile_of shape masks.now moves.now) ++ ((ltb room prefixes, FullTable) ∷ [])) }
+fn check_question(
+    shape: Shape,
+    masks: &[u16],
+    moves: &[u32],
+    prefixes: usize,
+    room: usize,
+) -> Result<(), Refusal>
+    ensures { refused_by result ≡ lowest (profile_refusals (profile_of shape masks.now moves.now) ++ ((ltb room prefixes, FullTable) ∷ [])) }
 {
     let profile = checks::check_profile(shape, masks, moves);
-    if let Check::Bad(r) = profile {
-        return Check::Bad(r);
+    if let Err(r) = profile {
+        return Err(r);
     }
     if room < prefixes {
-        return Check::Bad(Refusal::FullTable);
+        return Err(Refusal::FullTable);
     }
-    Check::Good
+    Ok(())
 }
 
 // Puts the record of the empty prefix, with the start state, as the first; its backward number stays.
@@ -81,7 +87,7 @@ pub fn start(shape: Shape, masks: &[u16], moves: &[u32], table: &mut [u32]) -> S
 {
     let room = records::capacity(table);
     let check = check_question(shape, masks, moves, 1, room);
-    if let Check::Bad(r) = check {
+    if let Err(r) = check {
         return Started::Refused(r);
     }
     put_empty(table, shape.start);
@@ -109,7 +115,7 @@ pub fn question(held: Running, shape: Shape, masks: &[u16], moves: &[u32], table
     let prefixes = held.prefixes;
     let taken = held.taken;
     let check = check_question(shape, masks, moves, prefixes, records::capacity(table));
-    if let Check::Bad(r) = check {
+    if let Err(r) = check {
         return Told::Refused(r);
     }
     let verdict = verdict_at(table, prefixes, shape.finals);

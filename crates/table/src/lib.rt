@@ -9,7 +9,7 @@ ghost use Rattle.forward.specs.Forward.{Finds};
 
 use forward::Filled as Pass;
 use profile::limits::{MOST_LETTERS, MOST_PLACES, Place, RECORD_NUMBERS};
-use profile::{Check, Refusal, Shape};
+use profile::{Refusal, Shape};
 
 // The answer of building: P and looks, or the refusal.
 #[derive(Clone, Copy)]
@@ -85,12 +85,12 @@ pub fn build(shape: Shape, masks: &[u16], moves: &[u32], log: &[u8], table: &mut
     ensures { Promise (profile_of shape masks.now moves.now) log.now table.old table.new result }
 {
     let profile = checks::check_profile(shape, masks, moves);
-    if let Check::Bad(r) = profile {
+    if let Err(r) = profile {
         return Built::Refused(r);
     }
     let k = shape.k;
     let letters = logcheck::check_log(k, log);
-    if let Check::Bad(r) = letters {
+    if let Err(r) = letters {
         return Built::Refused(r);
     }
     let room = records::capacity(table);

@@ -12,9 +12,8 @@ use lib.Dec.{leb, ltb}
 use lib.ListN.{length}
 use Rattle.profile.specs.Automata.{Profile}
 use Rattle.profile.specs.Tables.{capacity, layout}
-use Rattle.profile.specs.Refusals.{checked, full_table, longest, lowest, profile_refusals}
-use Rattle.profile.specs.declared.Check.{Check}
-use Rattle.profile.specs.declared.Check.TheVariants.{Bad, Good}
+use Rattle.profile.specs.Refusals.{refused_by, full_table, longest, lowest, profile_refusals}
+use Rattle.std.specs.Prelude.{Result, Ok, Err}
 use Rattle.profile.specs.declared.Refusal.{Refusal}
 use Rattle.profile.specs.declared.Refusal.TheVariants.{BadLetter, FullTable, LongLog}
 use Rattle.profile.proofs.Lists.{lt_or_le}
@@ -61,18 +60,18 @@ module _ (p : Profile) (b c d : Bool) (n : ℕ) where
       )
 
 -- what the function tells of a good profile, by the tests as it makes them: a events taken, the letter x, n records and room for m
-module _ (p : Profile) (k x a n m : ℕ) (s : Check) (told : checked s ≡ lowest (profile_refusals p)) (good : s ≡ Good) where
-  pub tells_seven : longest ≤ a → checked (Bad LongLog) ≡ lowest (profile_refusals p ++ own_refusals (leb longest a) (leb k x) (ltb m n) a)
-  tells_seven u = seven p (leb longest a) (leb k x) (ltb m n) a (sym told ∙ ap checked good) (le-leb longest a u)
+module _ (p : Profile) (k x a n m : ℕ) (s : Result Unit Refusal) (told : refused_by s ≡ lowest (profile_refusals p)) (good : s ≡ Ok tt) where
+  pub tells_seven : longest ≤ a → refused_by {T = Unit} (Err LongLog) ≡ lowest (profile_refusals p ++ own_refusals (leb longest a) (leb k x) (ltb m n) a)
+  tells_seven u = seven p (leb longest a) (leb k x) (ltb m n) a (sym told ∙ ap refused_by good) (le-leb longest a u)
 
-  pub tells_eight : a < longest → k ≤ x → checked (Bad (BadLetter a)) ≡ lowest (profile_refusals p ++ own_refusals (leb longest a) (leb k x) (ltb m n) a)
-  tells_eight u v = eight p (leb longest a) (leb k x) (ltb m n) a (sym told ∙ ap checked good) (lt-leb longest a u) (le-leb k x v)
+  pub tells_eight : a < longest → k ≤ x → refused_by {T = Unit} (Err (BadLetter a)) ≡ lowest (profile_refusals p ++ own_refusals (leb longest a) (leb k x) (ltb m n) a)
+  tells_eight u v = eight p (leb longest a) (leb k x) (ltb m n) a (sym told ∙ ap refused_by good) (lt-leb longest a u) (le-leb k x v)
 
-  pub tells_ten : a < longest → x < k → m < n → checked (Bad FullTable) ≡ lowest (profile_refusals p ++ own_refusals (leb longest a) (leb k x) (ltb m n) a)
-  tells_ten u v o = ten p (leb longest a) (leb k x) (ltb m n) a (sym told ∙ ap checked good) (lt-leb longest a u) (lt-leb k x v) (lt-ltb m n o)
+  pub tells_ten : a < longest → x < k → m < n → refused_by {T = Unit} (Err FullTable) ≡ lowest (profile_refusals p ++ own_refusals (leb longest a) (leb k x) (ltb m n) a)
+  tells_ten u v o = ten p (leb longest a) (leb k x) (ltb m n) a (sym told ∙ ap refused_by good) (lt-leb longest a u) (lt-leb k x v) (lt-ltb m n o)
 
-  pub tells_none : a < longest → x < k → n ≤ m → checked Good ≡ lowest (profile_refusals p ++ own_refusals (leb longest a) (leb k x) (ltb m n) a)
-  tells_none u v o = no_own p (leb longest a) (leb k x) (ltb m n) a (sym told ∙ ap checked good) (lt-leb longest a u) (lt-leb k x v) (le-ltb m n o)
+  pub tells_none : a < longest → x < k → n ≤ m → refused_by {T = Unit} (Ok tt) ≡ lowest (profile_refusals p ++ own_refusals (leb longest a) (leb k x) (ltb m n) a)
+  tells_none u v o = no_own p (leb longest a) (leb k x) (ltb m n) a (sym told ∙ ap refused_by good) (lt-leb longest a u) (lt-leb k x v) (le-ltb m n o)
 
 -- ---- the promise of an event
 

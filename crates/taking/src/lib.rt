@@ -5,14 +5,14 @@ ghost use Rattle.std.specs.Prelude.{◌≡◌, [], ◌∷◌, ◌++◌, ◌*◌,
 ghost use Rattle.profile.specs.Limits.{most_letters, most_states};
 ghost use Rattle.profile.specs.Automata.{profile_of};
 ghost use Rattle.profile.specs.Tables.{layout, record_length};
-ghost use Rattle.profile.specs.Refusals.{checked, longest, lowest, profile_refusals};
+ghost use Rattle.profile.specs.Refusals.{refused_by, longest, lowest, profile_refusals};
 ghost use Rattle.profile.specs.declared.Refusal.TheVariants.{BadLetter, FullTable, LongLog};
 ghost use Rattle.running.specs.Running.{StepPromise};
 ghost use Rattle.running.specs.declared.Step.TheVariants.{Refused as NotTaken};
 ghost use Rattle.taking.specs.Taking.{Took};
 
 use profile::limits::LONGEST;
-use profile::{Check, Refusal, Shape};
+use profile::{Refusal, Shape};
 use running::{Running, Step, Stepped};
 
 // The lowest refusal of an event by its letter and the record alone: 2, 4, 6, 7, 8, or 10 where P records do not fit.
@@ -24,26 +24,26 @@ fn check_event(
     letter: u8,
     held: Running,
     room: usize,
-) -> Check
-    ensures { checked result ≡ lowest (profile_refusals (profile_of shape masks.now moves.now) ++ ((leb longest held.taken, LongLog) ∷ (leb shape.k letter, BadLetter held.taken) ∷ (ltb room held.prefixes, FullTable) ∷ [])) }
+) -> Result<(), Refusal>
+    ensures { refused_by result ≡ lowest (profile_refusals (profile_of shape masks.now moves.now) ++ ((leb longest held.taken, LongLog) ∷ (leb shape.k letter, BadLetter held.taken) ∷ (ltb room held.prefixes, FullTable) ∷ [])) }
 {
     let taken = held.taken;
     let prefixes = held.prefixes;
     let k = shape.k;
     let profile = checks::check_profile(shape, masks, moves);
-    if let Check::Bad(r) = profile {
-        return Check::Bad(r);
+    if let Err(r) = profile {
+        return Err(r);
     }
     if LONGEST <= taken {
-        return Check::Bad(Refusal::LongLog);
+        return Err(Refusal::LongLog);
     }
     if k <= letter as usize {
-        return Check::Bad(Refusal::BadLetter(taken));
+        return Err(Refusal::BadLetter(taken));
     }
     if room < prefixes {
-        return Check::Bad(Refusal::FullTable);
+        return Err(Refusal::FullTable);
     }
-    Check::Good
+    Ok(())
 }
 
 // An event refused: the record stays.
@@ -103,7 +103,7 @@ pub fn step(
 {
     let room = records::capacity(table);
     let check = check_event(shape, masks, moves, letter, held, room);
-    if let Check::Bad(r) = check {
+    if let Err(r) = check {
         return refuse(held, r);
     }
     take(held, shape, masks, moves, letter as usize, table, room)

@@ -3,10 +3,10 @@
 
 ghost use Rattle.std.specs.Prelude.{◌≡◌};
 ghost use Rattle.profile.specs.Automata.{profile_of};
-ghost use Rattle.profile.specs.Refusals.{checked, lowest};
+ghost use Rattle.profile.specs.Refusals.{refused_by, lowest};
 ghost use Rattle.term_checks.specs.Admission.{dated_admission};
 
-use profile::{Check, Refusal, Shape};
+use profile::{Refusal, Shape};
 
 // The lowest refusal of 2, 4, 6, 7, 8, 14, 15, 16 and 9, where the order has n places.
 pub fn check_call(
@@ -17,24 +17,24 @@ pub fn check_call(
     days: &[u32],
     terms: &[u32],
     n: usize,
-) -> Check
-    ensures { checked result ≡ lowest (dated_admission (profile_of shape masks.now moves.now) log.now days.now terms.now n) }
+) -> Result<(), Refusal>
+    ensures { refused_by result ≡ lowest (dated_admission (profile_of shape masks.now moves.now) log.now days.now terms.now n) }
 {
     let profile = checks::check_profile(shape, masks, moves);
-    if let Check::Bad(r) = profile {
-        return Check::Bad(r);
+    if let Err(r) = profile {
+        return Err(r);
     }
     let k = shape.k;
     let letters = logcheck::check_log(k, log);
-    if let Check::Bad(r) = letters {
-        return Check::Bad(r);
+    if let Err(r) = letters {
+        return Err(r);
     }
     let dated = dates::check_terms(log, days, terms);
-    if let Check::Bad(r) = dated {
-        return Check::Bad(r);
+    if let Err(r) = dated {
+        return Err(r);
     }
     if n < log.len() {
-        return Check::Bad(Refusal::ShortBuffer);
+        return Err(Refusal::ShortBuffer);
     }
-    Check::Good
+    Ok(())
 }

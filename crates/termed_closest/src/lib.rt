@@ -10,7 +10,7 @@ ghost use Rattle.termed_closest.specs.CodedAnswers.{Answered};
 
 use closestanswer::Closest;
 use profile::limits::LONGEST;
-use profile::{Check, Shape};
+use profile::Shape;
 use table::Built;
 
 // The closest order of events that are codes, where nothing but 10 and 17 can refuse; the log has their letters.
@@ -54,8 +54,8 @@ pub fn closest(
 ) -> Closest
     ensures { Promise (profile_of shape masks.now moves.now) log.now days.now terms.now budget order.old order.new work.old work.new costs.old costs.new result }
 {
-    let checked = term_checks::check_call(shape, masks, moves, log, days, terms, order.len());
-    if let Check::Bad(r) = checked {
+    let refused_by = term_checks::check_call(shape, masks, moves, log, days, terms, order.len());
+    if let Err(r) = checked {
         return Closest::Refused(r);
     }
     let mut codes = [0u8; LONGEST];

@@ -9,7 +9,7 @@ ghost use Rattle.termed.specs.Termed.{Promise};
 ghost use Rattle.termed_judge.specs.CodedCalls.{Answered, CodedCall};
 
 use profile::limits::{LONGEST, MOST_LETTERS, MOST_PLACES, Place};
-use profile::{Check, Shape};
+use profile::Shape;
 use table::Built;
 use verdict::Judged;
 
@@ -77,8 +77,8 @@ pub fn judge(
 ) -> Judged
     ensures { Promise (profile_of shape masks.now moves.now) log.now days.now terms.now order.old order.new work.old work.new result }
 {
-    let checked = term_checks::check_call(shape, masks, moves, log, days, terms, order.len());
-    if let Check::Bad(r) = checked {
+    let refused_by = term_checks::check_call(shape, masks, moves, log, days, terms, order.len());
+    if let Err(r) = checked {
         return Judged::Refused(r);
     }
     let mut codes = [0u8; LONGEST];

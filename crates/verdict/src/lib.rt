@@ -11,7 +11,7 @@ ghost use Rattle.profile.specs.declared.Refusal.TheVariants.{ShortBuffer};
 ghost use Rattle.earliest.specs.Earliest.{Table, found?, record_count, with_order};
 ghost use Rattle.verdict.specs.Verdict.{Promise};
 
-use profile::{Check, Refusal, Shape};
+use profile::{Refusal, Shape};
 use table::Built;
 
 // The answer of the judge: the verdict, P and looks, or the refusal.
@@ -28,12 +28,12 @@ pub fn refusal_of_short(shape: Shape, masks: &[u16], moves: &[u32], log: &[u8]) 
         ≡ lowest (profile_refusals (profile_of shape masks.now moves.now) ++ (log_refusals shape.k log.now ++ ((true, ShortBuffer) ∷ []))) }
 {
     let profile = checks::check_profile(shape, masks, moves);
-    if let Check::Bad(r) = profile {
+    if let Err(r) = profile {
         return r;
     }
     let k = shape.k;
     let letters = logcheck::check_log(k, log);
-    if let Check::Bad(r) = letters {
+    if let Err(r) = letters {
         return r;
     }
     Refusal::ShortBuffer

@@ -5,7 +5,7 @@ ghost use Rattle.profile.specs.Automata.{profile_of};
 ghost use Rattle.view.specs.Viewing.{Viewed};
 
 use profile::limits::LONGEST;
-use profile::{Check, Refusal, Shape};
+use profile::{Refusal, Shape};
 use verdict::Judged;
 
 // What a teacher who sees the letters of the mask is told of a log; refused by 2, 4, 6, 20, 7, 8, 9 and 10.
@@ -21,7 +21,7 @@ pub fn view(
     ensures { Viewed (profile_of shape masks.now moves.now) visible log.now order.old order.new work.old work.new result }
 {
     let entry = visible::check_entry(shape, visible, masks, moves, log);
-    if let Check::Bad(r) = entry {
+    if let Err(r) = entry {
         return Judged::Refused(r);
     }
     let k = shape.k;

@@ -2,14 +2,13 @@
 use mathlib.Core.Path.{◌≡◌, sym, ◌∙◌}
 use mathlib.Core.Bool.{Bool}
 use mathlib.Core.List.{List, ◌++◌}
-use Rattle.profile.specs.Refusals.{checked, lowest}
-use Rattle.profile.specs.declared.Check.{Check}
-use Rattle.profile.specs.declared.Check.TheVariants.{Good, Bad}
+use Rattle.profile.specs.Refusals.{refused_by, lowest}
+use Rattle.std.specs.Prelude.{Result, Ok, Err}
 use Rattle.profile.specs.declared.Refusal.{Refusal}
 use Rattle.theory.proofs.Refusals.{lowest_append, lowest_first}
 use Rattle.visible.specs.Visible.{first_of}
 
 -- the first of two checks that refuses gives the lowest of both lists
-pub first_lowest : (c d : Check) (x y : List (Bool × Refusal)) → checked c ≡ lowest x → checked d ≡ lowest y → checked (first_of c d) ≡ lowest (x ++ y)
-first_lowest (Bad r) d x y e f = sym (lowest_first x y (sym e))
-first_lowest Good d x y e f = f ∙ sym (lowest_append x y (sym e))
+pub first_lowest : (c d : Result Unit Refusal) (x y : List (Bool × Refusal)) → refused_by c ≡ lowest x → refused_by d ≡ lowest y → refused_by (first_of c d) ≡ lowest (x ++ y)
+first_lowest (Err r) d x y e f = sym (lowest_first x y (sym e))
+first_lowest (Ok u) d x y e f = f ∙ sym (lowest_append x y (sym e))

@@ -1,8 +1,8 @@
 -- Checks one after the other.
-use Rattle.profile.specs.declared.Check.{Check}
-use Rattle.profile.specs.declared.Check.TheVariants.{Good, Bad}
+use Rattle.std.specs.Prelude.{Result, Ok, Err}
+use Rattle.profile.specs.declared.Refusal.{Refusal}
 
 -- "The lowest number that applies is given": the first of two checks that refuses
-abbrev pub first_of : Check → Check → Check
-first_of (Bad r) c = Bad r
-first_of Good c = c
+abbrev pub first_of : Result Unit Refusal → Result Unit Refusal → Result Unit Refusal
+first_of (Err r) c = Err r
+first_of (Ok u) c = c

@@ -4,38 +4,44 @@
 ghost use Rattle.std.specs.Prelude.{◌≡◌, [], ◌∷◌, ◌+◌, ◌≤◌, ◌<◌, length, take};
 ghost use Rattle.profile.specs.Automata.{profile_of};
 ghost use Rattle.profile.specs.Limits.{longest, most_letters};
-ghost use Rattle.profile.specs.Refusals.{bit_from, checked, lowest};
+ghost use Rattle.profile.specs.Refusals.{bit_from, refused_by, lowest};
 ghost use Rattle.profile.specs.declared.Refusal.TheVariants.{ViewBit};
 ghost use Rattle.theory.proofs.Refusals.{GoodLog};
 ghost use Rattle.views.specs.Views.{entry_refusals, seen};
 ghost use Rattle.visible.specs.Visible.{first_of};
 
-use profile::{Check, Refusal, Shape};
+use profile::{Refusal, Shape};
 
 // 20: the mask has a bit from k on.
-fn check_mask(k: usize, visible: u32) -> Check
-    ensures { checked result ≡ lowest ((bit_from k visible, ViewBit) ∷ []) }
+fn check_mask(k: usize, visible: u32) -> Result<(), Refusal>
+    ensures { refused_by result ≡ lowest ((bit_from k visible, ViewBit) ∷ []) }
 {
     if checks::set_from(visible, k) {
-        Check::Bad(Refusal::ViewBit)
+        Err(Refusal::ViewBit)
     } else {
-        Check::Good
+        Ok(())
     }
 }
 
 // The first of two checks that refuses.
-fn first(one: Check, other: Check) -> Check
+fn first(one: Result<(), Refusal>, other: Result<(), Refusal>) -> Result<(), Refusal>
     ensures { result ≡ first_of one other }
 {
     match one {
-        Check::Bad(r) => Check::Bad(r),
-        Check::Good => other,
+        Err(r) => Err(r),
+        Ok(()) => other,
     }
 }
 
 // The lowest of refusals 2, 4, 6, 20, 7 and 8 that applies, in this order.
-pub fn check_entry(shape: Shape, visible: u32, masks: &[u16], moves: &[u32], log: &[u8]) -> Check
-    ensures { checked result ≡ lowest (entry_refusals (profile_of shape masks.now moves.now) visible log.now) }
+pub fn check_entry(
+    shape: Shape,
+    visible: u32,
+    masks: &[u16],
+    moves: &[u32],
+    log: &[u8],
+) -> Result<(), Refusal>
+    ensures { refused_by result ≡ lowest (entry_refusals (profile_of shape masks.now moves.now) visible log.now) }
 {
     let k = shape.k;
     let profile = checks::check_profile(shape, masks, moves);

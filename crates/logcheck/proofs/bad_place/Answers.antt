@@ -29,4 +29,5 @@ pub returns : goal.returns
 returns c =
     let l = c.loop-i in
     let a = c.args in
-    sym (first_at (leb a.k) a.log.now l.i 0 l.invariant.1 l.invariant.0 (λ h. absurd (omega arith)))
+    let e : l.i ≡ length a.log.now = omega arith in
+    sym (first_at (leb a.k) a.log.now (length a.log.now) 0 (rw e at l.invariant.1) (omega arith) (λ h. absurd (omega arith)))

@@ -8,7 +8,7 @@ use native.Mathlib.Omega.{arith}
 use lib.ListN.{take, drop, replicate}
 use Rattle.profile.specs.Limits.{letters_byte, masks_byte, most_letters, most_moves, moves_byte, states_byte}
 use Rattle.profile.specs.Automata.{profile_of}
-use Rattle.profile.specs.Refusals.{checked, log_refusals, lowest, profile_refusals}
+use Rattle.profile.specs.Refusals.{refused_by, log_refusals, lowest, profile_refusals}
 use Rattle.profile.specs.declared.Shape.{Shape}
 use Rattle.profile.specs.declared.Refusal.{Refusal}
 use Rattle.logfile.specs.Files.{field, file_log, file_masks, file_moves, file_out_of_range, file_profile, file_shape, numbers_from, section}
@@ -38,11 +38,11 @@ fill_moves-requires c =
     let n = shape_known f c.shape_of-shape.ensures c.requires.0 in
     omega (arith, n, (inside f c.requires.1).moves, c.section_at-2.ensures)
 
-pub returns-in-Bad : goal.returns-in-Bad
-returns-in-Bad c =
+pub returns-in-Err : goal.returns-in-Err
+returns-in-Err c =
     let f = c.args.f.now in
     let p = profile_checked f _ _ _ _ _ _ c.shape_of-shape.ensures c.requires.0 c.section_at.ensures c.fill_masks.ensures c.section_at-2.ensures c.fill_moves.ensures c.check_profile-of_profile.ensures in
-    sym (content_profile f (file_log f) c.requires.0 (sym p ∙ ap checked c.in-Bad.is))
+    sym (content_profile f (file_log f) c.requires.0 (sym p ∙ ap refused_by c.in-Err.is))
 
 pub returns : goal.returns
 returns c =
@@ -50,4 +50,4 @@ returns c =
     let e = c.shape_of-shape.ensures in
     let p = profile_checked f _ _ _ _ _ _ e c.requires.0 c.section_at.ensures c.fill_masks.ensures c.section_at-2.ensures c.fill_moves.ensures c.check_profile-of_profile.ensures in
     c.check_log.ensures ∙ ap₂ (λ k w. lowest (log_refusals k w)) (shape_known f e c.requires.0).0 (log_found f c.section_at-from.ensures c.length_at.ensures)
-    ∙ sym (content_log f (file_log f) c.requires.0 (sym p ∙ ap checked c.in_default.is))
+    ∙ sym (content_log f (file_log f) c.requires.0 (sym p ∙ ap refused_by c.in_default.is))

@@ -6,7 +6,7 @@ use mathlib.Core.Option.{none}
 use native.Mathlib.Omega.{arith}
 use lib.ListN.{length}
 use Rattle.profile.specs.Automata.{profile_of}
-use Rattle.profile.specs.Refusals.{checked, lowest}
+use Rattle.profile.specs.Refusals.{refused_by, lowest}
 use Rattle.terms.specs.Coded.{rules_of}
 use Rattle.term_checks.specs.Admission.{dated_admission}
 use Rattle.term_checks.proofs.Admission.{DatedAdmitted, dated_admitted}
@@ -17,14 +17,14 @@ use Rattle.termed_closest.proofs.Codes.{told_early, told_late}
 use Rattle.termed_closest.proofs.closest.Goals as goal
 use Rattle.termed_closest.proofs.closest.Goals.{In_default}
 
-pub returns-in-Bad : goal.returns-in-Bad
-returns-in-Bad c =
+pub returns-in-Err : goal.returns-in-Err
+returns-in-Err c =
     let a = c.args in
-    told_early (profile_of a.shape a.masks.now a.moves.now) a.log.now a.days.now a.terms.now a.budget a.order.now a.work.now a.costs.now c.in-Bad.r (sym c.check_call-checked.ensures ∙ ap checked c.in-Bad.is)
+    told_early (profile_of a.shape a.masks.now a.moves.now) a.log.now a.days.now a.terms.now a.budget a.order.now a.work.now a.costs.now c.in-Err.r (sym c.check_call-checked.ensures ∙ ap refused_by c.in-Err.is)
 
 -- nothing but 10 and 17 can refuse
 unrefused : (c : In_default) → let a = c.args in lowest (dated_admission (profile_of a.shape a.masks.now a.moves.now) a.log.now a.days.now a.terms.now (length a.order.now)) ≡ none
-unrefused c = sym c.check_call-checked.ensures ∙ ap checked c.in_default.is
+unrefused c = sym c.check_call-checked.ensures ∙ ap refused_by c.in_default.is
 
 admitted : (c : In_default) → let a = c.args in DatedAdmitted (profile_of a.shape a.masks.now a.moves.now) a.log.now a.days.now a.terms.now (length a.order.now)
 admitted c = let a = c.args in dated_admitted (profile_of a.shape a.masks.now a.moves.now) a.log.now a.days.now a.terms.now (length a.order.now) (unrefused c)

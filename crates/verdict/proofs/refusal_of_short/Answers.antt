@@ -2,23 +2,23 @@
 use borrow.Author.Rules.{rules}
 use mathlib.Core.Path.{sym, ◌∙◌, ap}
 use Rattle.profile.specs.Automata.{profile_of}
-use Rattle.profile.specs.Refusals.{checked}
+use Rattle.profile.specs.Refusals.{refused_by}
 use Rattle.verdict.proofs.Judging.{buffer_last, log_next, profile_first}
 use Rattle.verdict.proofs.refusal_of_short.Goals as goal
 
-pub returns-in-Bad : goal.returns-in-Bad
-returns-in-Bad c =
+pub returns-in-Err : goal.returns-in-Err
+returns-in-Err c =
     let a = c.args in
-    profile_first (profile_of a.shape a.masks.now a.moves.now) a.log.now (sym c.check_profile-profile.ensures ∙ ap checked c.in-Bad.is)
+    profile_first (profile_of a.shape a.masks.now a.moves.now) a.log.now (sym c.check_profile-profile.ensures ∙ ap refused_by c.in-Err.is)
 
-pub returns-in-Bad-letters : goal.returns-in-Bad-letters
-returns-in-Bad-letters c =
+pub returns-in-Err-letters : goal.returns-in-Err-letters
+returns-in-Err-letters c =
     let a = c.args in
-    log_next (profile_of a.shape a.masks.now a.moves.now) a.log.now (sym c.check_profile-profile.ensures ∙ ap checked c.in_default.is)
-    (sym c.check_log-letters.ensures ∙ ap checked c.in-Bad-letters.is)
+    log_next (profile_of a.shape a.masks.now a.moves.now) a.log.now (sym c.check_profile-profile.ensures ∙ ap refused_by c.in_default.is)
+    (sym c.check_log-letters.ensures ∙ ap refused_by c.in-Err-letters.is)
 
 pub returns : goal.returns
 returns c =
     let a = c.args in
-    buffer_last (profile_of a.shape a.masks.now a.moves.now) a.log.now (sym c.check_profile-profile.ensures ∙ ap checked c.in_default.is)
-    (sym c.check_log-letters.ensures ∙ ap checked c.in_default-letters.is)
+    buffer_last (profile_of a.shape a.masks.now a.moves.now) a.log.now (sym c.check_profile-profile.ensures ∙ ap refused_by c.in_default.is)
+    (sym c.check_log-letters.ensures ∙ ap refused_by c.in_default-letters.is)

@@ -4,37 +4,37 @@ use Prim.Native.Nat.{ℕ, ◌-◌}
 use native.Mathlib.Omega.{arith}
 use lib.ListN.{length, take}
 use Rattle.profile.specs.Automata.{profile_of}
-use Rattle.profile.specs.Refusals.{checked}
+use Rattle.profile.specs.Refusals.{refused_by}
 use Rattle.views.proofs.Refused.{seen_length}
 use Rattle.view.proofs.Viewed.{entry_clean, entry_few, entry_good, told_entry, told_seen, told_short}
 use borrow.Author.Rules.{rules}
 use Rattle.view.proofs.view.Goals as goal
 
-pub returns-in-Bad : goal.returns-in-Bad
-returns-in-Bad c =
+pub returns-in-Err : goal.returns-in-Err
+returns-in-Err c =
     let a = c.args in
     let p = profile_of a.shape a.masks.now a.moves.now in
-    told_entry p a.visible a.log.now a.order.now a.work.now (sym c.check_entry-entry.ensures ∙ ap checked c.in-Bad.is)
+    told_entry p a.visible a.log.now a.order.now a.work.now (sym c.check_entry-entry.ensures ∙ ap refused_by c.in-Err.is)
 
 pub put_seen-n-requires : goal.put_seen-n-requires
 put_seen-n-requires c =
     let a = c.args in
     let p = profile_of a.shape a.masks.now a.moves.now in
-    let clean = sym c.check_entry-entry.ensures ∙ ap checked c.in_default.is in
+    let clean = sym c.check_entry-entry.ensures ∙ ap refused_by c.in_default.is in
     (entry_few p a.visible a.log.now clean, refl, entry_good p a.visible a.log.now clean)
 
 pub returns-then-order-n : goal.returns-then-order-n
 returns-then-order-n c =
     let a = c.args in
     let p = profile_of a.shape a.masks.now a.moves.now in
-    let clean = sym c.check_entry-entry.ensures ∙ ap checked c.in_default.is in
+    let clean = sym c.check_entry-entry.ensures ∙ ap refused_by c.in_default.is in
     told_short p a.visible a.log.now a.order.now a.work.now clean (omega (arith, c.put_seen-n.ensures.0, c.if-order-n.true))
 
 pub slice_bounds-view_seen-end : goal.slice_bounds-view_seen-end
 slice_bounds-view_seen-end c =
     let a = c.args in
     let p = profile_of a.shape a.masks.now a.moves.now in
-    let clean = sym c.check_entry-entry.ensures ∙ ap checked c.in_default.is in
+    let clean = sym c.check_entry-entry.ensures ∙ ap refused_by c.in_default.is in
     let g = (entry_good p a.visible a.log.now clean).short in
     let l = seen_length a.visible a.log.now in
     let r = c.put_seen-n.ensures.0 in
@@ -45,7 +45,7 @@ pub returns : goal.returns
 returns c =
     let a = c.args in
     let p = profile_of a.shape a.masks.now a.moves.now in
-    let clean = sym c.check_entry-entry.ensures ∙ ap checked c.in_default.is in
+    let clean = sym c.check_entry-entry.ensures ∙ ap refused_by c.in_default.is in
     let s = c.put_seen-n in
     let z : ℕ = s.result - 0 in
     let i : z ≡ s.result = omega arith in
@@ -57,7 +57,7 @@ pub view_seen-requires-clause-clean : goal.view_seen-requires-clause-clean
 view_seen-requires-clause-clean c =
     let a = c.args in
     let p = profile_of a.shape a.masks.now a.moves.now in
-    let clean = sym c.check_entry-entry.ensures ∙ ap checked c.in_default.is in
+    let clean = sym c.check_entry-entry.ensures ∙ ap refused_by c.in_default.is in
     let s = c.put_seen-n in
     let z : ℕ = s.result - 0 in
     let i : z ≡ s.result = omega arith in
