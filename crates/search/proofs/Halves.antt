@@ -6,6 +6,7 @@ use mathlib.Core.List.{List, ◌∷◌}
 use Prim.Native.Nat.{ℕ, zero, suc, ◌+◌, ◌-◌, ◌≤◌, ◌<◌}
 use native.Mathlib.Omega.{arith}
 use borrow.Author.Tests.{eq-eqb, le-ltb, lt-ltb, ne_eqb}
+use Rattle.std.specs.Prelude.{Ok, Err}
 use lib.Dec.{T, T_not, not_T}
 use lib.ListN.{length}
 use Rattle.profile.specs.Lists.{any, below, filter, first_place, range}
@@ -17,7 +18,6 @@ use Rattle.theory.proofs.LetterOrder.{earlier_irrefl, earlier_test, earlier_tran
 use Rattle.counts.specs.Counts.{counts_in}
 use Rattle.records.specs.Records.{counts_at, records_in}
 use Rattle.search.specs.Search.{Ordered, found_in, has?, records_before, stands_before?}
-use Rattle.search.specs.declared.Found.TheVariants.{Absent, At}
 
 -- ---- places
 
@@ -94,8 +94,8 @@ module _ (t c : List ℕ) where
 -- ---- what is found
 
 -- where no record has the counts
-pub found_absent : (t c : List ℕ) → ((j : ℕ) → j < records_in t → counts_at t j ≢ c) → found_in t c ≡ Absent (records_before t c)
-found_absent t c h = ap (λ b. cond b (At (first_place (has? t c) (below (records_in t)))) (Absent (records_before t c)))
+pub found_absent : (t c : List ℕ) → ((j : ℕ) → j < records_in t → counts_at t j ≢ c) → found_in t c ≡ Err (records_before t c)
+found_absent t c h = ap (λ b. cond b (Ok (first_place (has? t c) (below (records_in t)))) (Err (records_before t c)))
     (is_false (any (has? t c) (below (records_in t))) (not_T (any (has? t c) (below (records_in t))) (λ y.
     let x = any_at (has? t c) (below (records_in t)) y in
     h x.0 (below_at (records_in t) x.0 x.1) ((equal_test (counts_at t x.0) c).0 x.2))))
@@ -110,13 +110,13 @@ module _ (t : List ℕ) (o : Ordered t) (j : ℕ) (h : j < records_in t) where
   ))
 
   -- record j is found by its counts
-  pub found_record : found_in t (counts_at t j) ≡ At j
+  pub found_record : found_in t (counts_at t j) ≡ Ok j
   found_record =
       let c = counts_at t j in
       let y = (equal_test c c).1 refl in
-      ap (λ b. cond b (At (first_place (has? t c) (below (records_in t)))) (Absent (records_before t c)))
+      ap (λ b. cond b (Ok (first_place (has? t c) (below (records_in t)))) (Err (records_before t c)))
       (is_true (any (has? t c) (below (records_in t))) (any_of (has? t c) (below_of (records_in t) j h) y))
-      ∙ ap At (first_is (has? t c) (records_in t) 0 j (omega arith) (omega arith) y
+      ∙ ap Ok (first_is (has? t c) (records_in t) 0 j (omega arith) (omega arith) y
       (λ i l. not_T (has? t c i) (λ z.
       let e = (equal_test (counts_at t i) c).0 z in
       T_not (stands_before? c c) (before_irrefl c) (subst (λ d. T (stands_before? d c)) e (o i j l h)))) ∙ back)
@@ -126,11 +126,11 @@ module _ (t : List ℕ) (o : Ordered t) (j : ℕ) (h : j < records_in t) where
 
 -- the search at the number of records before c
 module _ (t c : List ℕ) (o : Ordered t) (a : ℕ) (e : a ≡ records_before t c) where
-  pub found_here : a < records_in t → has? t c a ≡ true → At a ≡ found_in t c
+  pub found_here : a < records_in t → has? t c a ≡ true → Ok a ≡ found_in t c
   found_here h q = let y : T (has? t c a) = rw q tt in sym (found_record t o a h) ∙ ap (found_in t) ((equal_test (counts_at t a) c).0 y)
 
-  pub found_nowhere : (a < records_in t → has? t c a ≡ false) → Absent a ≡ found_in t c
-  found_nowhere h = ap Absent e ∙ sym (found_absent t c (λ j l q.
+  pub found_nowhere : (a < records_in t → has? t c a ≡ false) → Err a ≡ found_in t c
+  found_nowhere h = ap Err e ∙ sym (found_absent t c (λ j l q.
       let i : j ≡ a = sym (before_record t o j l) ∙ ap (records_before t) q ∙ sym e in
       let y : T (has? t c a) = subst (λ z. T (has? t c z)) i ((equal_test (counts_at t j) c).1 q) in
       rw (h (subst (λ z. z < records_in t) i l)) at y))

@@ -6,6 +6,7 @@ use mathlib.Core.Logic.{⊎_elim}
 use mathlib.Core.List.{List, [], ◌∷◌, ◌++◌, append-nil, map}
 use Prim.Native.Nat.{ℕ, suc, ◌+◌, ◌*◌, ◌^◌, ◌≤◌, ◌<◌}
 use native.Mathlib.Omega.{arith}
+use Rattle.std.specs.Prelude.{Ok, Err}
 use lib.Dec.{T, eqb, lt→ltb, ltb}
 use lib.ListN.{length, get_or, take, drop}
 use lib.Seq.{take_at}
@@ -30,7 +31,6 @@ use Rattle.records.specs.Records.{counts_at, records_in}
 use Rattle.records.specs.Drafts.{backward_set, filled, forward_set, in_order, of_total}
 use Rattle.records.proofs.Drafts.{counts_of_draft, drafts_length, records_of_drafts}
 use Rattle.search.specs.Search.{Ordered, found_in, stands_before?}
-use Rattle.search.specs.declared.Found.TheVariants.{Absent, At}
 use Rattle.search.proofs.Halves.{found_absent, found_record}
 
 -- as many places pass f as elements pass g, where f at a place is g of the element there
@@ -93,19 +93,19 @@ module _ (p : Rules) (w : List ℕ) (good : GoodProfile p.profile) (log : GoodEv
       ((earlier_test (ranked c) (ranked d)).1 (ranked_getd l sorted i j h n))
 
   -- "tells the record that has them, counted from 0"
-  pub found_prefix : (j : ℕ) → j < length l → found_in (filled p w l) (packed layout (get_or l j [])) ≡ At j
+  pub found_prefix : (j : ℕ) → j < length l → found_in (filled p w l) (packed layout (get_or l j [])) ≡ Ok j
   found_prefix j h = ap (found_in (filled p w l)) (sym (counts_are j h)) ∙ found_record (filled p w l) records_ordered j (subst (λ n. j < n) (sym records_many) h)
 
   -- "or, exactly when none has, how many records stand before its place"
   pub found_none : (c : List ℕ) → length c ≡ p.profile.k → Small layout c → (Mem c l → ⊥)
-      → found_in (filled p w l) (packed layout c) ≡ Absent (length (filter (λ d. not (no_later? (ranked c) (ranked d))) l))
+      → found_in (filled p w l) (packed layout c) ≡ Err (length (filter (λ d. not (no_later? (ranked c) (ranked d))) l))
   found_none c e small outside =
       found_absent (filled p w l) (packed layout c) (λ j k q.
       let h : j < length l = subst (λ n. j < n) records_many k in
       let d = get_or l j [] in
       let m = mem_getd l j [] h in
       outside (subst (λ x. Mem x l) (packed_inj layout d c (long d m ∙ sym e) (omega (arith, long d m, good.relation.most)) (few d m) small (sym (counts_are j h) ∙ q)) m))
-      ∙ ap Absent (ap (λ n. length (filter (λ j. stands_before? (counts_at (filled p w l) j) (packed layout c)) (below n))) records_many
+      ∙ ap Err (ap (λ n. length (filter (λ j. stands_before? (counts_at (filled p w l) j) (packed layout c)) (below n))) records_many
       ∙ filter_places (λ j. stands_before? (counts_at (filled p w l) j) (packed layout c)) (λ d. not (no_later? (ranked c) (ranked d))) 0 l (λ j h.
       let z : 0 + j ≡ j = omega arith in
       let d = get_or l j [] in

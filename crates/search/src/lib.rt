@@ -7,13 +7,6 @@ ghost use Rattle.search.specs.Search.{Ordered, found_in, records_before, stands_
 
 use counts::Counts;
 
-// The record that has the counts, from 0; or, where none has, how many records stand before their place.
-#[derive(Clone, Copy)]
-pub enum Found {
-    At(usize),
-    Absent(usize),
-}
-
 // The counts a stand before b: by their totals, then by the counts, the count of letter 0 first.
 pub fn stands_before(a: Counts, b: Counts) -> bool
     ensures { result ≡ stands_before? (words a) (words b) }
@@ -46,15 +39,15 @@ fn place_of(t: &[u32], c: Counts) -> usize
     low
 }
 
-// The record of t that has the counts c, or where they would stand. Records that are not in order get some answer.
-pub fn find(t: &[u32], c: Counts) -> Found
+// The record of t that has the counts c, from 0; or, as an error, how many records stand before their place. Records that are not in order get some answer.
+pub fn find(t: &[u32], c: Counts) -> Result<usize, usize>
     ensures { Ordered t.now → result ≡ found_in t.now (words c) }
 {
     let at = place_of(t, c);
     if at < records::records_in(t) {
         if counts::same_counts(records::counts_at(t, at), c) {
-            return Found::At(at);
+            return Ok(at);
         }
     }
-    Found::Absent(at)
+    Err(at)
 }

@@ -1,5 +1,4 @@
 -- `search::find` meets its contract: the record at the place has the counts, or none has.
-use borrow.Author.Rules.{rules}
 use mathlib.Core.Path.{sym, ◌∙◌, ap}
 use native.Mathlib.Omega.{arith}
 use Rattle.profile.specs.Lists.{equal?}

@@ -1,11 +1,11 @@
 use borrow.Author.Rules.{rules}
-use Prim.Native.Nat.{◌+◌, ◌-◌, ◌/◌, ◌≤◌, ◌<◌}
+use Prim.Native.Nat.{◌+◌, ◌-◌, ◌/◌, ◌<◌}
 use native.Mathlib.Numerals.{add-one}
 use mathlib.Core.Path.{◌≡◌, sym, ◌∙◌, ap, subst}
 use native.Mathlib.Omega.{arith}
 use Rattle.counts.specs.Counts.{words}
-use Rattle.records.specs.Records.{counts_at, records_in}
-use Rattle.search.specs.Search.{Ordered, stands_before?}
+use Rattle.records.specs.Records.{records_in}
+use Rattle.search.specs.Search.{stands_before?}
 use Rattle.search.proofs.Halves.{Between, between_down, between_end, between_start, between_up}
 use Rattle.search.proofs.place_of.Goals as goal
 

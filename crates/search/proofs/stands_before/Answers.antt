@@ -1,5 +1,4 @@
 -- `search::stands_before` meets its contract: the totals decide, and where they are the same the counts.
-use borrow.Author.Rules.{rules}
 use mathlib.Core.Path.{sym, ◌∙◌}
 use Rattle.profile.specs.Prefixes.{total}
 use Rattle.profile.specs.Tables.{layout}
