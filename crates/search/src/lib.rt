@@ -39,7 +39,8 @@ fn place_of(t: &[u32], c: Counts) -> usize
     low
 }
 
-// The record of t that has the counts c, from 0; or, as an error, how many records stand before their place. Records that are not in order get some answer.
+// The record of t that has the counts c, from 0; as an error, how many records stand before their place. Records that are not in order get some
+// answer.
 pub fn find(t: &[u32], c: Counts) -> Result<usize, usize>
     ensures { Ordered t.now → result ≡ found_in t.now (words c) }
 {

@@ -1,10 +1,11 @@
 -- The records of the prefixes of a log: where the record of a prefix with one letter more stands, and that the search tells it.
-use mathlib.Core.Path.{◌≡◌, refl, sym, ◌∙◌, ap, subst}
+use mathlib.Core.Path.{◌≡◌, Path, refl, sym, ◌∙◌, ap, subst}
 use mathlib.Core.Bool.{Bool, not}
 use mathlib.Core.Logic.{⊎_elim}
 use mathlib.Core.List.{List, []}
 use Prim.Native.Nat.{ℕ, suc, ◌^◌, ◌<◌}
 use native.Mathlib.Omega.{arith}
+use Rattle.std.specs.Prelude.{Result, Ok, Err}
 use lib.Dec.{T, T_not, lt→ltb, ltb}
 use lib.ListN.{length, get_or, length-set}
 use Rattle.profile.specs.Lists.{Mem}
@@ -19,26 +20,24 @@ use Rattle.counts.proofs.Packed.{Small, add_packed}
 use Rattle.counts.specs.Counts.{add_count}
 use Rattle.records.specs.Records.{records_in}
 use Rattle.search.specs.Search.{found_in}
-use Rattle.search.specs.declared.Found.{Found}
-use Rattle.search.specs.declared.Found.TheVariants.{Absent, At}
 use Rattle.search.proofs.Halves.{found_absent, found_record}
 use Rattle.costcursors.proofs.Bumps.{total_bump}
 use Rattle.successors.specs.Successors.{Recorded, Stands}
 
 -- the two answers of a search are different, and an answer tells its record
-pub absent_not : {i j : ℕ} → Absent i ≡ At j → ⊥
+pub absent_not : {i j : ℕ} → Err i ≡ Ok j → ⊥
 absent_not e = subst at_all e tt
   where
-    at_all : Found → Type 0
-    at_all (At i) = ⊥
-    at_all (Absent i) = Unit {0}
+    at_all : Result ℕ ℕ → Type 0
+    at_all (Ok i) = ⊥
+    at_all (Err i) = Unit {0}
 
-pub at_same : {i j : ℕ} → At i ≡ At j → i ≡ j
+pub at_same : {i j : ℕ} → Path (Result ℕ ℕ) (Ok i) (Ok j) → i ≡ j
 at_same e = ap place e
   where
-    place : Found → ℕ
-    place (At j) = j
-    place (Absent j) = j
+    place : Result ℕ ℕ → ℕ
+    place (Ok j) = j
+    place (Err j) = j
 
 module _ {may : ℕ → ℕ → Bool} {letter : ℕ → ℕ} {k : ℕ} {w t : List ℕ} (g : Recorded may letter k w t) where
   -- ---- a prefix
@@ -88,13 +87,13 @@ module _ {may : ℕ → ℕ → Bool} {letter : ℕ → ℕ} {k : ℕ} {w t : Li
         (subst (IsPrefix may letter w) (sym (at_bump v x (omega (arith, h, q.0)))) (addable_at may letter g.apart q.1 s).0)
 
     pub find_more : T (addable? may letter w (at v) x)
-        → (j : ℕ) × (j < length (by_total may letter k w)) × (get_or (by_total may letter k w) j [] ≡ bump v x) × (found_in t (add_count layout (packed layout v) x) ≡ At j)
+        → (j : ℕ) × (j < length (by_total may letter k w)) × (get_or (by_total may letter k w) j [] ≡ bump v x) × (found_in t (add_count layout (packed layout v) x) ≡ Ok j)
     find_more s =
         let q = mem_place [] (more_in_order s) in
         let i : q.0 < records_in t = subst (λ n. q.0 < n) (sym g.records.many) q.1 in
         (q.0, q.1, q.2, ap (found_in t) (more_packed v x h m ∙ ap (packed layout) (sym q.2) ∙ sym (g.records.counts q.0 q.1)) ∙ found_record t g.records.ordered q.0 i)
 
-    no_more : T (not (addable? may letter w (at v) x)) → (n : ℕ) × (found_in t (add_count layout (packed layout v) x) ≡ Absent n)
+    no_more : T (not (addable? may letter w (at v) x)) → (n : ℕ) × (found_in t (add_count layout (packed layout v) x) ≡ Err n)
     no_more s =
         let l = (prefix_of v m).0 in
         let lt : x < length v = omega (arith, h, l) in
@@ -109,12 +108,12 @@ module _ {may : ℕ → ℕ → Bool} {letter : ℕ → ℕ} {k : ℕ} {w t : Li
               (addable_of may letter g.apart (at v) x (subst (IsPrefix may letter w) (ap at same ∙ at_bump v x lt) (prefix_of d n).1))),
         )
 
-    pub more_at : (r : ℕ) → found_in t (add_count layout (packed layout v) x) ≡ At r
+    pub more_at : (r : ℕ) → found_in t (add_count layout (packed layout v) x) ≡ Ok r
         → T (addable? may letter w (at v) x) × (r < length (by_total may letter k w)) × (get_or (by_total may letter k w) r [] ≡ bump v x)
     more_at r e = ⊎_elim
         (λ s. let q = find_more s in (s, subst (λ i. i < length (by_total may letter k w)) (at_same (sym q.3 ∙ e)) q.1, ap (λ i. get_or (by_total may letter k w) i []) (at_same (sym e ∙ q.3)) ∙ q.2))
         (λ s. absurd (absent_not (sym (no_more s).1 ∙ e)))
         (test (addable? may letter w (at v) x))
 
-    pub more_none : (n : ℕ) → found_in t (add_count layout (packed layout v) x) ≡ Absent n → T (addable? may letter w (at v) x) → ⊥
+    pub more_none : (n : ℕ) → found_in t (add_count layout (packed layout v) x) ≡ Err n → T (addable? may letter w (at v) x) → ⊥
     more_none n e s = absent_not (sym e ∙ (find_more s).3)

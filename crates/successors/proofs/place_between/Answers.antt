@@ -1,10 +1,8 @@
-use borrow.Author.Rules.{rules}
-use Prim.Native.Nat.{◌-◌, ◌≤◌}
 use native.Mathlib.Numerals.{add-one}
-use mathlib.Core.Path.{◌≡◌, sym, ◌∙◌, ap, subst}
+use mathlib.Core.Path.{sym, ◌∙◌, ap, subst}
 use native.Mathlib.Omega.{arith}
 use Rattle.counts.specs.Counts.{words}
-use Rattle.search.specs.Search.{Ordered, stands_before?}
+use Rattle.search.specs.Search.{stands_before?}
 use Rattle.search.proofs.Halves.{Between, between_down, between_up}
 use Rattle.successors.proofs.place_between.Goals as goal
 

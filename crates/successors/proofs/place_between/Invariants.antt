@@ -1,13 +1,9 @@
 -- `successors::place_between` meets its contract. The loop's invariant: where the records are in order, all before `low` stand before c and none from `high` on does.
 -- The measure is what lies between.
-use borrow.Author.Rules.{rules}
 use Prim.Native.Nat.{◌-◌, ◌≤◌}
-use native.Mathlib.Numerals.{add-one}
-use mathlib.Core.Path.{◌≡◌, sym, ◌∙◌, ap, subst}
-use native.Mathlib.Omega.{arith}
 use Rattle.counts.specs.Counts.{words}
-use Rattle.search.specs.Search.{Ordered, stands_before?}
-use Rattle.search.proofs.Halves.{Between, between_down, between_up}
+use Rattle.search.specs.Search.{Ordered}
+use Rattle.search.proofs.Halves.{Between}
 use Rattle.successors.proofs.place_between.Given as goal
 
 abbrev pub invariant-loop-low : goal.invariant-loop-low
