@@ -9,7 +9,7 @@ use Rattle.profile.specs.Orders.{same?}
 use Rattle.profile.specs.Refusals.{log_refusals, lowest, of_log, relation_refusals, same_refusal}
 use Rattle.profile.specs.Traces.{independent}
 use Rattle.theory.proofs.Refusals.{lowest_append, lowest_first}
-use Rattle.comparison.specs.declared.Compared.TheVariants.{Refused}
+use Rattle.std.specs.Prelude.{Err}
 use Rattle.comparison.specs.Comparison.{compared_as, compared_values, comparison}
 use Rattle.profile.proofs.Edges.{told_same}
 
@@ -31,24 +31,24 @@ of_log_some n (c ∷ l) {r} e = go c.0 refl (of_log_some n l)
     go false q ih = rw (q, lowest) (ih (rw (q, lowest) at e))
 
 module _ (k : ℕ) (masks v w : List ℕ) where
-  refused_as : {r : Refusal} {n : ℕ} → same_refusal k masks v w ≡ some (r, n) → comparison k masks v w ≡ Refused r n
+  refused_as : {r : Refusal} {n : ℕ} → same_refusal k masks v w ≡ some (r, n) → comparison k masks v w ≡ Err (record { refusal = r; log = n })
   refused_as e = ap (λ o. compared_as o (same? (independent masks) k v w)) e
 
-  pub compared_relation : {r : Refusal} → lowest (relation_refusals k masks) ≡ some r → comparison k masks v w ≡ Refused r 0
+  pub compared_relation : {r : Refusal} → lowest (relation_refusals k masks) ≡ some r → comparison k masks v w ≡ Err (record { refusal = r; log = 0 })
   compared_relation e = refused_as (lowest_first (of_log 0 (relation_refusals k masks)) (of_log 1 (log_refusals k v) ++ of_log 2 (log_refusals k w)) (of_log_some 0 (relation_refusals k masks) e))
 
   module _ (e₀ : lowest (relation_refusals k masks) ≡ none) where
     past_relation : same_refusal k masks v w ≡ lowest (of_log 1 (log_refusals k v) ++ of_log 2 (log_refusals k w))
     past_relation = lowest_append (of_log 0 (relation_refusals k masks)) (of_log 1 (log_refusals k v) ++ of_log 2 (log_refusals k w)) (of_log_none 0 (relation_refusals k masks) e₀)
 
-    pub compared_first : {r : Refusal} → lowest (log_refusals k v) ≡ some r → comparison k masks v w ≡ Refused r 1
+    pub compared_first : {r : Refusal} → lowest (log_refusals k v) ≡ some r → comparison k masks v w ≡ Err (record { refusal = r; log = 1 })
     compared_first e = refused_as (past_relation ∙ lowest_first (of_log 1 (log_refusals k v)) (of_log 2 (log_refusals k w)) (of_log_some 1 (log_refusals k v) e))
 
     module _ (e₁ : lowest (log_refusals k v) ≡ none) where
       past_first : same_refusal k masks v w ≡ lowest (of_log 2 (log_refusals k w))
       past_first = past_relation ∙ lowest_append (of_log 1 (log_refusals k v)) (of_log 2 (log_refusals k w)) (of_log_none 1 (log_refusals k v) e₁)
 
-      pub compared_second : {r : Refusal} → lowest (log_refusals k w) ≡ some r → comparison k masks v w ≡ Refused r 2
+      pub compared_second : {r : Refusal} → lowest (log_refusals k w) ≡ some r → comparison k masks v w ≡ Err (record { refusal = r; log = 2 })
       compared_second e = refused_as (past_first ∙ of_log_some 2 (log_refusals k w) e)
 
       module _ (e₂ : lowest (log_refusals k w) ≡ none) where

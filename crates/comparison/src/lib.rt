@@ -9,12 +9,11 @@ ghost use Rattle.comparison.specs.Comparison.{comparison, pair_agrees?};
 
 use profile::Refusal;
 
-// The answer of a comparison; a refusal has the log that it is about, 1 or 2, and 0 for none.
+// A refusal with the log that it is about: 1 or 2, and 0 for none.
 #[derive(Clone, Copy)]
-pub enum Compared {
-    Equal,
-    Different,
-    Refused(Refusal, usize),
+pub struct RefusedLog {
+    pub refusal: Refusal,
+    pub log: usize,
 }
 
 // The first place from `from` on with the letter x or y; the log's end where there is none.
@@ -97,24 +96,11 @@ fn all_agree(k: usize, masks: &[u16], first: &[u8], second: &[u8]) -> bool
 }
 
 // Whether each log is reachable from the other; refused by 2 and 4, then by 7 and 8 of the first log, then of the second.
-pub fn same(k: usize, masks: &[u16], first: &[u8], second: &[u8]) -> Compared
+pub fn same(k: usize, masks: &[u16], first: &[u8], second: &[u8]) -> Result<bool, RefusedLog>
     ensures { result ≡ comparison k masks.now first.now second.now }
 {
-    let relation = checks::check_relation(k, masks);
-    if let Err(r) = relation {
-        return Compared::Refused(r, 0);
-    }
-    let one = logcheck::check_log(k, first);
-    if let Err(r) = one {
-        return Compared::Refused(r, 1);
-    }
-    let two = logcheck::check_log(k, second);
-    if let Err(r) = two {
-        return Compared::Refused(r, 2);
-    }
-    if all_agree(k, masks, first, second) {
-        Compared::Equal
-    } else {
-        Compared::Different
-    }
+    checks::check_relation(k, masks).map_err(|refusal| RefusedLog { refusal, log: 0 })?;
+    logcheck::check_log(k, first).map_err(|refusal| RefusedLog { refusal, log: 1 })?;
+    logcheck::check_log(k, second).map_err(|refusal| RefusedLog { refusal, log: 2 })?;
+    Ok(all_agree(k, masks, first, second))
 }

@@ -1,5 +1,5 @@
 -- Document 01, "first order": the answers, and the order buffer afterwards.
-use Rattle.std.specs.Prelude.{◌≡◌, List, [], ◌∷◌, ◌++◌, map, ℕ, ◌≤◌, drop, get_or, length}
+use Rattle.std.specs.Prelude.{Result, Ok, Err, ◌≡◌, List, [], ◌∷◌, ◌++◌, map, ℕ, ◌≤◌, drop, get_or, length}
 use Rattle.std.proofs.Math.Option.{Option, none, some}
 use Rattle.profile.specs.declared.Refusal.{Refusal}
 use Rattle.profile.specs.Lists.{below}
@@ -7,30 +7,28 @@ use Rattle.profile.specs.Orders.{first_order}
 use Rattle.profile.specs.Refusals.{first_order_refusal, log_refusals, lowest, refusal_number, refusal_place, relation_refusals}
 use Rattle.profile.specs.Traces.{independent}
 use Rattle.places.specs.Places.{place_start, place_table}
-use Rattle.order.specs.declared.Ordered.{Ordered}
-use Rattle.order.specs.declared.Ordered.TheVariants.{Refused, Written}
 
 -- the answer of a first order: a refusal, or that it is written
-abbrev pub ordered_as : Option Refusal → Ordered
-ordered_as none = Written
-ordered_as (some r) = Refused r
+abbrev pub ordered_as : Option Refusal → Result Unit Refusal
+ordered_as none = Ok tt
+ordered_as (some r) = Err r
 
 -- document 01's values of an answer: of a refusal its number and its place
-abbrev pub ordered_values : Ordered → List ℕ
-ordered_values Written = []
-ordered_values (Refused r) = refusal_number r ∷ refusal_place r ∷ []
+abbrev pub ordered_values : Result Unit Refusal → List ℕ
+ordered_values (Ok a) = []
+ordered_values (Err r) = refusal_number r ∷ refusal_place r ∷ []
 
 -- the numbers of an answer: the refusal's number, or 0; place
-abbrev pub ordered_code : Ordered → ℕ
-ordered_code Written = 0
-ordered_code (Refused r) = refusal_number r
+abbrev pub ordered_code : Result Unit Refusal → ℕ
+ordered_code (Ok a) = 0
+ordered_code (Err r) = refusal_number r
 
-abbrev pub ordered_told : Ordered → List ℕ
-ordered_told Written = 0 ∷ []
-ordered_told (Refused r) = refusal_place r ∷ []
+abbrev pub ordered_told : Result Unit Refusal → List ℕ
+ordered_told (Ok a) = 0 ∷ []
+ordered_told (Err r) = refusal_place r ∷ []
 
 -- "First order", where the order buffer has n places
-abbrev pub ordering : ℕ → List ℕ → List ℕ → ℕ → Ordered
+abbrev pub ordering : ℕ → List ℕ → List ℕ → ℕ → Result Unit Refusal
 ordering k masks w n = ordered_as (first_order_refusal k masks w n)
 
 -- the letters of an order; none where there is no order

@@ -10,15 +10,8 @@ ghost use Rattle.profile.specs.Traces.{independent};
 ghost use Rattle.events.specs.Events.{all_keepers, comes_next?};
 ghost use Rattle.order.specs.Order.{Placed, first_letters, ordered_buffer, ordering};
 
-use profile::limits::{MOST_LETTERS, MOST_PLACES, Place};
 use profile::Refusal;
-
-// The answer of a first order.
-#[derive(Clone, Copy)]
-pub enum Ordered {
-    Written,
-    Refused(Refusal),
-}
+use profile::limits::{MOST_LETTERS, MOST_PLACES, Place};
 
 // The smallest letter that can come next; k where there is none.
 fn least_next(
@@ -31,24 +24,20 @@ fn least_next(
     requires { (k ≤ most_letters) × (keepers.now ≡ all_keepers (independent masks.now) k) }
     ensures { result ≡ first_place (comes_next? (independent masks.now) k n next.now) (below k) }
 {
-    let mut a = 0;
-    while a < k {
+    for a in 0..k {
         if events::comes_next(masks, keepers, k, n, next, a) {
             return a;
         }
-        a += 1;
     }
-    a
+    k
 }
 
 // The place of the first event of each letter that `next` has an element for.
 fn first_places(starts: &[Place], places: &[Place], next: &mut [Place])
     ensures { next.new ≡ map (λ x. get_or places.now (get_or starts.now x 0 + 0) 0) (below (length next.old)) }
 {
-    let mut x = 0;
-    while x < next.len() {
-        next[x] = places::next_place(starts, places, x, 0);
-        x += 1;
+    for (x, place) in next.iter_mut().enumerate() {
+        *place = places::next_place(starts, places, x, 0);
     }
 }
 
@@ -70,14 +59,12 @@ fn put_letters(
 {
     first_places(starts, places, next);
     let n = log.len();
-    let mut t = 0;
-    while t < n {
+    for t in 0..n {
         let a = least_next(masks, keepers, k, n, next);
         out[t] = a as u8;
         let m = used[a] + 1;
         used[a] = m;
         next[a] = places::next_place(starts, places, a, m);
-        t += 1;
     }
 }
 
@@ -106,21 +93,15 @@ fn put_first(k: usize, masks: &[u16], log: &[u8], out: &mut [u8])
 }
 
 // Writes the earliest log reachable from the log to the first bytes of the buffer; refused by 2, 4, 7, 8 and 9.
-pub fn first_order(k: usize, masks: &[u16], log: &[u8], out: &mut [u8]) -> Ordered
+pub fn first_order(k: usize, masks: &[u16], log: &[u8], out: &mut [u8]) -> Result<(), Refusal>
     ensures { (result ≡ ordering k masks.now log.now (length out.old))
         × (out.new ≡ ordered_buffer k masks.now log.now out.old) }
 {
-    let relation = checks::check_relation(k, masks);
-    if let Err(r) = relation {
-        return Ordered::Refused(r);
-    }
-    let letters = logcheck::check_log(k, log);
-    if let Err(r) = letters {
-        return Ordered::Refused(r);
-    }
+    checks::check_relation(k, masks)?;
+    logcheck::check_log(k, log)?;
     if out.len() < log.len() {
-        return Ordered::Refused(Refusal::ShortBuffer);
+        return Err(Refusal::ShortBuffer);
     }
     put_first(k, masks, log, out);
-    Ordered::Written
+    Ok(())
 }

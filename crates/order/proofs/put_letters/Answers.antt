@@ -26,11 +26,11 @@ letter_of c =
     let a = c.args in
     let p = c.requires.placed in
     let l = c.loop-t in
-    let below = chosen_below a.k a.masks.now a.log.now (relation_at a.k a.masks.now p.relation) (log_at a.k a.log.now p.log) a.out.now l.next l.used l.out l.t l.invariant.4
+    let below = chosen_below a.k a.masks.now a.log.now (relation_at a.k a.masks.now p.relation) (log_at a.k a.log.now p.log) a.out.now l.next l.used l.out l.t l.invariant.3
     (omega arith) c.least_next-a.result c.least_next-a.ensures in
-    let fits = chosen_fits a.k a.masks.now a.log.now (relation_at a.k a.masks.now p.relation) (log_at a.k a.log.now p.log) a.out.now l.next l.used l.out l.t l.invariant.4
+    let fits = chosen_fits a.k a.masks.now a.log.now (relation_at a.k a.masks.now p.relation) (log_at a.k a.log.now p.log) a.out.now l.next l.used l.out l.t l.invariant.3
     (omega arith) c.least_next-a.result c.least_next-a.ensures in
-    let long = chosen_length a.k a.masks.now a.log.now (relation_at a.k a.masks.now p.relation) (log_at a.k a.log.now p.log) a.out.now l.next l.used l.out l.t l.invariant.4 in
+    let long = chosen_length a.k a.masks.now a.log.now (relation_at a.k a.masks.now p.relation) (log_at a.k a.log.now p.log) a.out.now l.next l.used l.out l.t l.invariant.3 in
     (below, (relation_at a.k a.masks.now p.relation).most, omega (arith, p.long), omega arith, fits)
 
 pub overflow_cast-out : goal.overflow_cast-out
@@ -57,39 +57,35 @@ bounds-used-a-in-loop-t c = (letter_of (goal.at.bounds-used-a-in-loop-t c).After
 pub bounds-next-a : goal.bounds-next-a
 bounds-next-a c = (letter_of (goal.at.bounds-next-a c).After-least_next-a).3
 
-pub loop-t-smaller : goal.loop-t-smaller
-loop-t-smaller c = omega arith
-
 pub loop-t-preserved : goal.loop-t-preserved
 loop-t-preserved c =
     let a = c.args in
     let p = c.requires.placed in
     let l = c.loop-t in
     let x = c.least_next-a.result in (
-      omega arith,
-      length-set l.next x c.next_place.result ∙ l.invariant.1,
-      length-set l.used x (get_or l.used x 0 + 1) ∙ l.invariant.2,
-      length-set l.out l.t x ∙ l.invariant.3,
-      chosen_more a.k a.masks.now a.log.now (relation_at a.k a.masks.now p.relation) (log_at a.k a.log.now p.log) a.out.now l.next l.used l.out l.t l.invariant.4
+      length-set l.next x c.next_place.result ∙ l.invariant.0,
+      length-set l.used x (get_or l.used x 0 + 1) ∙ l.invariant.1,
+      length-set l.out l.t x ∙ l.invariant.2,
+      chosen_more a.k a.masks.now a.log.now (relation_at a.k a.masks.now p.relation) (log_at a.k a.log.now p.log) a.out.now l.next l.used l.out l.t l.invariant.3
           (omega arith) x c.least_next-a.ensures a.starts.now a.places.now p.start p.place c.next_place.result c.next_place.ensures
           p.room (omega (arith, p.long)),
     )
 
 pub shape_of-next : goal.shape_of-next
-shape_of-next c = c.loop-t.invariant.1 ∙ c.first_places.auto.next
+shape_of-next c = c.loop-t.invariant.0 ∙ c.first_places.auto.next
 
 pub shape_of-used : goal.shape_of-used
-shape_of-used c = c.loop-t.invariant.2
+shape_of-used c = c.loop-t.invariant.1
 
 pub shape_of-out : goal.shape_of-out
-shape_of-out c = c.loop-t.invariant.3
+shape_of-out c = c.loop-t.invariant.2
 
 pub returns : goal.returns
 returns c =
     let a = c.args in
     let p = c.requires.placed in
     let l = c.loop-t in
-    chosen_all a.k a.masks.now a.log.now (relation_at a.k a.masks.now p.relation) (log_at a.k a.log.now p.log) a.out.now l.next l.used l.out l.t l.invariant.4 (omega arith)
+    chosen_all a.k a.masks.now a.log.now (relation_at a.k a.masks.now p.relation) (log_at a.k a.log.now p.log) a.out.now l.next l.used l.out l.t l.invariant.3 (omega arith)
 
 pub offset_bounds-next-a : goal.offset_bounds-next-a
 offset_bounds-next-a c = omega (arith, letter_of (goal.at.offset_bounds-next-a c).After-least_next-a)
@@ -100,4 +96,4 @@ loop-t-init c =
     let p = c.requires.placed in
     let e = c.first_places.ensures ∙ ap (λ n. map (λ x. get_or a.places.now (get_or a.starts.now x 0 + 0) 0) (below n)) p.wide in
     let q = e ∙ first_coming a.k a.log.now a.starts.now a.places.now p.start p.place in
-    (omega arith, refl, refl, refl, chosen_none a.k a.masks.now a.log.now a.out.now c.first_places.new.next a.used.now q p.unused)
+    (refl, refl, refl, chosen_none a.k a.masks.now a.log.now a.out.now c.first_places.new.next a.used.now q p.unused)
