@@ -29,11 +29,9 @@ fn unseen(moves: &[u32], k: usize, s: usize, visible: u32, q: usize) -> u32
     ensures { result ≡ unseen_of (bare k s moves.now) visible q }
 {
     let mut out = 0u32;
-    let mut a = 0;
-    while a < k {
+    for a in 0..k {
         let to = leads_from(moves, k, q, a);
         out = with_hidden(out, visible, a, to);
-        a += 1;
     }
     (1u32 << q) | out
 }
@@ -43,11 +41,9 @@ fn put_unseen(moves: &[u32], k: usize, s: usize, visible: u32, reach: &mut [u32]
     requires { (k ≤ most_letters) × (s ≤ most_states) × (s ≤ length reach.old) }
     ensures { reach.new ≡ map (unseen_of (bare k s moves.now) visible) (below s) ++ drop s reach.old }
 {
-    let mut q = 0;
-    while q < s {
+    for q in 0..s {
         let to = unseen(moves, k, s, visible, q);
         reach[q] = to;
-        q += 1;
     }
 }
 
@@ -69,11 +65,9 @@ fn pass(reach: &mut [u32], s: usize, n: usize)
     ensures { reach.new ≡ map (λ q. widened_by (get_or reach.old n 0) n (get_or reach.old q 0)) (below s) ++ drop s reach.old }
 {
     let over = reach[n];
-    let mut q = 0;
-    while q < s {
+    for q in 0..s {
         let to = widened(reach[q], over, n);
         reach[q] = to;
-        q += 1;
     }
 }
 
@@ -83,10 +77,8 @@ pub fn put_reach(moves: &[u32], k: usize, s: usize, visible: u32, reach: &mut [u
     ensures { reach.new ≡ map (reach_of (bare k s moves.now) visible) (below s) ++ drop s reach.old }
 {
     put_unseen(moves, k, s, visible, reach);
-    let mut n = 0;
-    while n < s {
+    for n in 0..s {
         pass(reach, s, n);
-        n += 1;
     }
 }
 
@@ -95,12 +87,9 @@ pub fn put_moves(moves: &[u32], k: usize, s: usize, reach: &[u32], late: &mut [u
     requires { (1 ≤ k) × (k ≤ most_letters) × (s ≤ most_states) × (s ≤ length reach.now) × (s * k ≤ length late.old) }
     ensures { late.new ≡ map (late_move k s moves.now reach.now) (below (s * k)) ++ drop (s * k) late.old }
 {
-    let end = s * k;
-    let mut j = 0;
-    while j < end {
+    for j in 0..s * k {
         let to = step_forward(moves, k, s, reach[j / k], j % k);
         late[j] = to;
-        j += 1;
     }
 }
 
@@ -110,12 +99,10 @@ pub fn led_into(reach: &[u32], s: usize, set: u32) -> u32
     ensures { result ≡ led_into s reach.now set }
 {
     let mut out = 0u32;
-    let mut q = 0;
-    while q < s {
+    for q in 0..s {
         if meet(reach[q], set) {
             out = out | (1u32 << q);
         }
-        q += 1;
     }
     out
 }

@@ -1,17 +1,14 @@
-use mathlib.Core.Path.{◌≡◌, refl, ◌∙◌, ap, ap₂}
+use mathlib.Core.Path.{◌≡◌, ◌∙◌, ap, ap₂}
 use mathlib.Core.List.{◌++◌, map}
 use Prim.Native.Nat.{◌*◌, ◌/◌, ◌<◌}
 use native.Mathlib.Omega.{arith}
-use lib.ListN.{drop, length, set, length-set}
+use lib.ListN.{drop, length, set}
 use Rattle.profile.specs.Lists.{below}
 use Rattle.theory.proofs.Fronts.{front_put}
 use Rattle.hidden.specs.Hidden.{late_move}
 use Rattle.hidden.proofs.Rounds.{state_of}
 use borrow.Author.Rules.{rules}
 use Rattle.hidden.proofs.put_moves.Goals as goal
-
-pub loop-j-init : goal.loop-j-init
-loop-j-init c = (omega arith, refl, refl, refl)
 
 pub offset_bounds-reach-j : goal.offset_bounds-reach-j
 offset_bounds-reach-j c =
@@ -35,14 +32,11 @@ loop-j-preserved c =
     let l = c.loop-j in
     let R = late_move a.k a.s a.moves.now a.reach.now in
     let m : l.j < length a.late.now = omega arith in
-    (omega arith, refl, simp length-set l.invariant.2, ap₂ (λ r x. set r l.j x) l.invariant.3 c.step_forward-to.ensures ∙ front_put R a.late.now l.j m)
-
-pub shape_of-late : goal.shape_of-late
-shape_of-late c = c.loop-j.invariant.2
+    ap₂ (λ r x. set r l.j x) l.invariant c.step_forward-to.ensures ∙ front_put R a.late.now l.j m
 
 pub returns : goal.returns
 returns c =
     let a = c.args in
     let l = c.loop-j in
     let e : l.j ≡ a.s * a.k = omega arith in
-    l.invariant.3 ∙ ap (λ n. map (late_move a.k a.s a.moves.now a.reach.now) (below n) ++ drop n a.late.now) e
+    l.invariant ∙ ap (λ n. map (late_move a.k a.s a.moves.now a.reach.now) (below n) ++ drop n a.late.now) e

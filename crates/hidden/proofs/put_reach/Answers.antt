@@ -1,14 +1,13 @@
 use mathlib.Core.Path.{◌≡◌, sym, ◌∙◌, ap, ap₂}
 use mathlib.Core.List.{◌++◌, map}
-use Prim.Native.Nat.{◌<◌}
+use Prim.Native.Nat.{◌≤◌, ◌<◌}
 use native.Mathlib.Numerals.{add-one}
 use native.Mathlib.Omega.{arith}
-use lib.ListN.{drop}
+use lib.ListN.{drop, length}
 use Rattle.profile.specs.Lists.{below}
 use Rattle.views.specs.Views.{reach, reaches, unseen}
 use Rattle.hidden.specs.Hidden.{bare}
 use Rattle.hidden.proofs.Rounds.{front_behind, round}
-use borrow.Author.Rules.{rules}
 use Rattle.hidden.proofs.put_reach.Goals as goal
 
 pub loop-n-preserved : goal.loop-n-preserved
@@ -17,12 +16,9 @@ loop-n-preserved c =
     let l = c.loop-n in
     let next = unseen (bare a.k a.s a.moves.now) a.visible in
     let r = c.put_unseen.new.reach in
-    let lt : l.n < a.s = omega arith in (
-      search rules,
-      c.pass.auto.reach ∙ l.invariant.1,
-      l.invariant.2,
-      c.pass.ensures ∙ round next l.n a.s r l.reach lt l.invariant.2 l.invariant.3 ∙ ap (λ n. map (reaches next n) (below a.s) ++ drop a.s r) (sym (add-one l.n)),
-    )
+    let lt : l.n < a.s = omega arith in
+    let fits : a.s ≤ length r = omega arith in
+    c.pass.ensures ∙ round next l.n a.s r l.reach lt fits l.invariant ∙ ap (λ n. map (reaches next n) (below a.s) ++ drop a.s r) (sym (add-one l.n))
 
 pub returns : goal.returns
 unfolding reach
@@ -31,4 +27,4 @@ returns c =
     let l = c.loop-n in
     let next = unseen (bare a.k a.s a.moves.now) a.visible in
     let e : l.n ≡ a.s = omega arith in
-    l.invariant.3 ∙ ap₂ (λ n z. map (reaches next n) (below a.s) ++ z) e (front_behind next a.s a.reach.now c.put_unseen.new.reach c.put_unseen.ensures)
+    l.invariant ∙ ap₂ (λ n z. map (reaches next n) (below a.s) ++ z) e (front_behind next a.s a.reach.now c.put_unseen.new.reach c.put_unseen.ensures)

@@ -1,16 +1,11 @@
--- `hidden::put_reach` meets its contract. The loop's invariant: the sets are those over the states below `n`. The measure is what is left of the states.
+-- `hidden::put_reach` meets its contract. The loop's invariant: the sets are those over the states below `n`.
 use mathlib.Core.Path.{◌≡◌}
 use mathlib.Core.List.{◌++◌, map}
-use Prim.Native.Nat.{◌-◌, ◌≤◌}
-use lib.ListN.{drop, length}
+use lib.ListN.{drop}
 use Rattle.profile.specs.Lists.{below}
 use Rattle.views.specs.Views.{reaches, unseen}
 use Rattle.hidden.specs.Hidden.{bare}
 use Rattle.hidden.proofs.put_reach.Given as goal
 
 abbrev pub invariant-loop-n : goal.invariant-loop-n
-invariant-loop-n l =
-    (l.n ≤ l.s) × (length l.reach ≡ length l.initial.reach) × (l.s ≤ length l.initial.reach) × (l.reach ≡ map (reaches (unseen (bare l.k l.s l.moves) l.visible) l.n) (below l.s) ++ drop l.s l.initial.reach)
-
-abbrev pub decreases-loop-n : goal.decreases-loop-n
-decreases-loop-n l = l.s - l.n
+invariant-loop-n l = l.reach ≡ map (reaches (unseen (bare l.k l.s l.moves) l.visible) l.n) (below l.s) ++ drop l.s l.initial.reach

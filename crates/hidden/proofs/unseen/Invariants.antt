@@ -1,14 +1,10 @@
--- `hidden::unseen` meets its contract. The loop's invariant: `out` is what the hidden letters below `a` lead to. The measure is what is left of the letters.
+-- `hidden::unseen` meets its contract. The loop's invariant: `out` is what the hidden letters below `a` lead to.
 use mathlib.Core.Path.{◌≡◌}
 use mathlib.Core.Bool.{not}
-use Prim.Native.Nat.{◌-◌, ◌≤◌}
 use Rattle.profile.specs.Automata.{row, union}
 use Rattle.profile.specs.Lists.{below, filter}
 use Rattle.profile.specs.Traces.{bit}
 use Rattle.hidden.proofs.unseen.Given as goal
 
 abbrev pub invariant-loop-a : goal.invariant-loop-a
-invariant-loop-a l = (l.a ≤ l.k) × (l.out ≡ union (λ x. row l.k l.moves l.q x) (filter (λ x. not (bit l.visible x)) (below l.a)))
-
-abbrev pub decreases-loop-a : goal.decreases-loop-a
-decreases-loop-a l = l.k - l.a
+invariant-loop-a l = (l.out ≡ union (λ x. row l.k l.moves l.q x) (filter (λ x. not (bit l.visible x)) (below l.a)))
