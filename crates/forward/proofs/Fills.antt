@@ -1,6 +1,7 @@
 -- One total, record by record; and all totals, one after the other.
 use mathlib.Core.Path.{◌≡◌, refl, sym, ◌∙◌, ap, ap₂, subst}
 use mathlib.Core.Bool.{Bool}
+use Rattle.std.specs.Prelude.{Option, Some, None}
 use mathlib.Core.Logic.{⊎_elim}
 use mathlib.Core.List.{List, [], ◌∷◌, ◌++◌, append_assoc, append-nil}
 use Prim.Native.Nat.{ℕ, suc, ◌+◌, ◌*◌, ◌≤◌, ◌<◌}
@@ -22,9 +23,7 @@ use Rattle.theory.proofs.Fronts.{front_whole}
 use Rattle.forward.specs.Forward.{Forward, Ready}
 use Rattle.forward.specs.Merging.{Begun, Grows, Merging, Placed, Steps, begun, pairs, records_between, totals}
 use Rattle.forward.specs.declared.Filled.{Filled}
-use Rattle.forward.specs.declared.Filled.TheVariants as filled
 use Rattle.forward.specs.declared.Merged.TheVariants as merged
-use Rattle.forward.specs.declared.Total.TheVariants as total
 use Rattle.forward.proofs.Drafts.{begun_again, begun_same, totals_le, totals_more, totals_suc}
 use Rattle.forward.proofs.Puts.{level_part}
 use Rattle.forward.proofs.Steps.{placed_start}
@@ -132,7 +131,7 @@ module _ {p : Rules} {w : List ℕ} {m room : ℕ} {starts places turns : List �
     pub filling_few : n ≤ most_letters * room
     filling_few = omega (arith, f.paired, f.inside, pairs_few p w r.profile.relation.most (take j E), length-take-le j E f.come)
 
-    pub filling_done : (after next : List ℕ) → Steps p w room t first j table after next merged.Nothing → Grows p w room t first before after (total.Put j n)
+    pub filling_done : (after next : List ℕ) → Steps p w room t first j table after next merged.Nothing → Grows p w room t first before after (Some (j, n))
     filling_done after next s =
         let all : take j E ≡ E = take_all j E (omega (arith, s.0)) in (
           s.0,
@@ -171,7 +170,7 @@ module _ {p : Rules} {w : List ℕ} {m room : ℕ} {starts places turns : List �
     pub reaching_few : n ≤ most_letters * room
     reaching_few = omega (arith, f.paired, f.begins.inside, next_first, pairs_few p w r.profile.relation.most (totals p w (suc t)))
 
-    pub reaching_full : t < length w → (after : List ℕ) → Grows p w room t first table after total.Full → room < prefix_count p.may p.letter p.profile.k w
+    pub reaching_full : t < length w → (after : List ℕ) → Grows p w room t first table after None → room < prefix_count p.may p.letter p.profile.k w
     reaching_full lt after g = omega (
       arith,
       g,
@@ -182,7 +181,7 @@ module _ {p : Rules} {w : List ℕ} {m room : ℕ} {starts places turns : List �
       totals_le p w (suc (suc t)) (suc (length w)) (omega arith),
     )
 
-    pub reaching_next : t < length w → (i l : ℕ) (after : List ℕ) → Grows p w room t first table after (total.Put i l) → length after ≡ length table
+    pub reaching_next : t < length w → (i l : ℕ) (after : List ℕ) → Grows p w room t first table after (Some (i, l)) → length after ≡ length table
         → Reaching p w before after room (t + 1) first (first + i) (n + l)
     reaching_next lt i l after g q = subst (λ z. Reaching p w before after room z first (first + i) (n + l)) (sym (add-one t)) (record {
       kept = q ∙ f.kept;
@@ -209,7 +208,7 @@ module _ {p : Rules} {w : List ℕ} {m room : ℕ} {starts places turns : List �
         put : after ≡ begun p w (totals p w (suc (suc t))) before
         put = g.3 ∙ ap₂ (begun p w) more f.written ∙ begun_again p w (totals p w (suc t)) (of_total p w (suc t)) before ∙ ap (λ C. begun p w C before) (sym more)
 
-    pub reaching_end : length w ≤ t → Forward p w room before table (filled.Done first n)
+    pub reaching_end : length w ≤ t → Forward p w room before table (Some record { records = first; looks = n })
     reaching_end le =
         let e : t ≡ length w = omega (arith, f.up_to) in
         let whole : totals p w (suc t) ≡ in_order p w = ap (λ i. totals p w (suc i)) e in
@@ -230,13 +229,13 @@ module _ {p : Rules} {w : List ℕ} {m room : ℕ} {starts places turns : List �
     written = e ∙ sym (ap (begun p w (totals p w 1)) e ∙ begun_same p w (totals p w 1) before);
   }
 
-  pub from_first : (before table after : List ℕ) → table ≡ begun p w (totals p w 1) before → (f : Filled) → Forward p w room table after f → Forward p w room before after f
-  from_first before table after e filled.Full h = h
-  from_first before table after e (filled.Done P n) h =
+  pub from_first : (before table after : List ℕ) → table ≡ begun p w (totals p w 1) before → (f : Option Filled) → Forward p w room table after f → Forward p w room before after f
+  from_first before table after e None h = h
+  from_first before table after e (Some f) h =
       let d = totals_more p w 1 (suc (length w)) (omega arith) in
       let over : begun p w (in_order p w) table ≡ begun p w (in_order p w) before =
       ap₂ (begun p w) d.1 e ∙ begun_again p w (totals p w 1) d.0 before ∙ ap (λ C. begun p w C before) (sym d.1) in
-      let q : length (in_order p w) ≡ P = order_count ∙ sym h.0 in (
+      let q : length (in_order p w) ≡ f.records = order_count ∙ sym h.0 in (
         h.0,
         h.1,
         h.2,

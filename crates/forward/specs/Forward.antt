@@ -1,6 +1,6 @@
 -- Document 01, "Prefixes and their table": the forward pass, which puts the record of each prefix, one total after the other. While the table is built the
 -- last number of a record has the letters that can be added, and those of which one can be taken away.
-use Rattle.std.specs.Prelude.{◌≡◌, Bool, List, ◌++◌, ℕ, ◌*◌, ◌≤◌, ◌<◌, length, drop}
+use Rattle.std.specs.Prelude.{Option, Some, None, ◌≡◌, Bool, List, ◌++◌, ℕ, ◌*◌, ◌≤◌, ◌<◌, length, drop}
 use Rattle.profile.specs.Limits.{most_records}
 use Rattle.profile.specs.Rules.{Rules, looks_by, prefixes_by}
 use Rattle.profile.specs.Prefixes.{IsPrefix, additions, at}
@@ -9,7 +9,6 @@ use Rattle.profile.specs.Traces.{independent}
 use Rattle.theory.proofs.Refusals.{GoodEvents, GoodProfile}
 use Rattle.term_letters.specs.Letters.{letters_found}
 use Rattle.forward.specs.declared.Filled.{Filled}
-use Rattle.forward.specs.declared.Filled.TheVariants as filled
 use Rattle.records.specs.Drafts.{drafted, in_order}
 
 -- by these places of events, and their turns where they have terms, the letters that can be added to each prefix of the events w are found
@@ -27,10 +26,10 @@ pub record Ready (p : Rules) (w : List ℕ) (n room : ℕ) (starts places turns 
   pub finds : Finds p w starts places turns termed
 
 -- the table `before` became `after`: it holds the records of all prefixes, or these do not fit
-abbrev pub Forward : Rules → List ℕ → ℕ → List ℕ → List ℕ → Filled → Type 0
-Forward p w room before after filled.Full = room < prefixes_by p w
-Forward p w room before after (filled.Done P n) =
-    (P ≡ prefixes_by p w)
-    × (P ≤ room)
-    × (n ≡ looks_by p w)
-    × (after ≡ drafted p w (in_order p w) ++ drop (record_length layout * P) before)
+abbrev pub Forward : Rules → List ℕ → ℕ → List ℕ → List ℕ → Option Filled → Type 0
+Forward p w room before after None = room < prefixes_by p w
+Forward p w room before after (Some f) =
+    (f.records ≡ prefixes_by p w)
+    × (f.records ≤ room)
+    × (f.looks ≡ looks_by p w)
+    × (after ≡ drafted p w (in_order p w) ++ drop (record_length layout * f.records) before)

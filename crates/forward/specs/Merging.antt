@@ -1,5 +1,5 @@
 -- Between one total and the next, for the functions that the forward pass is made of: a total is put record by record, by a merge of the total before it.
-use Rattle.std.specs.Prelude.{◌≡◌, Bool, List, [], ◌++◌, ℕ, suc, ◌+◌, ◌-◌, ◌*◌, ◌≤◌, ◌<◌, length, get_or, take, drop}
+use Rattle.std.specs.Prelude.{Option, Some, None, ◌≡◌, Bool, List, [], ◌++◌, ℕ, suc, ◌+◌, ◌-◌, ◌*◌, ◌≤◌, ◌<◌, length, get_or, take, drop}
 use Rattle.std.proofs.Math.Option.{none, some}
 use Rattle.profile.specs.Limits.{most_letters}
 use Rattle.profile.specs.Rules.{Rules}
@@ -10,16 +10,14 @@ use Rattle.profile.specs.Traces.{independent}
 use Rattle.theory.proofs.Looks.{pairs_in}
 use Rattle.theory.proofs.Merge.{Cursor, extends?}
 use Rattle.counts.specs.Counts.{words}
+use Rattle.counts.specs.declared.Counts.{Counts}
 use Rattle.events.specs.Events.{all_keepers}
 use Rattle.cursors.specs.Cursors.{advanced}
+use Rattle.merge.specs.declared.Handed.{Handed}
 use Rattle.merge.specs.Merge.{givers, inherited, least_of, passing, united}
 use Rattle.rows.specs.Rows.{by_letter}
 use Rattle.forward.specs.declared.Merged.{Merged}
 use Rattle.forward.specs.declared.Merged.TheVariants as merged
-use Rattle.forward.specs.declared.Next.{Next}
-use Rattle.forward.specs.declared.Next.TheVariants as next
-use Rattle.forward.specs.declared.Total.{Total}
-use Rattle.forward.specs.declared.Total.TheVariants as total
 use Rattle.forward.specs.declared.Part.{Part}
 use Rattle.forward.specs.Forward.{Ready}
 use Rattle.records.specs.Drafts.{drafted, letters_of, of_total}
@@ -59,12 +57,12 @@ abbrev pub part_behind : Part → ℕ → Part
 part_behind a n = record { shape = a.shape; room = a.room; t = a.t + 1; from = a.first; first = a.first + n }
 
 -- total t + 1 is put behind them, or does not fit
-abbrev pub Grows : Rules → List ℕ → ℕ → ℕ → ℕ → List ℕ → List ℕ → Total → Type 0
-Grows p w room t first before after total.Full = room < first + length (of_total p w (suc t))
-Grows p w room t first before after (total.Put m n) =
-    (m ≡ length (of_total p w (suc t)))
-    × (first + m ≤ room)
-    × (n ≡ pairs p w (of_total p w (suc t)))
+abbrev pub Grows : Rules → List ℕ → ℕ → ℕ → ℕ → List ℕ → List ℕ → Option (ℕ × ℕ) → Type 0
+Grows p w room t first before after None = room < first + length (of_total p w (suc t))
+Grows p w room t first before after (Some m) =
+    (m.0 ≡ length (of_total p w (suc t)))
+    × (first + m.0 ≤ room)
+    × (m.1 ≡ pairs p w (of_total p w (suc t)))
     × (after ≡ begun p w (totals p w (suc (suc t))) before)
 
 -- each cursor stands where the first j prefixes of total t + 1 have come
@@ -98,12 +96,12 @@ Steps p w room t first j before after cursors (merged.Put n) =
     × Placed p w t (suc j) cursors
 
 -- the counts that come next by the cursors, the letters of these, and what the records there hand on; the cursors move on
-abbrev pub Comes : ℕ → ℕ → List ℕ → List ℕ → List ℕ → List ℕ → List ℕ → Next → Type 0
-Comes k s masks moves t before after next.Nothing = least_of t k before ≡ none
-Comes k s masks moves t before after (next.At c G h) =
-    (least_of t k before ≡ some (words c))
-    × (h.forward ≡ united k s moves t before (givers t k before))
-    × (h.letters ≡ inherited k t before (givers t k before))
-    × (h.passed ≡ passing k masks (givers t k before))
+abbrev pub Comes : ℕ → ℕ → List ℕ → List ℕ → List ℕ → List ℕ → List ℕ → Option (Counts × ℕ × Handed) → Type 0
+Comes k s masks moves t before after None = least_of t k before ≡ none
+Comes k s masks moves t before after (Some n) =
+    (least_of t k before ≡ some (words n.0))
+    × (n.2.forward ≡ united k s moves t before (givers t k before))
+    × (n.2.letters ≡ inherited k t before (givers t k before))
+    × (n.2.passed ≡ passing k masks (givers t k before))
     × (after ≡ advanced k t before (givers t k before))
-    × (G ≡ givers t k before)
+    × (n.1 ≡ givers t k before)

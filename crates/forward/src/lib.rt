@@ -17,7 +17,7 @@ ghost use Rattle.forward.specs.Forward.{Forward, Ready};
 ghost use Rattle.forward.specs.Merging.{Comes, Grows, Halfway, Prepared, Standing, Steps, begun, pairs, part_behind, records_between, totals};
 
 use counts::Counts;
-use merge::{Handed, Least};
+use merge::Handed;
 use profile::Shape;
 use profile::limits::{MOST_LETTERS, MOST_MOVES, Place};
 use records::RECORD;
@@ -25,11 +25,11 @@ use records::RECORD;
 // The bits of the half of a record's last number that has the letters that can be added; above it are those that lead to the record.
 const HALF: u32 = 16;
 
-// The records of all prefixes are put, with the looks; or they do not fit.
+// The records of all prefixes that are put, so many, and the looks.
 #[derive(Clone, Copy)]
-pub enum Filled {
-    Full,
-    Done { records: usize, looks: u64 },
+pub struct Filled {
+    pub records: usize,
+    pub looks: u64,
 }
 
 // Where total t of a profile of this shape stands in a table that `room` records fit: from record `from` to before record `first`, at which the
@@ -43,26 +43,12 @@ struct Part {
     first: usize,
 }
 
-// The records of a total are put, so many, with the pairs of one of them and a letter that can be added to it; or they do not fit.
-#[derive(Clone, Copy)]
-enum Total {
-    Full,
-    Put(usize, u64),
-}
-
 // The next record of a total is put, with the number of letters that can be added; or there is none; or it does not fit.
 #[derive(Clone, Copy)]
 enum Merged {
     Nothing,
     Full,
     Put(u32),
-}
-
-// The next counts of a total, the letters that lead to them, and what the records from which these lead hand on; or there are none.
-#[derive(Clone, Copy)]
-enum Next {
-    Nothing,
-    At(Counts, u32, Handed),
 }
 
 // Puts the record of the empty prefix; the number of letters that can be added to it.
@@ -95,7 +81,8 @@ fn put_first(
     letters.number
 }
 
-// The next counts by the cursors, of the total after the one in `level`; their cursors move on.
+// The next counts by the cursors, of the total after the one in `level`, the letters that lead to them, and what the records from which these lead hand
+// on; none where there are none. Their cursors move on.
 fn next_counts(
     level: &[u32],
     k: usize,
@@ -104,20 +91,15 @@ fn next_counts(
     moves: &[u32],
     rows: &[u32; MOST_MOVES],
     cursors: &mut [usize],
-) -> Next
+) -> Option<(Counts, u32, Handed)>
     requires k_le_most_letters { (k ≤ most_letters) × (s ≤ most_states) × (most_letters ≤ length cursors.old) × (k ≤ length masks.now) }
     requires rows_value { rows.now ≡ by_letter k s moves.now }
     ensures { Comes k s masks.now moves.now level.now cursors.old cursors.new result }
 {
-    let least = merge::least_counts(level, k, cursors);
-    match least {
-        Least::Nothing => Next::Nothing,
-        Least::At(c, set) => {
-            let handed = merge::unite(level, moves, rows, masks, k, s, cursors, set);
-            cursors::advance(level, k, cursors, set);
-            Next::At(c, set, handed)
-        }
-    }
+    let (c, set) = merge::least_counts(level, k, cursors)?;
+    let handed = merge::unite(level, moves, rows, masks, k, s, cursors, set);
+    cursors::advance(level, k, cursors, set);
+    Some((c, set, handed))
 }
 
 // Puts record j of the total that begins at record `first`.
@@ -157,8 +139,8 @@ fn merge_next(
     let end = RECORD * first;
     let next = next_counts(&table[start..end], k, s, masks, moves, rows, cursors);
     match next {
-        Next::Nothing => Merged::Nothing,
-        Next::At(c, from, handed) => {
+        None => Merged::Nothing,
+        Some((c, from, handed)) => {
             if first + j < room {
                 // Chosen here and in `put_first`, not in a function of its own: the compiler then puts the tests into the loop.
                 let set = if termed {
@@ -200,7 +182,7 @@ fn first_cursors(table: &[u32], part: Part, k: usize) -> [usize; MOST_LETTERS]
     cursors
 }
 
-// Puts the records of the total behind the part.
+// Puts the records of the total behind the part: so many, with the pairs of one of them and a letter that can be added to it; none where they do not fit.
 fn fill_total(
     table: &mut [u32],
     part: Part,
@@ -213,7 +195,7 @@ fn fill_total(
     places: &[Place],
     turns: &[Place],
     termed: bool,
-) -> Total
+) -> Option<(usize, u64)>
     requires { Standing (rules_of (profile_of part.shape masks.now moves.now) termed) log.now table.old part starts.now places.now turns.now termed × Prepared (rules_of (profile_of part.shape masks.now moves.now) termed) rows.now keepers.now }
     ensures { Grows (rules_of (profile_of part.shape masks.now moves.now) termed) log.now part.room part.t part.first table.old table.new result }
 {
@@ -237,8 +219,8 @@ fn fill_total(
             termed,
         );
         match merged {
-            Merged::Nothing => return Total::Put(j, pairs),
-            Merged::Full => return Total::Full,
+            Merged::Nothing => return Some((j, pairs)),
+            Merged::Full => return None,
             Merged::Put(n) => pairs += n as u64,
         }
         j += 1;
@@ -274,7 +256,7 @@ fn fill_totals(
     places: &[Place],
     turns: &[Place],
     termed: bool,
-) -> Filled
+) -> Option<Filled>
     requires standing { Standing (rules_of (profile_of part.shape masks.now moves.now) termed) log.now table.old part starts.now places.now turns.now termed }
     requires t_in_bounds { ((part.t ≤ length log.now) × (number ≡ pairs (rules_of (profile_of part.shape masks.now moves.now) termed) log.now (totals (rules_of (profile_of part.shape masks.now moves.now) termed) log.now (suc part.t)))) × Prepared (rules_of (profile_of part.shape masks.now moves.now) termed) rows.now keepers.now }
     ensures { Forward (rules_of (profile_of part.shape masks.now moves.now) termed) log.now part.room table.old table.new result }
@@ -282,21 +264,16 @@ fn fill_totals(
     let mut at = part;
     let mut looks = number as u64;
     while at.t < log.len() {
-        let total = fill_total(
+        let (records, pairs) = fill_total(
             table, at, masks, moves, rows, keepers, log, starts, places, turns, termed,
-        );
-        match total {
-            Total::Full => return Filled::Full,
-            Total::Put(records, pairs) => {
-                at = next_part(at, records);
-                looks += pairs;
-            }
-        }
+        )?;
+        at = next_part(at, records);
+        looks += pairs;
     }
-    Filled::Done {
+    Some(Filled {
         records: at.first,
         looks: looks,
-    }
+    })
 }
 
 // Fills the records of all prefixes, where `room` records fit.
@@ -311,12 +288,12 @@ pub fn fill_forward(
     places: &[Place],
     turns: &[Place],
     termed: bool,
-) -> Filled
+) -> Option<Filled>
     requires { Ready (rules_of (profile_of shape masks.now moves.now) termed) log.now (length table.old) room starts.now places.now turns.now termed }
     ensures { Forward (rules_of (profile_of shape masks.now moves.now) termed) log.now room table.old table.new result }
 {
     if room == 0 {
-        return Filled::Full;
+        return None;
     }
     let keepers = events::all_keepers(masks, shape.k);
     let number = put_first(

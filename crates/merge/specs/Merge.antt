@@ -1,6 +1,6 @@
 -- The step from one total to the next, by a merge: t is the part of the table with the records of one total, in the order of their counts; cs has a cursor
 -- for each letter, the index of a record of t.
-use Rattle.std.specs.Prelude.{cond, List, ℕ, zero, suc, ◌-◌, ◌^◌, ltb, get_or}
+use Rattle.std.specs.Prelude.{Some, None, Option as Optional, cond, List, ℕ, zero, suc, ◌-◌, ◌^◌, ltb, get_or}
 use Rattle.std.proofs.Math.Option.{Option, none, some}
 use Rattle.std.specs.Int.Bits.{bit_and, bit_or}
 use Rattle.profile.specs.Lists.{below, equal?, filter}
@@ -10,8 +10,7 @@ use Rattle.profile.specs.Prefixes.{at}
 use Rattle.profile.specs.Tables.{layout}
 use Rattle.counts.specs.Counts.{add_count, before?, words}
 use Rattle.records.specs.Records.{counts_at, forward_at, last_at, records_in}
-use Rattle.merge.specs.declared.Least.{Least}
-use Rattle.merge.specs.declared.Least.TheVariants.{Nothing, At}
+use Rattle.counts.specs.declared.Counts.{Counts}
 
 -- the counts of record j with one x more
 abbrev pub grown : List ℕ → ℕ → ℕ → List ℕ
@@ -43,13 +42,13 @@ givers t zero cs = 0
 givers t (suc x) cs = joined (candidate t (at cs x) x) (least_of t x cs) (givers t x cs) x
 
 -- what the code answers for them
-abbrev pub least_words : Least → Option (List ℕ)
-least_words Nothing = none
-least_words (At c S) = some (words c)
+abbrev pub least_words : Optional (Counts × ℕ) → Option (List ℕ)
+least_words None = none
+least_words (Some l) = some (words l.0)
 
-abbrev pub least_letters : Least → ℕ
-least_letters Nothing = 0
-least_letters (At c S) = S
+abbrev pub least_letters : Optional (Counts × ℕ) → ℕ
+least_letters None = 0
+least_letters (Some l) = l.1
 
 -- the union, over the letters of G, of the states to which the letter leads from the forward set of the record at its cursor
 abbrev pub united : ℕ → ℕ → List ℕ → List ℕ → List ℕ → ℕ → ℕ

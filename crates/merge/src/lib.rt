@@ -18,36 +18,34 @@ use profile::limits::MOST_MOVES;
 // The half of a record's last number that has the letters that can be added.
 const LETTERS: u32 = 65535;
 
-// The least counts that a cursor gives, and the letters whose cursors give them; none where every cursor is at the end.
-#[derive(Clone, Copy)]
-pub enum Least {
-    Nothing,
-    At(Counts, u32),
-}
-
 // The least counts, with the counts c of letter x among them.
-fn with_counts(best: Least, c: Counts, x: usize) -> Least
+fn with_counts(best: Option<(Counts, u32)>, c: Counts, x: usize) -> Option<(Counts, u32)>
     requires { x < 32 }
     ensures result_value { least_words result ≡ better (least_words best) (some (words c)) }
     ensures result_value_2 { least_letters result ≡ joined (some (words c)) (least_words best) (least_letters best) x }
 {
     match best {
-        Least::Nothing => Least::At(c, 1u32 << x),
-        Least::At(b, set) => {
+        None => Some((c, 1u32 << x)),
+        Some((b, set)) => {
             if counts::same_counts(c, b) {
-                return Least::At(b, set | (1u32 << x));
+                return Some((b, set | (1u32 << x)));
             }
             if counts::counts_before(c, b) {
-                Least::At(c, 1u32 << x)
+                Some((c, 1u32 << x))
             } else {
-                Least::At(b, set)
+                Some((b, set))
             }
         }
     }
 }
 
 // The least counts, with those that record j gives by one more of letter x.
-fn with_cursor(level: &[u32], j: usize, x: usize, best: Least) -> Least
+fn with_cursor(
+    level: &[u32],
+    j: usize,
+    x: usize,
+    best: Option<(Counts, u32)>,
+) -> Option<(Counts, u32)>
     requires { x < 32 }
     ensures result_value { least_words result ≡ better (least_words best) (candidate level.now j x) }
     ensures result_value_2 { least_letters result ≡ joined (candidate level.now j x) (least_words best) (least_letters best) x }
@@ -58,13 +56,13 @@ fn with_cursor(level: &[u32], j: usize, x: usize, best: Least) -> Least
     with_counts(best, counts::one_more(records::counts_at(level, j), x), x)
 }
 
-// The least counts that the cursors of the letters below k give, and these letters.
-pub fn least_counts(level: &[u32], k: usize, cursors: &[usize]) -> Least
+// The least counts that the cursors of the letters below k give, and the letters whose cursors give them; none where every cursor is at the end.
+pub fn least_counts(level: &[u32], k: usize, cursors: &[usize]) -> Option<(Counts, u32)>
     requires { (k ≤ most_letters) × (k ≤ length cursors.now) }
     ensures result_value { least_words result ≡ least_of level.now k cursors.now }
     ensures result_value_2 { least_letters result ≡ givers level.now k cursors.now }
 {
-    let mut best = Least::Nothing;
+    let mut best = None;
     let mut x = 0;
     while x < k {
         best = with_cursor(level, cursors[x], x, best);

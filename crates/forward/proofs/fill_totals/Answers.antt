@@ -8,7 +8,7 @@ use borrow.Author.Rules.{rules}
 use lib.ListN.{length}
 use Rattle.terms.specs.Coded.{rules_of}
 use Rattle.profile.specs.Automata.{profile_of}
-use Rattle.forward.specs.declared.Total.{Total}
+use Rattle.std.specs.Prelude.{Option}
 use Rattle.forward.specs.Forward.{Ready}
 use Rattle.forward.specs.Merging.{Begun, Grows, Prepared, Standing}
 use Rattle.forward.proofs.Fills.{Reaching, reaching_end, reaching_few, reaching_full, reaching_next, reaching_start}
@@ -21,8 +21,8 @@ loop-at-init c =
     let h = c.requires in
     (refl, refl, reaching_start a.number h.standing.1 h.t_in_bounds.0.0 h.t_in_bounds.0.1)
 
-pub fill_total-total-requires : goal.fill_total-total-requires
-fill_total-total-requires c =
+pub fill_total-requires : goal.fill_total-requires
+fill_total-requires c =
     let a = c.args in
     let h = c.requires in
     let l = c.loop-at in
@@ -40,7 +40,7 @@ fill_total-total-requires c =
     )
 
 -- what the callee tells of the total behind the part, in the terms of the first part
-grows : {room room' : ℕ} {shape shape' : Shape} {r r' : Total} (termed : Bool) (log masks moves : List ℕ) (t first : ℕ) (table table' : List ℕ)
+grows : {room room' : ℕ} {shape shape' : Shape} {r r' : Option (ℕ × ℕ)} (termed : Bool) (log masks moves : List ℕ) (t first : ℕ) (table table' : List ℕ)
     → room' ≡ room → shape' ≡ shape → r ≡ r'
     → Grows (rules_of (profile_of shape' masks moves) termed) log room' t first table table' r
     → Grows (rules_of (profile_of shape masks moves) termed) log room t first table table' r'
@@ -48,23 +48,24 @@ grows {room' = room'} {shape = shape} {r = r} termed log masks moves t first tab
     subst₂ (λ z q. Grows (rules_of (profile_of shape masks moves) termed) log z t first table table' q) a e
     (subst (λ z. Grows (rules_of (profile_of z masks moves) termed) log room' t first table table' r) b g)
 
-pub returns-in-Full : goal.returns-in-Full
-returns-in-Full c =
+pub returns-in_err-records : goal.returns-in_err-records
+returns-in_err-records c =
     let f = c in
-    reaching_full c.requires.standing.0 c.loop-at.invariant.2 c.loop-at-test.true f.fill_total-total.new.table (grows _ _ _ _ _ _ _ _ c.loop-at.invariant.0 c.loop-at.invariant.1 c.in-Full.is c.fill_total-total.ensures)
+    rw c.from_residual.ensures
+    (reaching_full c.requires.standing.0 c.loop-at.invariant.2 c.loop-at-test.true f.fill_total.new.table (grows _ _ _ _ _ _ _ _ c.loop-at.invariant.0 c.loop-at.invariant.1 c.in_err-records.was c.fill_total.ensures))
 
 pub next_part-at-requires : goal.next_part-at-requires
 next_part-at-requires c =
-    let g = grows _ _ _ _ _ _ _ _ c.loop-at.invariant.0 c.loop-at.invariant.1 c.in-Put.is c.fill_total-total.ensures in
+    let g = grows _ _ _ _ _ _ _ _ c.loop-at.invariant.0 c.loop-at.invariant.1 c.in_ok-records.was c.fill_total.ensures in
     (omega (arith, c.loop-at-test.true, c.requires.standing.0.log.short), omega (arith, g.1, c.loop-at.invariant.0))
 
 -- the totals up to the one behind the part are put
 reaching : (c : After-next_part-at)
-    → Reaching (rules_of (profile_of c.args.part.shape c.args.masks.now c.args.moves.now) c.args.termed) c.args.log.now c.args.table.now c.fill_total-total.new.table
-    c.args.part.room (c.loop-at.at.t + 1) c.loop-at.at.first (c.loop-at.at.first + c.in-Put.records) (c.loop-at.looks + c.in-Put.pairs)
+    → Reaching (rules_of (profile_of c.args.part.shape c.args.masks.now c.args.moves.now) c.args.termed) c.args.log.now c.args.table.now c.fill_total.new.table
+    c.args.part.room (c.loop-at.at.t + 1) c.loop-at.at.first (c.loop-at.at.first + c.in_ok-records.records) (c.loop-at.looks + c.in_ok-records.pairs)
 reaching c =
     let f = c in
-    reaching_next c.requires.standing.0 c.loop-at.invariant.2 c.loop-at-test.true c.in-Put.records c.in-Put.pairs f.fill_total-total.new.table (grows _ _ _ _ _ _ _ _ c.loop-at.invariant.0 c.loop-at.invariant.1 c.in-Put.is c.fill_total-total.ensures) f.fill_total-total.auto.table
+    reaching_next c.requires.standing.0 c.loop-at.invariant.2 c.loop-at-test.true c.in_ok-records.records c.in_ok-records.pairs f.fill_total.new.table (grows _ _ _ _ _ _ _ _ c.loop-at.invariant.0 c.loop-at.invariant.1 c.in_ok-records.was c.fill_total.ensures) f.fill_total.auto.table
 
 pub overflow_add-looks : goal.overflow_add-looks
 overflow_add-looks c = omega (arith, reaching_few c.requires.standing.0 (reaching (goal.at.overflow_add-looks c).After-next_part-at), c.requires.standing.0.few)
@@ -79,7 +80,7 @@ loop-at-preserved c =
     let p = rules_of (profile_of a.part.shape a.masks.now a.moves.now) a.termed in
     subst
     (λ b. (b.room ≡ a.part.room) × (b.shape ≡ a.part.shape)
-    × Reaching p a.log.now a.table.now c.fill_total-total.new.table a.part.room b.t b.from b.first (l.looks + c.in-Put.pairs))
+    × Reaching p a.log.now a.table.now c.fill_total.new.table a.part.room b.t b.from b.first (l.looks + c.in_ok-records.pairs))
     (sym c.next_part-at.ensures) (l.invariant.0, l.invariant.1, reaching (goal.at.loop-at-preserved c).After-next_part-at)
 
 pub returns : goal.returns

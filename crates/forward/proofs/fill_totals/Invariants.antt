@@ -6,7 +6,6 @@ use borrow.Author.Rules.{rules}
 use lib.ListN.{length}
 use Rattle.terms.specs.Coded.{rules_of}
 use Rattle.profile.specs.Automata.{profile_of}
-use Rattle.forward.specs.declared.Total.{Total}
 use Rattle.forward.specs.Forward.{Ready}
 use Rattle.forward.specs.Merging.{Begun, Grows, Prepared, Standing}
 use Rattle.forward.proofs.Fills.{Reaching, reaching_end, reaching_few, reaching_full, reaching_next, reaching_start}

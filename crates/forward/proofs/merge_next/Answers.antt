@@ -50,13 +50,13 @@ tested-requires c =
 pub put_in-requires : goal.put_in-requires
 put_in-requires c = omega (arith, c.if-first-j.true, c.requires.halfway.0.fits)
 
-pub returns-in-Nothing : goal.returns-in-Nothing
-returns-in-Nothing c =
+pub returns-in-None : goal.returns-in-None
+returns-in-None c =
     let a = c.args in
     let h = c.requires.halfway in
     let x = c.next_counts-next in
     let level = records_between a.table.now a.part.from a.part.first in
-    let g = subst (Comes a.part.shape.k a.part.shape.s a.masks.now a.moves.now level a.cursors.now x.new.cursors) c.in-Nothing.is x.ensures in
+    let g = subst (Comes a.part.shape.k a.part.shape.s a.masks.now a.moves.now level a.cursors.now x.new.cursors) c.in-None.is x.ensures in
     (merge_none h.0 h.1 g, refl)
 
 pub returns-after-termed : goal.returns-after-termed
@@ -65,10 +65,10 @@ returns-after-termed c =
     let h = c.requires.halfway in
     let x = c.next_counts-next in
     let level = records_between a.table.now a.part.from a.part.first in
-    let g = subst (Comes a.part.shape.k a.part.shape.s a.masks.now a.moves.now level a.cursors.now x.new.cursors) c.in-At.is x.ensures in
+    let g = subst (Comes a.part.shape.k a.part.shape.s a.masks.now a.moves.now level a.cursors.now x.new.cursors) c.in-Some.is x.ensures in
     let y = c.if-termed in
-    let v = words c.in-At.c in
-    let handed = c.in-At.handed in
+    let v = words c.in-Some.c in
+    let handed = c.in-Some.handed in
     let found = ⊎_elim
     (λ u. merge_found h.0 h.1 v g.0 y.set (u.set-is ∙ u.addable_in_terms-found.ensures.0 ∙ ap (λ b. union (λ x. 2 ^ x) (letters_found b (independent a.masks.now) a.part.shape.k
     (length a.log.now) a.starts.now a.places.now a.turns.now v)) (sym u.if-termed.true)))
@@ -76,7 +76,7 @@ returns-after-termed c =
     g.2 g.3 (u.set-is ∙ ap (bit_or handed.letters) (u.tested.ensures ∙ ap (tested_by (independent a.masks.now) a.part.shape.k (length a.log.now) a.starts.now a.places.now v) u.in_neither-open.ensures)))
     y.branch-raw in
     let z = c.put_in in
-    merge_put h.0 h.1 v g.0 handed.forward y.set c.in-At.from (ones y.set) z.new.table x.new.cursors
+    merge_put h.0 h.1 v g.0 handed.forward y.set c.in-Some.from (ones y.set) z.new.table x.new.cursors
     c.if-first-j.true g.1 g.4 found g.5 refl z.ensures
 
 pub returns-else-first-j : goal.returns-else-first-j
@@ -85,5 +85,5 @@ returns-else-first-j c =
     let h = c.requires.halfway in
     let x = c.next_counts-next in
     let level = records_between a.table.now a.part.from a.part.first in
-    let g = subst (Comes a.part.shape.k a.part.shape.s a.masks.now a.moves.now level a.cursors.now x.new.cursors) c.in-At.is x.ensures in
-    merge_full h.0 h.1 (words c.in-At.c) g.0 c.if-first-j.false
+    let g = subst (Comes a.part.shape.k a.part.shape.s a.masks.now a.moves.now level a.cursors.now x.new.cursors) c.in-Some.is x.ensures in
+    merge_full h.0 h.1 (words c.in-Some.c) g.0 c.if-first-j.false

@@ -12,7 +12,7 @@ use Rattle.forward.proofs.next_counts.Goals as goal
 pub unite-handed-requires : goal.unite-handed-requires
 unite-handed-requires c =
     let a = c.args in
-    let e = sym (ap least_letters c.in-At.is) ∙ c.least_counts-least.ensures.result_value_2 in
+    let e = sym (ap least_letters c.in_ok-c.was) ∙ c.least_counts.ensures.result_value_2 in
     record {
       k_le_most_letters = search rules;
       k_in_bounds = search rules;
@@ -24,22 +24,22 @@ pub advance-requires : goal.advance-requires
 advance-requires c =
     let s = c in
     let a = s.args in
-    let e = sym (ap least_letters c.in-At.is) ∙ c.least_counts-least.ensures.result_value_2 in
+    let e = sym (ap least_letters c.in_ok-c.was) ∙ c.least_counts.ensures.result_value_2 in
     record {
       k_le_most_letters = (s.requires.k_le_most_letters.0, omega (arith, s.requires.k_le_most_letters.0, s.requires.k_le_most_letters.2));
       given = λ x h m. givers_inside a.level.now a.cursors.now a.k x (subst (λ S. T (bit S x)) e m);
     }
 
-pub returns-in-Nothing : goal.returns-in-Nothing
-returns-in-Nothing c = sym c.least_counts-least.ensures.result_value ∙ ap least_words c.in-Nothing.is
+pub returns-in_err-c : goal.returns-in_err-c
+returns-in_err-c c = rw c.from_residual.ensures (sym c.least_counts.ensures.result_value ∙ ap least_words c.in_err-c.was)
 
-pub returns-in-At : goal.returns-in-At
-returns-in-At c =
+pub returns : goal.returns
+returns c =
     let a = c.args in
-    let x = c.least_counts-least in
+    let x = c.least_counts in
     let u = c.unite-handed.ensures in
-    let e = sym (ap least_letters c.in-At.is) ∙ x.ensures.result_value_2 in (
-      sym x.ensures.result_value ∙ ap least_words c.in-At.is,
+    let e = sym (ap least_letters c.in_ok-c.was) ∙ x.ensures.result_value_2 in (
+      sym x.ensures.result_value ∙ ap least_words c.in_ok-c.was,
       u.0 ∙ ap (united a.k a.s a.moves.now a.level.now a.cursors.now) e,
       u.1 ∙ ap (inherited a.k a.level.now a.cursors.now) e,
       u.2 ∙ ap (passing a.k a.masks.now) e,
