@@ -15,16 +15,14 @@ fn put_places(log: &[u8], x: usize, places: &mut [Place], at: usize) -> usize
     ensures { (result ≡ at + length (places_of log.now x)) × (places.new ≡ sets places.old at (places_of log.now x)) }
 {
     let mut to = at;
-    let mut i = 0;
-    while i < log.len() {
-        let a = log[i] as usize;
+    for (i, letter) in log.iter().enumerate() {
+        let a = *letter as usize;
         if a == x {
             places[to] = i as Place;
             to += 1;
         }
-        i += 1;
     }
-    places[to] = i as Place;
+    places[to] = log.len() as Place;
     to + 1
 }
 
@@ -35,11 +33,9 @@ pub fn place_events(log: &[u8], k: usize, starts: &mut [Place], places: &mut [Pl
         × (places.new ≡ place_table k log.now ++ drop (length (place_table k log.now)) places.old) }
 {
     let mut at = 0;
-    let mut x = 0;
-    while x < k {
+    for x in 0..k {
         starts[x] = at as Place;
         at = put_places(log, x, places, at);
-        x += 1;
     }
 }
 

@@ -30,11 +30,9 @@ pub fn by_letter(moves: &[u32], k: usize, s: usize, rows: &mut [u32; MOST_MOVES]
     ensures { rows.new ≡ by_letter k s moves.now }
 {
     let end = ROW * k;
-    let mut i = 0;
-    while i < end {
+    for i in 0..end {
         let to = led(moves, k, s, i);
         rows[i] = to;
-        i += 1;
     }
 }
 
@@ -54,13 +52,11 @@ pub fn forward_by(rows: &[u32; MOST_MOVES], s: usize, set: u32, a: usize) -> u32
     let at = ROW * a;
     let end = bounded(s);
     let mut out = 0u32;
-    let mut q = 0;
-    while q < end {
+    for q in 0..end {
         let to = rows[at + q];
         if meet(set, 1u32 << q) {
             out = out | to;
         }
-        q += 1;
     }
     out
 }
@@ -73,13 +69,11 @@ pub fn backward_by(rows: &[u32; MOST_MOVES], s: usize, set: u32, a: usize) -> u3
     let at = ROW * a;
     let end = bounded(s);
     let mut out = 0u32;
-    let mut q = 0;
-    while q < end {
+    for q in 0..end {
         let to = rows[at + q];
         if meet(to, set) {
             out = out | (1u32 << q);
         }
-        q += 1;
     }
     out
 }

@@ -1,5 +1,4 @@
 -- `places::place_at` meets its contract: past its end a list has 0.
-use borrow.Author.Rules.{rules}
 use mathlib.Core.Path.{sym}
 use lib.ListN.{get_or-eq_default}
 use Rattle.places.proofs.place_at.Goals as goal

@@ -1,20 +1,12 @@
 -- `places::place_events` meets its contract. The loop's invariant: the letters below x are done.
-use borrow.Author.Rules.{rules}
-use mathlib.Core.Path.{◌≡◌, refl, ◌∙◌}
+use mathlib.Core.Path.{◌≡◌}
 use mathlib.Core.List.{◌++◌, map}
-use Prim.Native.Nat.{◌+◌, ◌-◌, ◌≤◌}
-use native.Mathlib.Omega.{arith}
-use lib.ListN.{length, drop, length-set}
+use lib.ListN.{length, drop}
 use Rattle.profile.specs.Lists.{below}
 use Rattle.places.specs.Places.{place_start, place_table}
-use Rattle.theory.proofs.Fronts.{front_put}
-use Rattle.places.proofs.Places.{place_table_le, place_table_more, places_more}
 use Rattle.places.proofs.place_events.Given as goal
 
 abbrev pub invariant-loop-x : goal.invariant-loop-x
 invariant-loop-x l =
-    (l.x ≤ l.k) × (l.at ≡ length (place_table l.x l.log)) × (length l.starts ≡ length l.initial.starts) × (length l.places ≡ length l.initial.places)
+    (l.at ≡ length (place_table l.x l.log)) × (length l.starts ≡ length l.initial.starts) × (length l.places ≡ length l.initial.places)
     × (l.starts ≡ map (place_start l.log) (below l.x) ++ drop l.x l.initial.starts) × (l.places ≡ place_table l.x l.log ++ drop (length (place_table l.x l.log)) l.initial.places)
-
-abbrev pub decreases-loop-x : goal.decreases-loop-x
-decreases-loop-x l = l.k - l.x

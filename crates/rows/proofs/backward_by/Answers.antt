@@ -1,10 +1,8 @@
-use Prim.Native.Nat.{ℕ, ◌-◌, ◌^◌, ◌≤◌}
+use Prim.Native.Nat.{ℕ, ◌^◌}
 use mathlib.Core.Path.{◌≡◌, refl, sym, ◌∙◌, ap, ap₂}
 use mathlib.Core.Bool.{Bool, true, false}
-use mathlib.Core.Logic.{⊎_elim}
 use native.Mathlib.Nat.{one-mul}
 use native.Mathlib.Omega.{arith}
-use borrow.Author.Rules.{rules}
 use lib.Bits.{bit_or}
 use lib.Pow.{shl_exact}
 use Rattle.profile.specs.Automata.{meets}
@@ -14,7 +12,7 @@ use Rattle.rows.proofs.backward_by.Goals as goal
 use Rattle.rows.proofs.backward_by.Goals.{else-meet, then-meet}
 
 pub loop-q-init : goal.loop-q-init
-loop-q-init c = (search rules, c.bounded-end.ensures, refl)
+loop-q-init c = (c.bounded-end.ensures, refl)
 
 pub loop-q-preserved : goal.loop-q-preserved
 loop-q-preserved c =
@@ -23,13 +21,12 @@ loop-q-preserved c =
     let p : ℕ → Bool = λ q. meets (led_by a.rows.now a.a q) a.set in
     let one = shl_exact 1 l.q 32 (omega arith) (omega arith) ∙ one-mul (2 ^ l.q) in
     let m : p l.q ≡ c.meet.result = sym c.meet.ensures in (
-      search rules,
-      l.invariant.1,
-      (elim c.if-meet.branch [ then-meet w ↦ w.out-is ∙ ap₂ bit_or l.invariant.2 one ∙ sym (union_next (λ q. 2 ^ q) p l.q true (m ∙ w.if-meet.true)) | else-meet w ↦ w.out-is ∙ l.invariant.2 ∙ sym (union_next (λ q. 2 ^ q) p l.q false (m ∙ w.if-meet.false)) ]),
+      l.invariant.0,
+      (elim c.if-meet.branch [ then-meet w ↦ w.out-is ∙ ap₂ bit_or l.invariant.1 one ∙ sym (union_next (λ q. 2 ^ q) p l.q true (m ∙ w.if-meet.true)) | else-meet w ↦ w.out-is ∙ l.invariant.1 ∙ sym (union_next (λ q. 2 ^ q) p l.q false (m ∙ w.if-meet.false)) ]),
     )
 
 pub returns : goal.returns
 returns c =
     let a = c.args in
     let e : c.loop-q.q ≡ a.s = omega arith in
-    c.loop-q.invariant.2 ∙ ap (λ n. backward_by n a.rows.now a.set a.a) e
+    c.loop-q.invariant.1 ∙ ap (λ n. backward_by n a.rows.now a.set a.a) e

@@ -1,8 +1,7 @@
 use mathlib.Core.Path.{◌≡◌, ◌∙◌, ap, ap₂}
 use mathlib.Core.List.{◌++◌, map}
-use Prim.Native.Nat.{◌*◌, ◌-◌, ◌≤◌}
+use Prim.Native.Nat.{◌*◌}
 use native.Mathlib.Omega.{arith}
-use borrow.Author.Rules.{rules}
 use lib.ListN.{drop, replicate, set}
 use Rattle.profile.specs.Limits.{most_moves, most_states}
 use Rattle.profile.specs.Lists.{below}
@@ -11,19 +10,17 @@ use Rattle.theory.proofs.Fronts.{front_put}
 use Rattle.rows.proofs.by_letter.Goals as goal
 
 pub loop-i-init : goal.loop-i-init
-loop-i-init c = (search rules, c.requires.1)
+loop-i-init c = c.requires.1
 
 pub loop-i-preserved : goal.loop-i-preserved
 loop-i-preserved c =
     let a = c.args in
-    let l = c.loop-i in (
-      search rules,
-      ap₂ (λ r n. set r l.i n) l.invariant.1 c.led-to.ensures ∙ front_put (led a.k a.s a.moves.now) (replicate most_moves 0) l.i (omega arith),
-    )
+    let l = c.loop-i in
+    ap₂ (λ r n. set r l.i n) l.invariant c.led-to.ensures ∙ front_put (led a.k a.s a.moves.now) (replicate most_moves 0) l.i (omega arith)
 
 pub returns : goal.returns
 unfolding by_letter
 returns c =
     let a = c.args in
     let e : c.loop-i.i ≡ most_states * a.k = omega arith in
-    c.loop-i.invariant.1 ∙ ap (λ n. map (led a.k a.s a.moves.now) (below n) ++ drop n (replicate most_moves 0)) e
+    c.loop-i.invariant ∙ ap (λ n. map (led a.k a.s a.moves.now) (below n) ++ drop n (replicate most_moves 0)) e

@@ -1,7 +1,6 @@
 -- `rows::led` meets its contract.
 use mathlib.Core.Path.{sym, ◌∙◌, ap}
 use mathlib.Core.Bool.{cond}
-use borrow.Author.Rules.{rules}
 use borrow.Author.Tests.{le-ltb, lt-ltb}
 use Prim.Native.Nat.{◌/◌, ◌%◌}
 use Rattle.profile.specs.Limits.{most_states}
