@@ -25,12 +25,10 @@ fn keepers_of(masks: &[u16], k: usize, x: usize) -> u32
     ensures { result ≡ keepers (independent_by masks.now) k x }
 {
     let mut set = 0u32;
-    let mut y = 0;
-    while y < k {
+    for y in 0..k {
         if keeps(masks, x, y) {
             set = set | (1u32 << y);
         }
-        y += 1;
     }
     set
 }
@@ -41,11 +39,8 @@ pub fn all_keepers(masks: &[u16], k: usize) -> [u32; MOST_LETTERS]
     ensures { result ≡ all_keepers (independent_by masks.now) k }
 {
     let mut sets = [0u32; MOST_LETTERS];
-    let mut x = 0;
-    while x < MOST_LETTERS {
-        let set = keepers_of(masks, k, x);
-        sets[x] = set;
-        x += 1;
+    for (x, set) in sets.iter_mut().enumerate() {
+        *set = keepers_of(masks, k, x);
     }
     sets
 }

@@ -1,7 +1,5 @@
-use borrow.Author.Rules.{rules}
 use mathlib.Core.Path.{◌≡◌, refl, ◌∙◌, ap, ap₂}
 use mathlib.Core.List.{◌++◌, map, append-nil}
-use Prim.Native.Nat.{◌-◌, ◌≤◌}
 use native.Mathlib.Omega.{arith}
 use lib.ListN.{drop, replicate, set}
 use Rattle.profile.specs.Limits.{most_letters}
@@ -12,15 +10,13 @@ use Rattle.events.specs.Events.{all_keepers, keepers}
 use Rattle.events.proofs.all_keepers.Goals as goal
 
 pub loop-x-init : goal.loop-x-init
-loop-x-init c = (search rules, refl)
+loop-x-init c = refl
 
 pub loop-x-preserved : goal.loop-x-preserved
 loop-x-preserved c =
     let a = c.args in
-    let l = c.loop-x in (
-      search rules,
-      ap₂ (λ r n. set r l.x n) l.invariant.1 c.keepers_of-set.ensures ∙ front_put (keepers (independent a.masks.now) a.k) (replicate most_letters 0) l.x (omega arith),
-    )
+    let l = c.loop-x in
+    ap₂ (λ r n. set r l.x n) l.invariant c.keepers_of.ensures ∙ front_put (keepers (independent a.masks.now) a.k) (replicate most_letters 0) l.x (omega arith)
 
 pub returns : goal.returns
 unfolding all_keepers
@@ -28,4 +24,4 @@ returns c =
     let a = c.args in
     let f = keepers (independent a.masks.now) a.k in
     let e : c.loop-x.x ≡ most_letters = omega arith in
-    c.loop-x.invariant.1 ∙ ap (λ n. map f (below n) ++ drop n (replicate most_letters 0)) e ∙ append-nil (map f (below most_letters))
+    c.loop-x.invariant ∙ ap (λ n. map f (below n) ++ drop n (replicate most_letters 0)) e ∙ append-nil (map f (below most_letters))

@@ -1,19 +1,7 @@
 -- `events::comes_next` meets its contract. The loop's invariant: every letter that is not left lets x by. The measure is the number of the letters that are left.
-use borrow.Author.Rules.{rules}
-use borrow.Author.Tests.{le-ltb}
-use mathlib.Core.Path.{◌≡◌, sym, ◌∙◌, ap, subst}
-use mathlib.Core.Bool.{◌&&◌}
-use Prim.Native.Nat.{◌-◌, ◌≤◌, ◌<◌}
-use native.Mathlib.Omega.{arith}
-use lib.Bits.{and_le_r}
-use lib.Count.{trailing_le, count_trailing_zeros}
-use lib.Dec.{not_T, ltb, lt→ltb}
-use Rattle.profile.specs.Lists.{all, below}
 use Rattle.profile.specs.Prefixes.{at}
 use Rattle.profile.specs.Traces.{independent}
-use Rattle.profile.proofs.Lists.{both, is_false, is_true, snd_of}
-use Rattle.events.specs.Events.{keepers, lets_by?}
-use Rattle.events.proofs.Keepers.{Left, keepers_own, left_first, left_next, left_none, left_stops}
+use Rattle.events.proofs.Keepers.{Left}
 use Rattle.events.proofs.comes_next.Given as goal
 
 abbrev pub invariant-loop-rest : goal.invariant-loop-rest

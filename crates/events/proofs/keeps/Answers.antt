@@ -1,5 +1,4 @@
 -- `events::keeps` meets its contract: the tests one after the other.
-use borrow.Author.Rules.{rules}
 use borrow.Author.Tests.{eq-eqb, ne_eqb}
 use Rattle.events.proofs.keeps.Goals as goal
 
