@@ -1,6 +1,6 @@
 -- Laws of the cells of a cost table, for the loops over them.
 use mathlib.Core.Path.{◌≡◌, refl, sym, ◌∙◌, ap}
-use mathlib.Core.Bool.{not}
+use mathlib.Core.Bool.{Bool, true, false, cond, not}
 use mathlib.Core.Logic.{◌⊎◌, inl, inr, ⊎_elim}
 use mathlib.Core.List.{List, [], ◌∷◌, ◌++◌}
 use mathlib.Core.Option.{Option, none, some, none-ne-some}
@@ -16,6 +16,8 @@ use Rattle.profile.specs.Traces.{bit}
 use Rattle.profile.proofs.Lists.{filter_agree, filter_last_no, filter_last_yes, filter_no, filter_yes, lt_or_le}
 use Rattle.profile.proofs.Sets.{t_eq, bit_below, not_in_none}
 use Rattle.theory.proofs.SetLoops.{rest_first, rest_in, rest_other}
+use Rattle.std.specs.List.{count_by, filter as passing}
+use Rattle.std.proofs.lemmas.List.Sums.{length-filter}
 use Rattle.swaps.specs.Closest.{after, smaller, sorted}
 use Rattle.swaps.proofs.Fewest.{at_most_no, at_most_yes, ranked_at, ranked_of}
 use Rattle.costcells.specs.Cells.{Least, at_most, cost_in, none_cost, pair_costs}
@@ -28,21 +30,17 @@ inside (a ∷ l) (suc i) d e h = inside l i d e (omega (arith, h))
 
 -- ---- how many are at most v
 
-more_at_most : (v : ℕ) (l : List ℕ) (m : ℕ) → m ≤ v → at_most v (l ++ (m ∷ [])) ≡ suc (at_most v l)
-more_at_most v l m h = ap length (filter_last_yes (λ n. leb n v) l m (le→leb m v h)) ∙ length_last (filter (λ n. leb n v) l) m
+-- the costs that the program keeps are those of the definition
+kept : (p : ℕ → Bool) (l : List ℕ) → passing p l ≡ filter p l
+kept p [] = refl
+kept p (n ∷ l) = go (p n) (kept p l)
   where
-    length_last : (l : List ℕ) (m : ℕ) → length (l ++ (m ∷ [])) ≡ suc (length l)
-    length_last [] m = refl
-    length_last (a ∷ l) m = ap suc (length_last l m)
+    go : (b : Bool) → passing p l ≡ filter p l → cond b (n ∷ passing p l) (passing p l) ≡ elim b [ true ↦ n ∷ filter p l | false ↦ filter p l ]
+    go true e = ap (◌∷◌ n) e
+    go false e = e
 
-no_more_at_most : (v : ℕ) (l : List ℕ) (m : ℕ) → v < m → at_most v (l ++ (m ∷ [])) ≡ at_most v l
-no_more_at_most v l m h = ap length (filter_last_no (λ n. leb n v) l m (not_T (leb m v) (λ t. omega (arith, leb→le m v t, h))))
-
-pub at_most_on : (v i : ℕ) (l : List ℕ) → i < length l → get_or l i 0 ≤ v → at_most v (take (suc i) l) ≡ suc (at_most v (take i l))
-at_most_on v i l h k = ap (at_most v) (take-suc l i 0 h) ∙ more_at_most v (take i l) (get_or l i 0) k
-
-pub at_most_off : (v i : ℕ) (l : List ℕ) → i < length l → v < get_or l i 0 → at_most v (take (suc i) l) ≡ at_most v (take i l)
-at_most_off v i l h k = ap (at_most v) (take-suc l i 0 h) ∙ no_more_at_most v (take i l) (get_or l i 0) k
+pub counted : (v : ℕ) (l : List ℕ) → count_by (λ n. leb n v) l ≡ at_most v l
+counted v l = sym (length-filter (λ n. leb n v) l) ∙ ap length (kept (λ n. leb n v) l)
 
 -- the lowest state of a set
 pub low_state : (s n : ℕ) → 0 < n → n < 2 ^ 32 → n < 2 ^ s → count_trailing_zeros 32 n < s

@@ -43,15 +43,7 @@ pub fn at_most(costs: &[u32], n: usize, v: u32) -> usize
     requires { n ≤ length costs.now }
     ensures { result ≡ at_most v (take n costs.now) }
 {
-    let mut count = 0;
-    let mut i = 0;
-    while i < n {
-        if costs[i] <= v {
-            count += 1;
-        }
-        i += 1;
-    }
-    count
+    costs[..n].iter().filter(|cost| **cost <= v).count()
 }
 
 // How many of the first n costs are not none.
