@@ -17,13 +17,11 @@ pub fn lead_on(
     requires { Rows costs.old from to k s moves.now x }
     ensures { LedOn costs.old costs.new from to k s moves.now x more s }
 {
-    let mut q = 0;
-    while q < s {
+    for q in 0..s {
         let cost = costs[from + q];
         let states = steps::leads_from(moves, k, q, x);
         let v = costcells::plus(cost, more);
         costwrites::lower_all(costs, to, s, states, v);
-        q += 1;
     }
 }
 
@@ -41,12 +39,10 @@ pub fn lead_back(
     requires { Rows costs.old from to k s moves.now x }
     ensures { LedBack costs.old costs.new from to k s moves.now x more s }
 {
-    let mut q = 0;
-    while q < s {
+    for q in 0..s {
         let states = steps::leads_from(moves, k, q, x);
         let least = costcells::least_in(costs, to, s, states);
         let v = costcells::plus(least, more);
         costwrites::lower(costs, from + q, v);
-        q += 1;
     }
 }

@@ -33,30 +33,6 @@ cond_both false x y e = refl
 same_or_not : (m n : ℕ) → (m ≡ n) ⊎ (m ≢ n)
 same_or_not m n = ⊎_elim (λ t. inl (eqb→eq m n t)) (λ t. inr (λ e. T_not (eqb m n) t (subst (λ z. T (eqb m z)) e (eqb_refl m)))) (test (eqb m n))
 
--- ---- cells cleared
-
-pub clear_none : (t : List ℕ) (at j : ℕ) → cost_in t j ≡ cond (leb at j && ltb j (at + 0)) none_cost (cost_in t j)
-clear_none t at j = sym (cond_no (leb at j && ltb j (at + 0)) none_cost (cost_in t j) (not_T (leb at j && ltb j (at + 0))
-    (λ k. omega (arith, leb→le at j (fst_of (leb at j) (ltb j (at + 0)) k), ltb→lt j (at + 0) (snd_of (leb at j) (ltb j (at + 0)) k)))))
-
-pub clear_more : (t t₀ : List ℕ) (at i : ℕ) → at + i < length t
-    → ((j : ℕ) → cost_in t j ≡ cond (leb at j && ltb j (at + i)) none_cost (cost_in t₀ j))
-    → (j : ℕ) → cost_in (set t (at + i) none_cost) j ≡ cond (leb at j && ltb j (at + (i + 1))) none_cost (cost_in t₀ j)
-clear_more t t₀ at i h inv j = ⊎_elim
-    (λ e. ap (cost_in (set t (at + i) none_cost)) e ∙ get_or-set_same t (at + i) none_cost none_cost h
-    ∙ sym (cond_yes (leb at j && ltb j (at + (i + 1))) none_cost (cost_in t₀ j)
-    (both (leb at j) (ltb j (at + (i + 1))) (le→leb at j (omega (arith, e))) (lt→ltb j (at + (i + 1)) (omega (arith, e))))))
-    (λ ne. get_or-set_other t (at + i) j none_cost none_cost ne ∙ inv j ∙ ap (λ b. cond b none_cost (cost_in t₀ j))
-    (t_eq (leb at j && ltb j (at + i)) (leb at j && ltb j (at + (i + 1)))
-    (λ k. both (leb at j) (ltb j (at + (i + 1))) (fst_of (leb at j) (ltb j (at + i)) k)
-    (lt→ltb j (at + (i + 1)) (omega (arith, ltb→lt j (at + i) (snd_of (leb at j) (ltb j (at + i)) k)))))
-    (λ k. both (leb at j) (ltb j (at + i)) (fst_of (leb at j) (ltb j (at + (i + 1))) k)
-    (lt→ltb j (at + i) (below_but j (at + i) (omega (arith, ltb→lt j (at + (i + 1)) (snd_of (leb at j) (ltb j (at + (i + 1))) k))) ne)))))
-    (same_or_not j (at + i))
-  where
-    below_but : (j n : ℕ) → j < n + 1 → j ≢ n → j < n
-    below_but j n h ne = ⊎_elim (λ l. l) (λ l. absurd (ne (omega (arith, h, l)))) (lt_or_le j n)
-
 -- ---- a row lowered, state by state
 
 -- u is t with the cost of state q lowered to v

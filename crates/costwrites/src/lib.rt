@@ -12,8 +12,7 @@ pub fn lower(costs: &mut [u32], i: usize, v: u32)
     requires { i < length costs.old }
     ensures { costs.new ≡ set costs.old i (min v (get_or costs.old i none_cost)) }
 {
-    let old = costs[i];
-    costs[i] = if v < old { v } else { old };
+    costs[i] = costs[i].min(v);
 }
 
 // Lowers the costs of the states of a set to v, in the row that begins at `row`.
@@ -34,9 +33,5 @@ pub fn clear(costs: &mut [u32], at: usize, n: usize)
     requires { at + n ≤ length costs.old }
     ensures { Cleared costs.old costs.new at n }
 {
-    let mut i = 0;
-    while i < n {
-        costs[at + i] = NONE;
-        i += 1;
-    }
+    costs[at..at + n].fill(NONE);
 }

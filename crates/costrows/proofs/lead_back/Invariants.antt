@@ -1,4 +1,4 @@
--- `costrows::lead_back` meets its contract. The loop's invariant: the states below q have their cost. The measure is the states that are left.
+-- `costrows::lead_back` meets its contract. The loop's invariant: the states below q have their cost.
 use borrow.Author.Rules.{rules}
 use native.Mathlib.Omega.{arith}
 use Prim.Native.Nat.{◌-◌, ◌≤◌, ◌<◌, ◌^◌}
@@ -10,7 +10,4 @@ use Rattle.costrows.proofs.Leading.{back_more, back_none}
 use Rattle.costrows.proofs.lead_back.Given as goal
 
 abbrev pub invariant-loop-q : goal.invariant-loop-q
-invariant-loop-q l = (l.q ≤ l.s) × LedBack l.initial.costs l.costs l.from l.to l.k l.s l.moves l.x l.more l.q
-
-abbrev pub decreases-loop-q : goal.decreases-loop-q
-decreases-loop-q l = l.s - l.q
+invariant-loop-q l = LedBack l.initial.costs l.costs l.from l.to l.k l.s l.moves l.x l.more l.q

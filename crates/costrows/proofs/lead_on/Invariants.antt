@@ -1,4 +1,4 @@
--- `costrows::lead_on` meets its contract. The loop's invariant: the states below q have led on. The measure is the states that are left.
+-- `costrows::lead_on` meets its contract. The loop's invariant: the states below q have led on.
 use borrow.Author.Rules.{rules}
 use native.Mathlib.Omega.{arith}
 use Prim.Native.Nat.{◌+◌, ◌-◌, ◌≤◌, ◌<◌, ◌^◌}
@@ -12,7 +12,4 @@ use Rattle.costrows.proofs.Leading.{led_more, led_none}
 use Rattle.costrows.proofs.lead_on.Given as goal
 
 abbrev pub invariant-loop-q : goal.invariant-loop-q
-invariant-loop-q l = (l.q ≤ l.s) × LedOn l.initial.costs l.costs l.from l.to l.k l.s l.moves l.x l.more l.q
-
-abbrev pub decreases-loop-q : goal.decreases-loop-q
-decreases-loop-q l = l.s - l.q
+invariant-loop-q l = LedOn l.initial.costs l.costs l.from l.to l.k l.s l.moves l.x l.more l.q
