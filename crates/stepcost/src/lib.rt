@@ -53,12 +53,10 @@ pub fn step_cost(
 {
     let own = places::next_place(starts, places, x, counts::count_of(c, x) as Place);
     let mut cost = 0usize;
-    let mut y = 0;
-    while y < k {
+    for y in 0..k {
         let from = counts::count_of(c, y);
         let to = counts::count_of(whole, y);
         cost += passed(log, k, starts, places, y, from, to, own);
-        y += 1;
     }
     cost
 }

