@@ -1,7 +1,7 @@
 -- The pass over a text, byte by byte.
 use mathlib.Core.Path.{◌≡◌, refl, sym, ◌∙◌, ap, ap₂, subst}
 use mathlib.Core.Bool.{Bool, true, false, not, cond}
-use mathlib.Core.List.{List, [], ◌∷◌, head-eq_of_cons-eq, tail-eq_of_cons-eq}
+use mathlib.Core.List.{List, [], ◌∷◌}
 use mathlib.Core.Option.{Option, none, some}
 use Prim.Native.Nat.{ℕ, zero, suc, ◌+◌, ◌-◌, ◌^◌, ◌≤◌, ◌<◌, max}
 use native.Mathlib.Omega.{arith}
@@ -10,7 +10,7 @@ use lib.Bits.{bit_or, or_zero_r}
 use lib.Dec.{T, eqb, eqb→eq, eqb_refl, leb, leb→le, ltb, ltb→lt}
 use lib.ListN.{drop, drop_of_length-le, get_or, get_or-replicate, length, length-set, replicate, set}
 use lib.Seq.{drop-cons, ext_get_or, get_or-set_other, get_or-set_same}
-use borrow.Author.Tests.{ne_eqb, not-true}
+use borrow.Author.Tests.{ne_eqb}
 use Rattle.profile.specs.Limits.{most_letters, most_states, most_typed}
 use Rattle.profile.proofs.Lists.{fst_of, is_true, snd_of}
 use Rattle.expressions.specs.Positions.{typed_as, when}
@@ -21,9 +21,8 @@ use Rattle.expressions.proofs.Letters.{letters_no, letters_yes}
 use Rattle.profile.proofs.Sets.{or_assoc}
 use Rattle.theory.proofs.Counting.{at_map, length_range}
 use Rattle.scanner.specs.declared.Scanned.{Scanned}
-use Rattle.scanner.specs.declared.Scanned.TheVariants.{Broken, Right}
-use Rattle.scanner.specs.declared.Stand.{Stand}
-use Rattle.scanner.specs.Scan.{place_if, placed, scanned, scanned_as, sets_of}
+use Rattle.std.specs.Prelude.{Result, Ok, Err}
+use Rattle.scanner.specs.Scan.{scanned, scanned_as, sets_of}
 
 true_t : (b : Bool) → b ≡ true → T b
 true_t b e = subst T (sym e) tt
@@ -158,13 +157,17 @@ passed_start k u = record { opened = omega arith; typed = omega arith; place = s
 from_here : (u : List ℕ) (i : ℕ) → i < length u → drop i u ≡ get_or u i 0 ∷ drop (i + 1) u
 from_here u i h = drop-cons u i 0 h ∙ ap (λ j. get_or u i 0 ∷ drop j u) (sym (add-one i))
 
+-- a right text, by its numbers
+abbrev right_of : ℕ → ℕ → Result Scanned ℕ
+right_of d n = Ok (record { deepest = d; letters = n })
+
 module _ (k : ℕ) (u : List ℕ) (w : Bool) (d m n i : ℕ) (p : Passed k u w d m n i) where
-  broken : fault k u ≡ some i → Broken i ≡ scanned k u
+  broken : fault k u ≡ some i → Err i ≡ scanned k u
   broken e = sym (ap (λ o. scanned_as o (deepest 0 u) (length (letters_of k u))) e)
 
   module _ (h : i < length u) where
     -- the byte at i is the place …
-    pub passed_stops : next (sign k (get_or u i 0)) w d ≡ none → Broken i ≡ scanned k u
+    pub passed_stops : next (sign k (get_or u i 0)) w d ≡ none → Err i ≡ scanned k u
     passed_stops q =
         broken (p.place ∙ (ap (λ l. shift i (fault_from k w d l)) (from_here u i h) ∙ (ap (shift i) (fault_stops k (get_or u i 0) w d (drop (i + 1) u) q) ∙ shift_here i)))
 
@@ -191,55 +194,38 @@ module _ (k : ℕ) (u : List ℕ) (w : Bool) (d m n i : ℕ) (p : Passed k u w d
     ends : fault k u ≡ shift i (ended w d)
     ends = p.place ∙ ap (λ l. shift i (fault_from k w d l)) none_left
 
-    pub passed_wanting : w ≡ true → Broken i ≡ scanned k u
+    pub passed_wanting : w ≡ true → Err i ≡ scanned k u
     passed_wanting e = broken (ends ∙ (ap (λ w. shift i (ended w d)) e ∙ shift_here i))
 
-    pub passed_open : w ≡ false → (d ≡ 0 → ⊥) → Broken i ≡ scanned k u
+    pub passed_open : w ≡ false → (d ≡ 0 → ⊥) → Err i ≡ scanned k u
     passed_open e f = broken (ends ∙ (ap (λ w. shift i (ended w d)) e ∙ unclosed d f))
       where
         unclosed : (d : ℕ) → (d ≡ 0 → ⊥) → shift i (ended false d) ≡ some i
         unclosed zero f = absurd (f refl)
         unclosed (suc d) f = shift_here i
 
-    pub passed_right : w ≡ false → d ≡ 0 → Right m n ≡ scanned k u
+    pub passed_right : w ≡ false → d ≡ 0 → Ok (record { deepest = m; letters = n }) ≡ scanned k u
     passed_right e z =
         let right : fault k u ≡ none = ends ∙ ap₂ (λ w d. shift i (ended w d)) e z in
         let deep : m ≡ deepest 0 u = omega (arith, z, p.deep ∙ ap (λ l. max m (deepest d l)) none_left) in
         let count : n ≡ length (letters_of k u) = omega (arith, p.count, ap (λ l. length (letters_of k l)) none_left) in
-        ap₂ Right deep count ∙ sym (ap (λ o. scanned_as o (deepest 0 u) (length (letters_of k u))) right)
-
--- a byte that is not good, as the step tells it
-pub passed_faulty : (k : ℕ) (u : List ℕ) (w : Bool) (d m n i : ℕ) (s : Stand) → Passed k u w d m n i → i < length u → placed s ≡ next (sign k (get_or u i 0)) w d → not s.good ≡ true → Broken i ≡ scanned k u
-passed_faulty k u w d m n i s p h e b = passed_stops k u w d m n i p h (sym e ∙ ap (λ g. place_if g s.want s.depth) (not-true s.good b))
+        ap₂ right_of deep count ∙ sym (ap (λ o. scanned_as o (deepest 0 u) (length (letters_of k u))) right)
 
 -- what the pass tells, taken apart
 module _ (k : ℕ) (u : List ℕ) where
-  place_told : Scanned → Option ℕ
-  place_told (Broken i) = some i
-  place_told (Right d n) = none
-
-  numbers_told : Scanned → List ℕ
-  numbers_told (Broken i) = []
-  numbers_told (Right d n) = d ∷ n ∷ []
-
-  told_place : fault k u ≡ place_told (scanned k u)
-  unfolding place_told
-  told_place = go (fault k u)
+  pub scanned_broken : {i : ℕ} → scanned k u ≡ Err i → fault k u ≡ some i
+  scanned_broken {i} e = go (fault k u) e
     where
-      go : (o : Option ℕ) → o ≡ place_told (scanned_as o (deepest 0 u) (length (letters_of k u)))
-      go none = refl
-      go (some i) = refl
+      go : (o : Option ℕ) → scanned_as o (deepest 0 u) (length (letters_of k u)) ≡ Err i → o ≡ some i
+      go none q = cc
+      go (some j) q = cc
 
-  pub scanned_broken : {i : ℕ} → scanned k u ≡ Broken i → fault k u ≡ some i
-  unfolding place_told
-  scanned_broken e = told_place ∙ ap place_told e
-
-  pub scanned_right : {d n : ℕ} → scanned k u ≡ Right d n → (fault k u ≡ none) × (d ≡ deepest 0 u) × (n ≡ length (letters_of k u))
-  unfolding place_told numbers_told
-  scanned_right e =
-      let r = told_place ∙ ap place_told e in
-      let q = ap numbers_told (sym e ∙ ap (λ o. scanned_as o (deepest 0 u) (length (letters_of k u))) r) in
-      (r, head-eq_of_cons-eq q, head-eq_of_cons-eq (tail-eq_of_cons-eq q))
+  pub scanned_right : {s : Scanned} → scanned k u ≡ Ok s → (fault k u ≡ none) × (s.deepest ≡ deepest 0 u) × (s.letters ≡ length (letters_of k u))
+  scanned_right {s} e = go (fault k u) e
+    where
+      go : (o : Option ℕ) → scanned_as o (deepest 0 u) (length (letters_of k u)) ≡ Ok s → (o ≡ none) × (s.deepest ≡ deepest 0 u) × (s.letters ≡ length (letters_of k u))
+      go none q = (refl, cc, cc)
+      go (some j) q = absurd (cc)
 
 -- ---- the numbers of each letter
 

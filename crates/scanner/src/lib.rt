@@ -1,26 +1,25 @@
 // The pass over a text: where it breaks the rules, how deep its brackets go, its letters.
 #![tactic(auto)]
 
-ghost use Rattle.std.specs.Prelude.{◌≡◌, [], ◌∷◌, ◌+◌, ◌-◌, ◌^◌, ◌<◌, ◌≤◌, max, get_or, length, replicate, set};
+ghost use Rattle.std.specs.Prelude.{◌≡◌, [], ◌∷◌, ◌+◌, ◌-◌, ◌^◌, ◌<◌, ◌≤◌, get_or, length, replicate, set};
 ghost use Rattle.std.specs.Int.Bits.{bit_or};
 ghost use Rattle.profile.specs.Limits.{most_letters, most_states, most_typed};
 ghost use Rattle.expressions.specs.Texts.{letter?};
 ghost use Rattle.expressions.specs.Passes.{letters_of, next, sign};
 ghost use Rattle.scanner.specs.Scan.{placed, scanned, sets_of};
 
-// Where the pass stands: whether the byte was good, whether a letter or a bracket must come, and how many brackets are open.
+// Where the pass stands: whether a letter or a bracket must come, and how many brackets are open.
 #[derive(Clone, Copy)]
 struct Stand {
-    good: bool,
     want: bool,
     depth: usize,
 }
 
-// What a text is: the place where it breaks the rules, or how deep its brackets go and how many letters are typed.
+// What a text that keeps the rules has: how deep its brackets go, and how many letters are typed.
 #[derive(Clone, Copy)]
-pub enum Scanned {
-    Broken(usize),
-    Right { deepest: usize, letters: usize },
+pub struct Scanned {
+    pub deepest: usize,
+    pub letters: usize,
 }
 
 // The byte types a letter below k.
@@ -35,71 +34,48 @@ pub fn is_letter(k: usize, c: u8) -> bool
     n < 97 + k
 }
 
-// Where the pass stands after one byte more.
-fn step(k: usize, c: u8, want: bool, depth: usize) -> Stand
+// Where the pass stands after one byte more; none where the byte breaks the rules.
+fn step(k: usize, c: u8, want: bool, depth: usize) -> Option<Stand>
     requires { (k ≤ most_letters) × (depth + 1 < 18446744073709551616) }
     ensures { placed result ≡ next (sign k c) want depth }
 {
     if is_letter(k, c) {
-        return Stand {
-            good: true,
+        return Some(Stand {
             want: false,
             depth: depth,
-        };
+        });
     }
     if c == 40 {
-        return Stand {
-            good: true,
+        return Some(Stand {
             want: true,
             depth: depth + 1,
-        };
+        });
     }
     if want {
-        return Stand {
-            good: false,
-            want: true,
-            depth: 0,
-        };
+        return None;
     }
     if c == 41 {
         if depth == 0 {
-            return Stand {
-                good: false,
-                want: true,
-                depth: 0,
-            };
+            return None;
         }
-        return Stand {
-            good: true,
+        return Some(Stand {
             want: false,
             depth: depth - 1,
-        };
+        });
     }
     if c == 42 {
-        return Stand {
-            good: true,
+        return Some(Stand {
             want: false,
             depth: depth,
-        };
+        });
     }
     if c == 124 {
-        return Stand {
-            good: true,
+        return Some(Stand {
             want: true,
             depth: depth,
-        };
+        });
     }
-    Stand {
-        good: false,
-        want: true,
-        depth: 0,
-    }
-}
-
-fn larger(a: usize, b: usize) -> usize
-    ensures { result ≡ max a b }
-{
-    if a < b { b } else { a }
+    None
 }
 
 // How many letters a byte types.
@@ -110,9 +86,8 @@ fn letters_in(k: usize, c: u8) -> usize
     if is_letter(k, c) { 1 } else { 0 }
 }
 
-// The pass over a text: 11 is decided over the whole of it, before depth and letters are looked at.
-#[tactic(auto, using(crate::proofs::Scans::passed_faulty))]
-pub fn scan(k: usize, text: &[u8]) -> Scanned
+// The pass over a text, or the place where it breaks the rules: 11 is decided over the whole of it, before depth and letters are looked at.
+pub fn scan(k: usize, text: &[u8]) -> Result<Scanned, usize>
     requires { k ≤ most_letters }
     ensures { result ≡ scanned k text.now }
 {
@@ -120,29 +95,25 @@ pub fn scan(k: usize, text: &[u8]) -> Scanned
     let mut depth = 0;
     let mut deepest = 0;
     let mut letters = 0;
-    let mut i = 0;
-    while i < text.len() {
-        let c = text[i];
-        let s = step(k, c, want, depth);
-        if !s.good {
-            return Scanned::Broken(i);
-        }
-        deepest = larger(deepest, depth);
-        letters += letters_in(k, c);
+    for (i, c) in text.iter().enumerate() {
+        let Some(s) = step(k, *c, want, depth) else {
+            return Err(i);
+        };
+        deepest = deepest.max(depth);
+        letters += letters_in(k, *c);
         want = s.want;
         depth = s.depth;
-        i += 1;
     }
     if want {
-        return Scanned::Broken(i);
+        return Err(text.len());
     }
     if depth != 0 {
-        return Scanned::Broken(i);
+        return Err(text.len());
     }
-    Scanned::Right {
+    Ok(Scanned {
         deepest: deepest,
         letters: letters,
-    }
+    })
 }
 
 // Puts number n into the set of the letter that the byte types.
@@ -160,13 +131,10 @@ pub fn letter_sets(k: usize, text: &[u8], sets: &mut [u32])
     ensures { sets.new ≡ sets_of k text.now }
 {
     let mut n = 1usize;
-    let mut i = 0;
-    while i < text.len() {
-        let c = text[i];
-        if is_letter(k, c) {
-            add_number(sets, c, n);
+    for c in text {
+        if is_letter(k, *c) {
+            add_number(sets, *c, n);
             n += 1;
         }
-        i += 1;
     }
 }
