@@ -28,11 +28,9 @@ pub fn next_places(c: Counts, k: usize, starts: &[Place], places: &[Place], next
     ensures { next.new ≡ next_by k starts.now places.now (words c) ++ drop k next.old }
 {
     let t = counts::numbers(c);
-    let mut y = 0;
-    while y < k {
+    for y in 0..k {
         let n = counts::count_of(&t, y) as Place;
         next[y] = places::next_place(starts, places, y, n);
-        y += 1;
     }
 }
 
@@ -64,18 +62,13 @@ pub fn addable(
     next_places(c, end, starts, places, &mut next);
     let mut set = 0u32;
     let mut number = 0u32;
-    let mut x = 0;
-    while x < end {
+    for x in 0..end {
         if events::comes_next(masks, keepers, k, n, &next, x) {
             set = set | (1u32 << x);
             number += 1;
         }
-        x += 1;
     }
-    Letters {
-        set: set,
-        number: number,
-    }
+    Letters { set, number }
 }
 
 // The place of the next event of letter x, by the numbers of counts t.

@@ -1,9 +1,7 @@
-use borrow.Author.Rules.{rules}
 use mathlib.Core.Path.{◌≡◌, refl, sym, ◌∙◌, ap, ap₂, subst}
 use mathlib.Core.Bool.{not}
-use mathlib.Core.Logic.{⊎_elim}
 use mathlib.Core.List.{List, [], ◌∷◌, ◌++◌}
-use Prim.Native.Nat.{ℕ, ◌-◌, ◌*◌, ◌%◌, ◌^◌, ◌≤◌}
+use Prim.Native.Nat.{ℕ, ◌*◌, ◌%◌, ◌^◌}
 use native.Mathlib.Nat.{one-mul}
 use native.Mathlib.Omega.{arith}
 use lib.Bits.{bit_or}
@@ -53,6 +51,6 @@ returns c =
     let places : ℕ → List ℕ = λ n. next_by n a.starts.now a.places.now (words a.c) ++ drop n (replicate most_letters 0) in
     let f : filter (comes_next? may a.k a.n c.next_places.new.next) (below l.x)
     ≡ letters_by may a.k a.n a.starts.now a.places.now (words a.c) =
-    ap₂ (λ m x. filter (comes_next? may a.k a.n m) (below x)) (c.next_places.ensures ∙ ap places l.invariant.0.1) e
+    ap₂ (λ m x. filter (comes_next? may a.k a.n m) (below x)) (c.next_places.ensures ∙ ap places l.invariant.0) e
     ∙ letters_first may a.k a.n a.starts.now a.places.now (words a.c) (drop a.k (replicate most_letters 0)) in
     (l.invariant.2 ∙ ap (union (λ y. 2 ^ y)) f, l.invariant.3 ∙ ap length f)

@@ -4,7 +4,6 @@ use lib.Bits.{bit_and}
 use Rattle.profile.specs.Traces.{independent}
 use Rattle.counts.specs.Counts.{words}
 use Rattle.letters.proofs.Tests.{tested_all}
-use borrow.Author.Rules.{rules}
 use Rattle.letters.proofs.tested.Goals as goal
 
 pub returns-then-set-le-FEW : goal.returns-then-set-le-FEW

@@ -1,11 +1,9 @@
-use Prim.Native.Nat.{ℕ, ◌-◌, ◌^◌, ◌<◌}
+use Prim.Native.Nat.{◌-◌, ◌<◌}
 use mathlib.Core.Path.{◌≡◌, sym, ◌∙◌, ap}
-use mathlib.Core.Logic.{⊎_elim}
 use native.Mathlib.Omega.{arith}
 use lib.Bits.{bit_and, bit_or, and_le_r, or_zero_l}
-use lib.Count.{trailing_le, count_trailing_zeros}
+use lib.Count.{trailing_le}
 use Rattle.profile.specs.Traces.{independent}
-use Rattle.counts.specs.Counts.{words}
 use Rattle.parents.proofs.Unions.{over_left, over_none, over_taken}
 use Rattle.letters.specs.Letters.{letter_by, tested_by}
 use borrow.Author.Rules.{rules}

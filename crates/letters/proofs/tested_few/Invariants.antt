@@ -1,16 +1,10 @@
 -- `letters::tested_few` meets its contract. The loop's invariant: `out`, united with those of the letters that are left that can be added, is the whole.
 -- The measure is the set of the letters that are left, as a number.
-use Prim.Native.Nat.{ℕ, ◌-◌, ◌^◌, ◌<◌}
-use mathlib.Core.Path.{◌≡◌, sym, ◌∙◌, ap}
-use mathlib.Core.Logic.{⊎_elim}
-use native.Mathlib.Omega.{arith}
-use lib.Bits.{bit_and, bit_or, and_le_r, or_zero_l}
-use lib.Count.{trailing_le, count_trailing_zeros}
+use Prim.Native.Nat.{◌^◌, ◌<◌}
+use mathlib.Core.Path.{◌≡◌}
+use lib.Bits.{bit_or}
 use Rattle.profile.specs.Traces.{independent}
-use Rattle.counts.specs.Counts.{words}
-use Rattle.parents.proofs.Unions.{over_left, over_none, over_taken}
-use Rattle.letters.specs.Letters.{letter_by, tested_by}
-use borrow.Author.Rules.{rules}
+use Rattle.letters.specs.Letters.{tested_by}
 use Rattle.letters.proofs.tested_few.Given as goal
 
 abbrev pub invariant-loop-rest : goal.invariant-loop-rest

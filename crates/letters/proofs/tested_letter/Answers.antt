@@ -1,8 +1,7 @@
-use borrow.Author.Rules.{rules}
 use borrow.Author.Tests.{le-ltb}
 use mathlib.Core.Path.{◌≡◌, sym, ◌∙◌, ap, subst}
 use mathlib.Core.Bool.{◌&&◌, cond}
-use Prim.Native.Nat.{ℕ, ◌-◌, ◌*◌, ◌%◌, ◌^◌, ◌≤◌, ◌<◌}
+use Prim.Native.Nat.{◌-◌, ◌^◌, ◌≤◌, ◌<◌}
 use native.Mathlib.Nat.{one-mul}
 use native.Mathlib.Omega.{arith}
 use lib.Bits.{and_le_r}
@@ -14,7 +13,7 @@ use Rattle.profile.specs.Prefixes.{at}
 use Rattle.profile.specs.Traces.{independent}
 use Rattle.profile.proofs.Lists.{both, is_false, is_true, snd_of}
 use Rattle.theory.proofs.SetLoops.{rest_first}
-use Rattle.events.specs.Events.{comes_next?, keepers, lets_by?}
+use Rattle.events.specs.Events.{keepers, lets_by?}
 use Rattle.events.proofs.Keepers.{Left, keepers_own, left_first, left_next, left_none, left_stops}
 use Rattle.letters.specs.Letters.{next_by, place_by}
 use Rattle.letters.proofs.Additions.{at_next_by}
