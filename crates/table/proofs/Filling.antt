@@ -1,6 +1,7 @@
 -- Which refusal a table that is too small or large enough gets, and the table that the two passes leave.
 use mathlib.Core.Path.{◌≡◌, refl, sym, ◌∙◌, ap, subst}
 use mathlib.Core.Bool.{Bool}
+use Rattle.std.specs.Prelude.{Result, Ok, Err, Some, None}
 use mathlib.Core.List.{List, [], ◌∷◌, ◌++◌, append_assoc}
 use mathlib.Core.Option.{none, some}
 use Prim.Native.Nat.{ℕ, ◌+◌, ◌-◌, ◌*◌, ◌≤◌}
@@ -18,11 +19,10 @@ use Rattle.theory.proofs.Levels.{by_total_length}
 use Rattle.theory.proofs.Refusals.{log_at, lowest_append, lowest_first, plain_events, profile_at}
 use Rattle.profile.proofs.Lists.{flat_map_length}
 use Rattle.forward.specs.Forward.{Forward}
-use Rattle.forward.specs.declared.Filled.TheVariants.{Done, Full}
+use Rattle.forward.specs.declared.Filled.{Filled as Pass}
 use Rattle.backward.specs.Backward.{Drafted}
 use Rattle.table.specs.Table.{Fills, Promise, Sound, Spared, build_refusals, usable}
-use Rattle.table.specs.declared.Built.{Built}
-use Rattle.table.specs.declared.Built.TheVariants.{Filled, Refused}
+use Rattle.table.specs.declared.Filled.{Filled}
 use Rattle.records.specs.Drafts.{backward_set, draft, drafted, filled, forward_set, in_order, letters_set}
 
 -- a list that begins with a is a and what it has behind it
@@ -75,31 +75,31 @@ module _ (p : Rules) (w before : List ℕ) {room : ℕ} (s : Sound p w (length b
     whole_length = (spared_part part before z (e ∙ ap (λ n. record_length layout * n) s.place) (kept ∙ long)).long
 
     -- the records do not fit
-    pub full : Forward p w room (take z before) part Full → Fills p w before (part ++ drop z before) (Refused FullTable)
+    pub full : Forward p w room (take z before) part None → Fills p w before (part ++ drop z before) (Err FullTable)
     full h = record { answer = (refl, rw s.place at h); table = (λ ne. absurd (ne refl), spared_part part before z (e ∙ ap (λ n. record_length layout * n) s.place) (kept ∙ long)) }
 
     -- they fit, and stand in the whole table as in its usable part
-    pub whole : (P n : ℕ) → Forward p w room (take z before) part (Done P n) → Forward p w room before (part ++ drop z before) (Done P n)
-    whole P n h = (h.0, h.1, h.2, behind_part (drafted p w (in_order p w)) part before z (record_length layout * P) (omega (arith, long, h.1)) h.3)
+    pub whole : (f : Pass) → Forward p w room (take z before) part (Some f) → Forward p w room before (part ++ drop z before) (Some f)
+    whole f h = (h.0, h.1, h.2, behind_part (drafted p w (in_order p w)) part before z (record_length layout * f.records) (omega (arith, long, h.1)) h.3)
 
-  module _ (P n : ℕ) (after : List ℕ) (h : Forward p w room before after (Done P n)) (kept : length after ≡ length before) where
+  module _ (f : Pass) (after : List ℕ) (h : Forward p w room before after (Some f)) (kept : length after ≡ length before) where
     -- the drafted records have 10 × P numbers
-    drafts : length (drafted p w (in_order p w)) ≡ record_length layout * P
+    drafts : length (drafted p w (in_order p w)) ≡ record_length layout * f.records
     drafts = flat_map_length (draft (forward_set p w) (letters_set p w)) (record_length layout) (λ c. refl) (in_order p w)
         ∙ ap (λ m. record_length layout * m) (by_total_length p.may p.letter p.profile.k w s.log.letters ∙ sym h.0)
 
     -- what the backward pass asks
-    pub ready : Drafted p w after P
+    pub ready : Drafted p w after f.records
     ready = record {
       profile = s.profile;
       log = s.log;
       whole = h.0;
       fits = omega (arith, h.1, s.place);
-      written = behind_own (drafted p w (in_order p w)) (drop (record_length layout * P) before) after (record_length layout * P) drafts h.3;
+      written = behind_own (drafted p w (in_order p w)) (drop (record_length layout * f.records) before) after (record_length layout * f.records) drafts h.3;
     }
 
     -- what it leaves
-    pub done : (last : List ℕ) → last ≡ filled p w (in_order p w) ++ drop (record_length layout * P) after → Fills p w before last (Filled P n)
+    pub done : (last : List ℕ) → last ≡ filled p w (in_order p w) ++ drop (record_length layout * f.records) after → Fills p w before last (Ok record { prefixes = f.records; looks = f.looks })
     done last e = record {
       answer = let le : prefixes_by p w ≤ room = omega (arith, h.0, h.1) in rw s.place at le;
       table = (
@@ -110,8 +110,8 @@ module _ (p : Rules) (w before : List ℕ) {room : ℕ} (s : Sound p w (length b
       );
     }
       where
-        same : drop (record_length layout * P) after ≡ drop (record_length layout * P) before
-        same = ap (drop (record_length layout * P)) h.3 ∙ drop_at (drafted p w (in_order p w)) (drop (record_length layout * P) before) (record_length layout * P) drafts
+        same : drop (record_length layout * f.records) after ≡ drop (record_length layout * f.records) before
+        same = ap (drop (record_length layout * f.records)) h.3 ∙ drop_at (drafted p w (in_order p w)) (drop (record_length layout * f.records) before) (record_length layout * f.records) drafts
 
         holds : last ≡ filled p w (in_order p w) ++ drop (record_length layout * prefixes_by p w) before
         holds = e ∙ ap (λ t. filled p w (in_order p w) ++ t) (same ∙ ap (λ m. drop (record_length layout * m) before) h.0)
@@ -131,22 +131,22 @@ module _ (p : Profile) (w before after : List ℕ) (e : lowest (profile_refusals
   behind : lowest (build_refusals p w (length before)) ≡ lowest (tenth p w (length before))
   behind = lowest_append (profile_refusals p) (log_refusals p.k w ++ tenth p w (length before)) e ∙ lowest_append (log_refusals p.k w) (tenth p w (length before)) q
 
-  pub answered : (r : Built) → Fills (plain p) w before after r → Promise p w before after r
-  answered (Refused r) h = record {
+  pub answered : (r : Result Filled Refusal) → Fills (plain p) w before after r → Promise p w before after r
+  answered (Err r) h = record {
     refused = sym (behind ∙ (rw (lt-ltb (capacity layout (length before)) (prefixes_by (plain p) w) h.answer.1, lowest)) ∙ ap some (sym h.answer.0));
     table = h.table;
   }
-  answered (Filled P n) h = record {
+  answered (Ok t) h = record {
     refused = sym (behind ∙ rw (le-ltb (capacity layout (length before)) (prefixes_by (plain p) w) h.answer, lowest));
     table = h.table;
   }
 
 -- the profile is refused
-pub profile_refused : (p : Profile) (w before : List ℕ) (r : Refusal) → lowest (profile_refusals p) ≡ some r → Promise p w before before (Refused r)
+pub profile_refused : (p : Profile) (w before : List ℕ) (r : Refusal) → lowest (profile_refusals p) ≡ some r → Promise p w before before (Err r)
 profile_refused p w before r e = record { refused = sym (lowest_first (profile_refusals p) (log_refusals p.k w ++ tenth p w (length before)) e); table = (λ ne. refl, spared_same before) }
 
 -- the profile is good, and the log is refused
-pub log_refused : (p : Profile) (w before : List ℕ) (r : Refusal) → lowest (profile_refusals p) ≡ none → lowest (log_refusals p.k w) ≡ some r → Promise p w before before (Refused r)
+pub log_refused : (p : Profile) (w before : List ℕ) (r : Refusal) → lowest (profile_refusals p) ≡ none → lowest (log_refusals p.k w) ≡ some r → Promise p w before before (Err r)
 log_refused p w before r e q = record { refused = sym (lowest_append (profile_refusals p) (log_refusals p.k w ++ tenth p w (length before)) e ∙ lowest_first (log_refusals p.k w) (tenth p w (length before)) q); table = (λ ne. refl, spared_same before) }
 
 -- neither is refused

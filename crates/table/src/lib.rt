@@ -7,15 +7,14 @@ ghost use Rattle.terms.specs.Coded.{rules_of};
 ghost use Rattle.table.specs.Table.{Fills, Promise, Sound};
 ghost use Rattle.forward.specs.Forward.{Finds};
 
-use forward::Filled as Pass;
 use profile::limits::{MOST_LETTERS, MOST_PLACES, Place, RECORD_NUMBERS};
 use profile::{Refusal, Shape};
 
-// The answer of building: P and looks, or the refusal.
+// A table that is filled: P and looks.
 #[derive(Clone, Copy)]
-pub enum Built {
-    Refused(Refusal),
-    Filled { prefixes: usize, looks: u64 },
+pub struct Filled {
+    pub prefixes: usize,
+    pub looks: u64,
 }
 
 // Fills the table, where `room` records fit, of events that are letters or, with terms, codes: by their places and turns.
@@ -30,7 +29,7 @@ pub fn fill(
     places: &[Place],
     turns: &[Place],
     termed: bool,
-) -> Built
+) -> Result<Filled, Refusal>
     requires sound { Sound (rules_of (profile_of shape masks.now moves.now) termed) log.now (length table.old) room }
     requires finds { Finds (rules_of (profile_of shape masks.now moves.now) termed) log.now starts.now places.now turns.now termed }
     ensures { Fills (rules_of (profile_of shape masks.now moves.now) termed) log.now table.old table.new result }
@@ -47,17 +46,13 @@ pub fn fill(
         places,
         turns,
         termed,
-    );
-    match pass {
-        Pass::Full => Built::Refused(Refusal::FullTable),
-        Pass::Done { records, looks } => {
-            backward::fill_backward(table, records, shape, masks, moves, log, termed);
-            Built::Filled {
-                prefixes: records,
-                looks: looks,
-            }
-        }
-    }
+    )
+    .ok_or(Refusal::FullTable)?;
+    backward::fill_backward(table, pass.records, shape, masks, moves, log, termed);
+    Ok(Filled {
+        prefixes: pass.records,
+        looks: pass.looks,
+    })
 }
 
 // Fills the table for a log without terms.
@@ -68,7 +63,7 @@ fn fill_plain(
     masks: &[u16],
     moves: &[u32],
     log: &[u8],
-) -> Built
+) -> Result<Filled, Refusal>
     requires { Sound (rules_of (profile_of shape masks.now moves.now) false) log.now (length table.old) room }
     ensures { Fills (rules_of (profile_of shape masks.now moves.now) false) log.now table.old table.new result }
 {
@@ -81,18 +76,17 @@ fn fill_plain(
 }
 
 // The record of every prefix of the log, by rising total; refused by 2, 4, 6 to 8 and 10.
-pub fn build(shape: Shape, masks: &[u16], moves: &[u32], log: &[u8], table: &mut [u32]) -> Built
+pub fn build(
+    shape: Shape,
+    masks: &[u16],
+    moves: &[u32],
+    log: &[u8],
+    table: &mut [u32],
+) -> Result<Filled, Refusal>
     ensures { Promise (profile_of shape masks.now moves.now) log.now table.old table.new result }
 {
-    let profile = checks::check_profile(shape, masks, moves);
-    if let Err(r) = profile {
-        return Built::Refused(r);
-    }
-    let k = shape.k;
-    let letters = logcheck::check_log(k, log);
-    if let Err(r) = letters {
-        return Built::Refused(r);
-    }
+    checks::check_profile(shape, masks, moves)?;
+    logcheck::check_log(shape.k, log)?;
     let room = records::capacity(table);
     fill_plain(table, room, shape, masks, moves, log)
 }
