@@ -24,10 +24,8 @@ use Rattle.arrival.proofs.Arrivals.{arrivals_count}
 use Rattle.arrival.proofs.Tables.{keeps_length, keeps_next, put_at, put_length}
 use Rattle.running.specs.Running.{Lent, p_of, QuestionPromise, Runs, StartPromise, StepPromise, asked, record_refusals, refused, relent, started, took, verdict_of}
 use Rattle.running.specs.declared.Running.{Running}
-use Rattle.running.specs.declared.Started.TheVariants.{Begun}
-use Rattle.running.specs.declared.Step.TheVariants.{Refused as NotTaken, Taken}
+use Rattle.std.specs.Prelude.{Result, Ok, Err}
 use Rattle.running.specs.declared.Told.{Told}
-use Rattle.running.specs.declared.Told.TheVariants.{Verdict}
 
 module _ {A : Type 0} (l r : List (Bool × A)) where
   -- nothing in either of two lists of conditions applies
@@ -44,7 +42,7 @@ pub arrivals_are : (p : Profile) (w : List ℕ) → GoodProfile p → T (letters
 arrivals_are p w g l = arrivals_count (independent p.masks) p.k (distinct p.masks g.relation.own) w l
 
 -- a start that is not refused
-module _ (p : Profile) {t t' : List ℕ} {r : Running} (h : StartPromise p t t' (Begun r)) where
+module _ (p : Profile) {t t' : List ℕ} {r : Running} (h : StartPromise p t t' (Ok r)) where
   abbrev firsts : List (List ℕ)
   firsts = replicate p.k 0 ∷ []
 
@@ -78,7 +76,7 @@ module _ (p : Profile) {t t' : List ℕ} {r : Running} (h : StartPromise p t t' 
   }
 
 -- an event that is taken
-module _ (p : Profile) {w t t' : List ℕ} {r r' : Running} {a : ℕ} (h : Runs p w r t) (s : StepPromise p a r r' t t' Taken) where
+module _ (p : Profile) {w t t' : List ℕ} {r r' : Running} {a : ℕ} (h : Runs p w r t) (s : StepPromise p a r r' t t' (Ok tt)) where
   good : GoodProfile p
   good = profile_at p h.sound
 
@@ -118,7 +116,7 @@ module _ (p : Profile) {w t t' : List ℕ} {r r' : Running} {a : ℕ} (h : Runs 
       }
 
 -- a refused event, whose record stays
-pub refused_runs : (p : Profile) {w t t' : List ℕ} {r r' : Running} {a : ℕ} {x : Refusal} → Runs p w r t → StepPromise p a r r' t t' (NotTaken x) → Runs p w r' t'
+pub refused_runs : (p : Profile) {w t t' : List ℕ} {r r' : Running} {a : ℕ} {x : Refusal} → Runs p w r t → StepPromise p a r r' t t' (Err x) → Runs p w r' t'
 refused_runs p {w} {t} {t'} {r} {r'} h s = subst₂ (Runs p w) (sym s.unchanged.0) (sym s.unchanged.1) h
 
 -- another table that has the first P records
@@ -148,5 +146,6 @@ lent_runs p (relent l f e) = relent_runs p (lent_runs p l) f e
 lent_runs p (asked l s) = lent_runs p l
 
 -- "the verdict and P told after it are those of the judge for the list of events taken, and the number told is that list's length"
-pub lent_told : (p : Profile) {w t : List ℕ} {r : Running} {s : Told} → Lent p w r t → QuestionPromise p r t s → s ≡ Verdict (verdict_of p w) (p_of p w) (length w)
+pub lent_told : (p : Profile) {w t : List ℕ} {r : Running} {s : Result Told Refusal} → Lent p w r t → QuestionPromise p r t s
+    → s ≡ Ok (record { verdict = verdict_of p w; prefixes = p_of p w; taken = length w })
 lent_told p {w} l q = q.told w (lent_runs p l)

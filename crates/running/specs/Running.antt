@@ -1,22 +1,17 @@
 -- Paper 7, "Verdict while the class is lending": the record of a running judge, its calls, what refuses them, and what each promises.
-use Rattle.std.specs.Prelude.{◌≡◌, Bool, true, false, cond, List, [], ◌∷◌, ◌++◌, ℕ, suc, ◌*◌, leb, length, replicate, take}
+use Rattle.std.specs.Prelude.{◌≡◌, Result, Ok, Err, Bool, true, false, cond, List, [], ◌∷◌, ◌++◌, ℕ, suc, ◌*◌, leb, length, replicate, take}
 use Rattle.std.proofs.Math.Option.{Option, none, some}
 use Rattle.profile.specs.Traces.{independent}
 use Rattle.profile.specs.Automata.{Profile, automaton}
 use Rattle.profile.specs.Rules.{order_by, plain, prefixes_by}
 use Rattle.profile.specs.Tables.{layout, record_length}
-use Rattle.profile.specs.Refusals.{full_table, longest, lowest, profile_refusals, refusal_number, refusal_place}
+use Rattle.profile.specs.Refusals.{full_table, longest, lowest, profile_refusals, refused_by, refusal_number, refusal_place}
 use Rattle.profile.specs.declared.Refusal.{Refusal}
 use Rattle.profile.specs.declared.Refusal.TheVariants.{BadLetter, FullTable, LongLog}
 use Rattle.theory.proofs.Refusals.{GoodLog}
 use Rattle.arrival.specs.Arrival.{Keeps, arrivals, newcomers, put_written}
 use Rattle.running.specs.declared.Running.{Running}
-use Rattle.running.specs.declared.Started.{Started}
-use Rattle.running.specs.declared.Started.TheVariants.{Begun, Refused as NotBegun}
-use Rattle.running.specs.declared.Step.{Step}
-use Rattle.running.specs.declared.Step.TheVariants.{Refused as NotTaken, Taken}
 use Rattle.running.specs.declared.Told.{Told}
-use Rattle.running.specs.declared.Told.TheVariants.{Refused as NotTold, Verdict}
 
 -- P of the judge for the list of events w, and its verdict: 1 exactly when there is an accepted order
 abbrev pub p_of : Profile → List ℕ → ℕ
@@ -48,43 +43,30 @@ event_refusals p w r a n = record_refusals p r a n ++ ((full_table (p_of p (w ++
 abbrev pub question_refusals : Profile → Running → ℕ → List (Bool × Refusal)
 question_refusals p r n = profile_refusals p ++ ((full_table r.prefixes n, FullTable) ∷ [])
 
--- the refusal of an answer; none where there is none
-abbrev pub start_refused : Started → Option Refusal
-start_refused (NotBegun x) = some x
-start_refused (Begun r) = none
-
-abbrev pub step_refused : Step → Option Refusal
-step_refused (NotTaken x) = some x
-step_refused Taken = none
-
-abbrev pub told_refused : Told → Option Refusal
-told_refused (NotTold x) = some x
-told_refused (Verdict v P n) = none
-
 -- the numbers of an answer: the refusal's number, or 0, and what is told: the place; of a question also verdict, P and the number of events taken
-abbrev pub started_code : Started → ℕ
-started_code (NotBegun x) = refusal_number x
-started_code (Begun r) = 0
+abbrev pub started_code : Result Running Refusal → ℕ
+started_code (Err x) = refusal_number x
+started_code (Ok r) = 0
 
-abbrev pub started_told : Started → List ℕ
-started_told (NotBegun x) = refusal_place x ∷ []
-started_told (Begun r) = 0 ∷ []
+abbrev pub started_told : Result Running Refusal → List ℕ
+started_told (Err x) = refusal_place x ∷ []
+started_told (Ok r) = 0 ∷ []
 
-abbrev pub step_code : Step → ℕ
-step_code (NotTaken x) = refusal_number x
-step_code Taken = 0
+abbrev pub step_code : Result Unit Refusal → ℕ
+step_code (Err x) = refusal_number x
+step_code (Ok u) = 0
 
-abbrev pub step_told : Step → List ℕ
-step_told (NotTaken x) = refusal_place x ∷ []
-step_told Taken = 0 ∷ []
+abbrev pub step_told : Result Unit Refusal → List ℕ
+step_told (Err x) = refusal_place x ∷ []
+step_told (Ok u) = 0 ∷ []
 
-abbrev pub question_code : Told → ℕ
-question_code (NotTold x) = refusal_number x
-question_code (Verdict v P n) = 0
+abbrev pub question_code : Result Told Refusal → ℕ
+question_code (Err x) = refusal_number x
+question_code (Ok t) = 0
 
-abbrev pub question_told : Told → List ℕ
-question_told (NotTold x) = refusal_place x ∷ 0 ∷ 0 ∷ 0 ∷ []
-question_told (Verdict v P n) = 0 ∷ cond v 1 0 ∷ P ∷ n ∷ []
+abbrev pub question_told : Result Told Refusal → List ℕ
+question_told (Err x) = refusal_place x ∷ 0 ∷ 0 ∷ 0 ∷ []
+question_told (Ok t) = 0 ∷ cond t.verdict 1 0 ∷ t.prefixes ∷ t.taken ∷ []
 
 -- ---- the record and the table
 
@@ -110,43 +92,43 @@ event_table p w a t =
 -- ---- promises
 
 -- of a start that was lent the table t and left t'
-abbrev pub begun : Profile → List ℕ → List ℕ → Started → Type 0
-begun p t t' (NotBegun x) = t' ≡ t
-begun p t t' (Begun r) = (r ≡ record { prefixes = 1; taken = 0 }) × (t' ≡ start_table p t)
+abbrev pub begun : Profile → List ℕ → List ℕ → Result Running Refusal → Type 0
+begun p t t' (Err x) = t' ≡ t
+begun p t t' (Ok r) = (r ≡ record { prefixes = 1; taken = 0 }) × (t' ≡ start_table p t)
 
-pub record StartPromise (p : Profile) (t t' : List ℕ) (s : Started) : Type 0 where
-  pub refused : start_refused s ≡ lowest (start_refusals p (length t))
+pub record StartPromise (p : Profile) (t t' : List ℕ) (s : Result Running Refusal) : Type 0 where
+  pub refused : refused_by s ≡ lowest (start_refusals p (length t))
   pub left : begun p t t' s
 
 -- "A refused event changes neither the record nor the first P table records": this one changes no number of the table
-abbrev pub unmoved : Running → Running → List ℕ → List ℕ → Step → Type 0
-unmoved r r' t t' (NotTaken x) = (r' ≡ r) × (t' ≡ t)
-unmoved r r' t t' Taken = Unit {0}
+abbrev pub unmoved : Running → Running → List ℕ → List ℕ → Result Unit Refusal → Type 0
+unmoved r r' t t' (Err x) = (r' ≡ r) × (t' ≡ t)
+unmoved r r' t t' (Ok u) = Unit {0}
 
 -- an event that is taken after w: the record and the table that it leaves
-abbrev pub stepped : Profile → List ℕ → ℕ → Running → List ℕ → List ℕ → Step → Type 0
-stepped p w a r' t t' (NotTaken x) = Unit {0}
-stepped p w a r' t t' Taken = (r' ≡ record { prefixes = p_of p (w ++ (a ∷ [])); taken = suc (length w) }) × (t' ≡ event_table p w a t)
+abbrev pub stepped : Profile → List ℕ → ℕ → Running → List ℕ → List ℕ → Result Unit Refusal → Type 0
+stepped p w a r' t t' (Err x) = Unit {0}
+stepped p w a r' t t' (Ok u) = (r' ≡ record { prefixes = p_of p (w ++ (a ∷ [])); taken = suc (length w) }) × (t' ≡ event_table p w a t)
 
 -- of an event a with the record r and the table t, which it left as r' and t'. The first two hold whatever the record and the table are; "with a record or table not so
 -- left" all else that a taken event tells and writes is free
-pub record StepPromise (p : Profile) (a : ℕ) (r r' : Running) (t t' : List ℕ) (s : Step) : Type 0 where
-  pub early : (x : Refusal) → lowest (record_refusals p r a (length t)) ≡ some x → s ≡ NotTaken x
+pub record StepPromise (p : Profile) (a : ℕ) (r r' : Running) (t t' : List ℕ) (s : Result Unit Refusal) : Type 0 where
+  pub early : (x : Refusal) → lowest (record_refusals p r a (length t)) ≡ some x → s ≡ Err x
   pub unchanged : unmoved r r' t t' s
-  pub refused : (w : List ℕ) → Runs p w r t → step_refused s ≡ lowest (event_refusals p w r a (length t))
+  pub refused : (w : List ℕ) → Runs p w r t → refused_by s ≡ lowest (event_refusals p w r a (length t))
   pub left : (w : List ℕ) → Runs p w r t → stepped p w a r' t t' s
 
 -- of a question; with a record or table not as left, what is told where nothing refuses it is free
-pub record QuestionPromise (p : Profile) (r : Running) (t : List ℕ) (s : Told) : Type 0 where
-  pub refused : told_refused s ≡ lowest (question_refusals p r (length t))
-  pub told : (w : List ℕ) → Runs p w r t → s ≡ Verdict (verdict_of p w) (p_of p w) (length w)
+pub record QuestionPromise (p : Profile) (r : Running) (t : List ℕ) (s : Result Told Refusal) : Type 0 where
+  pub refused : refused_by s ≡ lowest (question_refusals p r (length t))
+  pub told : (w : List ℕ) → Runs p w r t → s ≡ Ok (record { verdict = verdict_of p w; prefixes = p_of p w; taken = length w })
 
 -- ---- "every list of events and questions after a start that is not refused, with the same profile and with the record and the table lent each time as the last
 -- call left them": the events taken so far, the record and the table. The table may be another, as a longer one, that has its first P records as they were left
 pub data Lent (p : Profile) : List ℕ → Running → List ℕ → Type 0 where
-  started : {t t' : List ℕ} {r : Running} → StartPromise p t t' (Begun r) → Lent p [] r t'
-  took : {w t t' : List ℕ} {r r' : Running} {a : ℕ} → Lent p w r t → StepPromise p a r r' t t' Taken → Lent p (w ++ (a ∷ [])) r' t'
-  refused : {w t t' : List ℕ} {r r' : Running} {a : ℕ} {x : Refusal} → Lent p w r t → StepPromise p a r r' t t' (NotTaken x) → Lent p w r' t'
+  started : {t t' : List ℕ} {r : Running} → StartPromise p t t' (Ok r) → Lent p [] r t'
+  took : {w t t' : List ℕ} {r r' : Running} {a : ℕ} → Lent p w r t → StepPromise p a r r' t t' (Ok tt) → Lent p (w ++ (a ∷ [])) r' t'
+  refused : {w t t' : List ℕ} {r r' : Running} {a : ℕ} {x : Refusal} → Lent p w r t → StepPromise p a r r' t t' (Err x) → Lent p w r' t'
   relent : {w t t' : List ℕ} {r : Running} → Lent p w r t → full_table r.prefixes (length t') ≡ false
       → take (record_length layout * r.prefixes) t' ≡ take (record_length layout * r.prefixes) t → Lent p w r t'
-  asked : {w t : List ℕ} {r : Running} {s : Told} → Lent p w r t → QuestionPromise p r t s → Lent p w r t
+  asked : {w t : List ℕ} {r : Running} {s : Result Told Refusal} → Lent p w r t → QuestionPromise p r t s → Lent p w r t

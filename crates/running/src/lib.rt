@@ -19,36 +19,19 @@ pub struct Running {
     pub taken: usize,
 }
 
-// The answer of a start: the record, or the refusal.
-#[derive(Clone, Copy)]
-pub enum Started {
-    Refused(Refusal),
-    Begun(Running),
-}
-
-// The answer to an event: it is taken, or the refusal.
-#[derive(Clone, Copy)]
-pub enum Step {
-    Refused(Refusal),
-    Taken,
-}
-
 // What an event with the record by value gives back: the record after it, as it was where the event is refused, and the answer.
 #[derive(Clone, Copy)]
 pub struct Stepped {
     pub held: Running,
-    pub answer: Step,
+    pub answer: Result<(), Refusal>,
 }
 
-// The answer to a question: verdict, P and the number of events taken, or the refusal.
+// What a question is told: verdict, P and the number of events taken.
 #[derive(Clone, Copy)]
-pub enum Told {
-    Refused(Refusal),
-    Verdict {
-        verdict: bool,
-        prefixes: usize,
-        taken: usize,
-    },
+pub struct Told {
+    pub verdict: bool,
+    pub prefixes: usize,
+    pub taken: usize,
 }
 
 // The lowest refusal of a start or a question: 2, 4, 6, or 10 where `prefixes` records do not fit.
@@ -61,10 +44,7 @@ fn check_question(
 ) -> Result<(), Refusal>
     ensures { refused_by result ≡ lowest (profile_refusals (profile_of shape masks.now moves.now) ++ ((ltb room prefixes, FullTable) ∷ [])) }
 {
-    let profile = checks::check_profile(shape, masks, moves);
-    if let Err(r) = profile {
-        return Err(r);
-    }
+    checks::check_profile(shape, masks, moves)?;
     if room < prefixes {
         return Err(Refusal::FullTable);
     }
@@ -82,16 +62,18 @@ fn put_empty(table: &mut [u32], start: usize)
 }
 
 // Starts a running judge: the record of the empty prefix is put; refused by 2, 4, 6 and 10.
-pub fn start(shape: Shape, masks: &[u16], moves: &[u32], table: &mut [u32]) -> Started
+pub fn start(
+    shape: Shape,
+    masks: &[u16],
+    moves: &[u32],
+    table: &mut [u32],
+) -> Result<Running, Refusal>
     ensures { StartPromise (profile_of shape masks.now moves.now) table.old table.new result }
 {
     let room = records::capacity(table);
-    let check = check_question(shape, masks, moves, 1, room);
-    if let Err(r) = check {
-        return Started::Refused(r);
-    }
+    check_question(shape, masks, moves, 1, room)?;
     put_empty(table, shape.start);
-    Started::Begun(Running {
+    Ok(Running {
         prefixes: 1,
         taken: 0,
     })
@@ -109,19 +91,22 @@ fn verdict_at(table: &[u32], n: usize, finals: u32) -> bool
 }
 
 // Verdict, P and the number of events taken; refused by 2, 4, 6 and 10.
-pub fn question(held: Running, shape: Shape, masks: &[u16], moves: &[u32], table: &[u32]) -> Told
+pub fn question(
+    held: Running,
+    shape: Shape,
+    masks: &[u16],
+    moves: &[u32],
+    table: &[u32],
+) -> Result<Told, Refusal>
     ensures { QuestionPromise (profile_of shape masks.now moves.now) held table.now result }
 {
     let prefixes = held.prefixes;
     let taken = held.taken;
-    let check = check_question(shape, masks, moves, prefixes, records::capacity(table));
-    if let Err(r) = check {
-        return Told::Refused(r);
-    }
+    check_question(shape, masks, moves, prefixes, records::capacity(table))?;
     let verdict = verdict_at(table, prefixes, shape.finals);
-    Told::Verdict {
+    Ok(Told {
         verdict,
         prefixes,
         taken,
-    }
+    })
 }
