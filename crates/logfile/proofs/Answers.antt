@@ -17,8 +17,7 @@ use Rattle.profile.specs.declared.Shape.{Shape}
 use Rattle.profile.proofs.Lists.{Rising, all_at}
 use Rattle.theory.proofs.Refusals.{lowest_append}
 use Rattle.logfile.specs.Files.{Reads, field, file_masks, file_moves, file_refusals, file_shape, filled, log_length, read_refusal, read_refusals, reading, section, short_buffers}
-use Rattle.logfile.specs.declared.Reading.{Reading}
-use Rattle.logfile.specs.declared.Reading.TheVariants.{Told}
+use Rattle.std.specs.Prelude.{Ok, Err}
 use Rattle.logfile.proofs.Bytes.{numbers_length}
 
 -- ---- the conditions stand by rising number: the first that applies is the lowest
@@ -65,7 +64,7 @@ module _ (f : List ℕ) (a b : ℕ) (good : lowest (file_refusals f) ≡ none) w
       read_room ∙ ap₂ (λ t u. room (t || u)) (le-ltb a (length (file_masks f)) e) (le-ltb b (length (file_moves f)) d)
 
 module _ (f masks moves : List ℕ) where
-  pub read_refused : {r : Refusal} → read_refusal f (length masks) (length moves) ≡ some r → Reads f masks masks moves moves (Reading.Refused r)
+  pub read_refused : {r : Refusal} → read_refusal f (length masks) (length moves) ≡ some r → Reads f masks masks moves moves (Err r)
   read_refused e = (
     sym (ap (λ o. reading o (file_shape f) (log_length f)) e),
     sym (ap (λ o. filled o (file_masks f) masks) e),
@@ -73,9 +72,9 @@ module _ (f masks moves : List ℕ) where
   )
 
   pub read_told : {h : Shape} {n : ℕ} {m v : List ℕ} → read_refusal f (length masks) (length moves) ≡ none → h ≡ file_shape f → n ≡ log_length f
-      → m ≡ file_masks f ++ drop (length (file_masks f)) masks → v ≡ file_moves f ++ drop (length (file_moves f)) moves → Reads f masks m moves v (Told h n)
+      → m ≡ file_masks f ++ drop (length (file_masks f)) masks → v ≡ file_moves f ++ drop (length (file_moves f)) moves → Reads f masks m moves v (Ok (h, n))
   read_told e p q r s = (
-    ap₂ Told p q ∙ sym (ap (λ o. reading o (file_shape f) (log_length f)) e),
+    ap₂ (λ (h : Shape) (n : ℕ). Ok (h, n)) p q ∙ sym (ap (λ o. reading o (file_shape f) (log_length f)) e),
     r ∙ sym (ap (λ o. filled o (file_masks f) masks) e),
     s ∙ sym (ap (λ o. filled o (file_moves f) moves) e),
   )

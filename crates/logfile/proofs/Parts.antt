@@ -10,19 +10,18 @@ use Rattle.profile.specs.Limits.{log_byte}
 use Rattle.profile.specs.Refusals.{lowest}
 use Rattle.profile.specs.declared.Refusal.{Refusal}
 use Rattle.logfile.specs.Files.{file_log, file_refusals, located, log_length, log_location, log_part_of, section, trailer, unless}
-use Rattle.logfile.specs.declared.Located.{Located}
-use Rattle.logfile.specs.declared.Located.TheVariants.{At}
+use Rattle.std.specs.Prelude.{Result, Ok, Err}
 use Rattle.logfile.proofs.Sections.{inside, open_file}
 
 -- the bytes at an answer's place; none where it is a refusal
-abbrev pub part_at : List ℕ → Located → List ℕ
-part_at f (At i n) = take n (drop i f)
-part_at f (Located.Refused r) = []
+abbrev pub part_at : List ℕ → Result (ℕ × ℕ) Refusal → List ℕ
+part_at f (Ok (i, n)) = take n (drop i f)
+part_at f (Err r) = []
 
 -- an answer that is a place
-abbrev pub length_at : Located → ℕ
-length_at (At i n) = n
-length_at (Located.Refused r) = 0
+abbrev pub length_at : Result (ℕ × ℕ) Refusal → ℕ
+length_at (Ok (i, n)) = n
+length_at (Err r) = 0
 
 -- what `log_part` hands back is what `locate_log` points at
 pub part_located : (f : List ℕ) → log_part_of f ≡ part_at f (log_location f)
@@ -38,20 +37,20 @@ pub record Stands (f : List ℕ) (i n : ℕ) : Type 0 where
   pub part : log_part_of f ≡ take n (drop i f)
   pub long : length (log_part_of f) ≡ n
 
-pub part_stands : (f : List ℕ) (i n : ℕ) → log_location f ≡ At i n → Stands f i n
+pub part_stands : (f : List ℕ) (i n : ℕ) → log_location f ≡ Ok (i, n) → Stands f i n
 part_stands f i n e = go (lowest (file_refusals f)) refl
   where
-    place_of : Located → ℕ
-    place_of (At j m) = j
-    place_of (Located.Refused r) = 0
+    place_of : Result (ℕ × ℕ) Refusal → ℕ
+    place_of (Ok (j, m)) = j
+    place_of (Err r) = 0
 
-    refused? : Located → Type 0
-    refused? (At j m) = ⊥
-    refused? (Located.Refused r) = Unit {0}
+    refused? : Result (ℕ × ℕ) Refusal → Type 0
+    refused? (Ok (j, m)) = ⊥
+    refused? (Err r) = Unit {0}
 
     go : (q : Option Refusal) → lowest (file_refusals f) ≡ q → Stands f i n
     go none h =
-        let a : At (section f log_byte) (log_length f) ≡ At i n = sym (ap (λ q. located q (section f log_byte) (log_length f)) h) ∙ e in
+        let a : located none (section f log_byte) (log_length f) ≡ Ok (i, n) = sym (ap (λ q. located q (section f log_byte) (log_length f)) h) ∙ e in
         let at : section f log_byte ≡ i = ap place_of a in
         let m : log_length f ≡ n = ap length_at a in
         let w = (inside f (open_file f h).1).log in
@@ -64,12 +63,12 @@ part_stands f i n e = go (lowest (file_refusals f)) refl
     go (some r) h = absurd (subst refused? (sym (ap (λ q. located q (section f log_byte) (log_length f)) h) ∙ e) tt)
 
 -- the part is empty exactly where the file is refused, or its log is
-pub part_empty : (f : List ℕ) → (log_part_of f ≡ []) ↔ (((r : Refusal) × (log_location f ≡ Located.Refused r)) ⊎ ((i : ℕ) × (log_location f ≡ At i 0)))
+pub part_empty : (f : List ℕ) → (log_part_of f ≡ []) ↔ (((r : Refusal) × (log_location f ≡ Err r)) ⊎ ((i : ℕ) × (log_location f ≡ Ok (i, 0))))
 part_empty f = (empty (log_location f) refl, none-there)
   where
-    empty : (r : Located) → log_location f ≡ r → log_part_of f ≡ [] → ((x : Refusal) × (log_location f ≡ Located.Refused x)) ⊎ ((i : ℕ) × (log_location f ≡ At i 0))
-    empty (Located.Refused x) h e = inl (x, h)
-    empty (At i n) h e = inr (i, h ∙ ap (At i) (sym (part_stands f i n h).long ∙ ap length e))
+    empty : (r : Result (ℕ × ℕ) Refusal) → log_location f ≡ r → log_part_of f ≡ [] → ((x : Refusal) × (log_location f ≡ Err x)) ⊎ ((i : ℕ) × (log_location f ≡ Ok (i, 0)))
+    empty (Err x) h e = inl (x, h)
+    empty (Ok (i, n)) h e = inr (i, h ∙ ap (λ n. Ok (i, n)) (sym (part_stands f i n h).long ∙ ap length e))
 
-    none-there : ((x : Refusal) × (log_location f ≡ Located.Refused x)) ⊎ ((i : ℕ) × (log_location f ≡ At i 0)) → log_part_of f ≡ []
+    none-there : ((x : Refusal) × (log_location f ≡ Err x)) ⊎ ((i : ℕ) × (log_location f ≡ Ok (i, 0))) → log_part_of f ≡ []
     none-there c = part_located f ∙ ⊎_elim (λ r. ap (part_at f) r.1) (λ i. ap (part_at f) i.1) c

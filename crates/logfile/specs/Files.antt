@@ -1,5 +1,5 @@
 -- Document 01, "Log file": what a file holds, why it is refused, what the reader gives. A file is a list of bytes.
-use Rattle.std.specs.Prelude.{◌≡◌, Bool, ◌||◌, not, List, [], ◌∷◌, ◌++◌, map, ℕ, ◌+◌, ◌-◌, ◌*◌, eqb, leb, ltb, length, get_or, take, drop}
+use Rattle.std.specs.Prelude.{Result, Ok, Err, ◌≡◌, Bool, ◌||◌, not, List, [], ◌∷◌, ◌++◌, map, ℕ, ◌+◌, ◌-◌, ◌*◌, eqb, leb, ltb, length, get_or, take, drop}
 use Rattle.std.proofs.Math.Option.{Option, none, some}
 use Rattle.profile.specs.Limits.{finals_byte, length_byte, length_high_byte, letters_byte, log_byte, masks_byte, most_letters, most_states, moves_byte, start_byte, states_byte, trailer_length, zero_byte}
 use Rattle.profile.specs.Lists.{below}
@@ -9,10 +9,6 @@ use Rattle.profile.specs.Refusals.{log_refusals, lowest, mask_bit, profile_out_o
 use Rattle.profile.specs.declared.Shape.{Shape}
 use Rattle.profile.specs.declared.Refusal.{Refusal}
 use Rattle.profile.specs.declared.Refusal.TheVariants.{Distance, MaskBit, OutOfRange, ShortBuffer, ShortFile, StateBit}
-use Rattle.logfile.specs.declared.Reading.{Reading}
-use Rattle.logfile.specs.declared.Located.{Located}
-use Rattle.logfile.specs.declared.Located.TheVariants.{At}
-use Rattle.logfile.specs.declared.Reading.TheVariants.{Told}
 
 -- "Low byte first": the number of b bytes at place i; of two, of four
 abbrev pub number : ℕ → List ℕ → ℕ → ℕ
@@ -109,45 +105,45 @@ module _ {A : Type 0} where
   unless (some r) x y = y
 
 -- "The reader tells k, s, start state, final set and n", or refuses
-abbrev pub reading : Option Refusal → Shape → ℕ → Reading
-reading none h n = Told h n
-reading (some r) h n = Reading.Refused r
+abbrev pub reading : Option Refusal → Shape → ℕ → Result (Shape × ℕ) Refusal
+reading none h n = Ok (h, n)
+reading (some r) h n = Err r
 
 -- its numbers: the refusal's number, or 0; place, k, s, start, final set, n
-abbrev pub reading_code : Reading → ℕ
-reading_code (Reading.Refused r) = refusal_number r
-reading_code (Told h n) = 0
+abbrev pub reading_code : Result (Shape × ℕ) Refusal → ℕ
+reading_code (Err r) = refusal_number r
+reading_code (Ok (h, n)) = 0
 
-abbrev pub reading_told : Reading → List ℕ
-reading_told (Reading.Refused r) = refusal_place r ∷ 0 ∷ 0 ∷ 0 ∷ 0 ∷ 0 ∷ []
-reading_told (Told h n) = 0 ∷ h.k ∷ h.s ∷ h.start ∷ h.finals ∷ n ∷ []
+abbrev pub reading_told : Result (Shape × ℕ) Refusal → List ℕ
+reading_told (Err r) = refusal_place r ∷ 0 ∷ 0 ∷ 0 ∷ 0 ∷ 0 ∷ []
+reading_told (Ok (h, n)) = 0 ∷ h.k ∷ h.s ∷ h.start ∷ h.finals ∷ n ∷ []
 
 -- "a lent … buffer": l from its start, "further elements unchanged"; refused, it is as before
 abbrev pub filled : Option Refusal → List ℕ → List ℕ → List ℕ
 filled r l before = unless r (l ++ drop (length l) before) before
 
 -- what the reader promises: its answer, and each lent buffer afterwards
-abbrev pub Reads : List ℕ → List ℕ → List ℕ → List ℕ → List ℕ → Reading → Type 0
+abbrev pub Reads : List ℕ → List ℕ → List ℕ → List ℕ → List ℕ → Result (Shape × ℕ) Refusal → Type 0
 Reads f masks masks' moves moves' r =
     let q = read_refusal f (length masks) (length moves) in
     (r ≡ reading q (file_shape f) (log_length f)) × (masks' ≡ filled q (file_masks f) masks) × (moves' ≡ filled q (file_moves f) moves)
 
 -- where the log section stands: its first place and its length, or the refusal
-abbrev pub located : Option Refusal → ℕ → ℕ → Located
-located none i n = At i n
-located (some r) i n = Located.Refused r
+abbrev pub located : Option Refusal → ℕ → ℕ → Result (ℕ × ℕ) Refusal
+located none i n = Ok (i, n)
+located (some r) i n = Err r
 
-abbrev pub log_location : List ℕ → Located
+abbrev pub log_location : List ℕ → Result (ℕ × ℕ) Refusal
 log_location f = located (lowest (file_refusals f)) (section f log_byte) (log_length f)
 
 -- its numbers: the refusal's number, or 0; place, the section's first place, its length
-abbrev pub located_code : Located → ℕ
-located_code (Located.Refused r) = refusal_number r
-located_code (At i n) = 0
+abbrev pub located_code : Result (ℕ × ℕ) Refusal → ℕ
+located_code (Err r) = refusal_number r
+located_code (Ok (i, n)) = 0
 
-abbrev pub located_told : Located → List ℕ
-located_told (Located.Refused r) = refusal_place r ∷ 0 ∷ 0 ∷ []
-located_told (At i n) = 0 ∷ i ∷ n ∷ []
+abbrev pub located_told : Result (ℕ × ℕ) Refusal → List ℕ
+located_told (Err r) = refusal_place r ∷ 0 ∷ 0 ∷ []
+located_told (Ok (i, n)) = 0 ∷ i ∷ n ∷ []
 
 -- "handed back as that part of the file"; "A file refused by 1 to 8 hands back an empty part"
 abbrev pub log_part_of : List ℕ → List ℕ

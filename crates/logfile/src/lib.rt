@@ -12,20 +12,6 @@ use profile::limits::{
 };
 use profile::{Refusal, Shape};
 
-// Where the log section of a file stands: why the file is refused, or the section's first place and its length.
-#[derive(Clone, Copy)]
-pub enum Located {
-    Refused(Refusal),
-    At(usize, usize),
-}
-
-// The answer of the reader: why the call is refused, or the file's numbers and its log's length.
-#[derive(Clone, Copy)]
-pub enum Reading {
-    Refused(Refusal),
-    Told(Shape, usize),
-}
-
 // Byte i; 0 past the end.
 fn byte_at(f: &[u8], i: usize) -> u8
     ensures { result ≡ get_or f.now i 0 }
@@ -191,10 +177,8 @@ fn fill_masks(f: &[u8], at: usize, k: usize, masks: &mut [u16])
     requires { (at + 2 * k ≤ length f.now) × (k ≤ length masks.old) }
     ensures { masks.new ≡ numbers_from 2 f.now at k ++ drop k masks.old }
 {
-    let mut j = 0;
-    while j < k {
+    for j in 0..k {
         masks[j] = half_at(f, at + 2 * j);
-        j += 1;
     }
 }
 
@@ -203,10 +187,8 @@ fn fill_moves(f: &[u8], at: usize, n: usize, moves: &mut [u32])
     requires { (at + 4 * n ≤ length f.now) × (n ≤ length moves.old) }
     ensures { moves.new ≡ numbers_from 4 f.now at n ++ drop n moves.old }
 {
-    let mut j = 0;
-    while j < n {
+    for j in 0..n {
         moves[j] = word_at(f, at + 4 * j);
-        j += 1;
     }
 }
 
@@ -223,10 +205,7 @@ fn check_content(f: &[u8]) -> Result<(), Refusal>
     let mut moves = [0u32; MOST_MOVES];
     fill_masks(f, section_at(f, MASKS_BYTE), k, &mut masks);
     fill_moves(f, section_at(f, MOVES_BYTE), count, &mut moves);
-    let of_profile = checks::check_profile(shape, &masks[0..k], &moves[0..count]);
-    if let Err(r) = of_profile {
-        return Err(r);
-    }
+    checks::check_profile(shape, &masks[0..k], &moves[0..count])?;
     let from = section_at(f, LOG_BYTE);
     let end = from + length_at(f);
     logcheck::check_log(k, &f[from..end])
@@ -249,22 +228,18 @@ fn check_file(f: &[u8]) -> Result<(), Refusal>
 }
 
 // Where the log section stands: its first place and its length, or the lowest of refusals 1 to 8.
-pub fn locate_log(file: &[u8]) -> Located
+pub fn locate_log(file: &[u8]) -> Result<(usize, usize), Refusal>
     ensures { result ≡ log_location file.now }
 {
-    let check = check_file(file);
-    if let Err(r) = check {
-        return Located::Refused(r);
-    }
-    Located::At(section_at(file, LOG_BYTE), length_at(file))
+    check_file(file)?;
+    Ok((section_at(file, LOG_BYTE), length_at(file)))
 }
 
 // The log section as that part of the file, uncopied; empty where the file is refused by 1 to 8.
 pub fn log_part(file: &[u8]) -> &[u8]
     ensures { result.now ≡ log_part_of file.now }
 {
-    let check = check_file(file);
-    if let Err(_) = check {
+    if check_file(file).is_err() {
         return &file[0..0];
     }
     let from = section_at(file, LOG_BYTE);
@@ -273,24 +248,25 @@ pub fn log_part(file: &[u8]) -> &[u8]
 }
 
 // Tells k, s, start state, final set and n, and fills the mask buffer and the move buffer from their starts.
-pub fn read_file(file: &[u8], masks: &mut [u16], moves: &mut [u32]) -> Reading
+pub fn read_file(
+    file: &[u8],
+    masks: &mut [u16],
+    moves: &mut [u32],
+) -> Result<(Shape, usize), Refusal>
     ensures { Reads file.now masks.old masks.new moves.old moves.new result }
 {
-    let check = check_file(file);
-    if let Err(r) = check {
-        return Reading::Refused(r);
-    }
+    check_file(file)?;
     let shape = shape_of(file);
     let k = shape.k;
     let s = shape.s;
     let count = s * k;
     if masks.len() < k {
-        return Reading::Refused(Refusal::ShortBuffer);
+        return Err(Refusal::ShortBuffer);
     }
     if moves.len() < count {
-        return Reading::Refused(Refusal::ShortBuffer);
+        return Err(Refusal::ShortBuffer);
     }
     fill_masks(file, section_at(file, MASKS_BYTE), k, masks);
     fill_moves(file, section_at(file, MOVES_BYTE), count, moves);
-    Reading::Told(shape, length_at(file))
+    Ok((shape, length_at(file)))
 }

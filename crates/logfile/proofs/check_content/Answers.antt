@@ -6,6 +6,7 @@ use mathlib.Core.Option.{Option}
 use Prim.Native.Nat.{ℕ, ◌-◌, ◌*◌}
 use native.Mathlib.Omega.{arith}
 use lib.ListN.{take, drop, replicate}
+use Rattle.std.specs.Prelude.{Err}
 use Rattle.profile.specs.Limits.{letters_byte, masks_byte, most_letters, most_moves, moves_byte, states_byte}
 use Rattle.profile.specs.Automata.{profile_of}
 use Rattle.profile.specs.Refusals.{refused_by, log_refusals, lowest, profile_refusals}
@@ -38,16 +39,17 @@ fill_moves-requires c =
     let n = shape_known f c.shape_of-shape.ensures c.requires.0 in
     omega (arith, n, (inside f c.requires.1).moves, c.section_at-2.ensures)
 
-pub returns-in-Err : goal.returns-in-Err
-returns-in-Err c =
+pub returns-in_err-check_profile : goal.returns-in_err-check_profile
+returns-in_err-check_profile c =
     let f = c.args.f.now in
-    let p = profile_checked f _ _ _ _ _ _ c.shape_of-shape.ensures c.requires.0 c.section_at.ensures c.fill_masks.ensures c.section_at-2.ensures c.fill_moves.ensures c.check_profile-of_profile.ensures in
-    sym (content_profile f (file_log f) c.requires.0 (sym p ∙ ap refused_by c.in-Err.is))
+    let p = profile_checked f _ _ _ _ _ _ c.shape_of-shape.ensures c.requires.0 c.section_at.ensures c.fill_masks.ensures c.section_at-2.ensures c.fill_moves.ensures c.check_profile.ensures in
+    let gone : c.from_residual.result ≡ Err c.in_err-check_profile.field-0.0 = grind arith in
+    rw gone (sym (content_profile f (file_log f) c.requires.0 (sym p ∙ ap refused_by c.in_err-check_profile.was)))
 
 pub returns : goal.returns
 returns c =
     let f = c.args.f.now in
     let e = c.shape_of-shape.ensures in
-    let p = profile_checked f _ _ _ _ _ _ e c.requires.0 c.section_at.ensures c.fill_masks.ensures c.section_at-2.ensures c.fill_moves.ensures c.check_profile-of_profile.ensures in
+    let p = profile_checked f _ _ _ _ _ _ e c.requires.0 c.section_at.ensures c.fill_masks.ensures c.section_at-2.ensures c.fill_moves.ensures c.check_profile.ensures in
     c.check_log.ensures ∙ ap₂ (λ k w. lowest (log_refusals k w)) (shape_known f e c.requires.0).0 (log_found f c.section_at-from.ensures c.length_at.ensures)
-    ∙ sym (content_log f (file_log f) c.requires.0 (sym p ∙ ap refused_by c.in_default.is))
+    ∙ sym (content_log f (file_log f) c.requires.0 (sym p ∙ ap refused_by c.in_ok-check_profile.was))

@@ -8,7 +8,7 @@ use Rattle.logfile.proofs.Bytes.{map_more, numbers_length, sets_start}
 use Rattle.logfile.proofs.fill_moves.Goals as goal
 
 pub loop-j-init : goal.loop-j-init
-loop-j-init c = (omega arith, refl, refl)
+loop-j-init c = (refl, refl)
 
 pub overflow_mul-j : goal.overflow_mul-j
 overflow_mul-j c = omega arith
@@ -27,9 +27,8 @@ loop-j-preserved c =
     let l = c.loop-j in
     let a = c.args in
     let g : ℕ → ℕ = λ i. word a.f.now (a.at + 4 * i) in (
-      omega arith,
-      simp length-set l.invariant.1,
-      ap₂ (λ t v. set t l.j v) l.invariant.2 c.word_at.ensures ∙ map_more g a.moves.now l.j,
+      simp length-set l.invariant.0,
+      ap₂ (λ t v. set t l.j v) l.invariant.1 c.word_at.ensures ∙ map_more g a.moves.now l.j,
     )
 
 pub returns : goal.returns
@@ -37,5 +36,5 @@ returns c =
     let a = c.args in
     let l = c.loop-j in
     let e : l.j ≡ a.n = omega arith in
-    l.invariant.2 ∙ ap (λ n. sets a.moves.now 0 (numbers_from 4 a.f.now a.at n)) e
+    l.invariant.1 ∙ ap (λ n. sets a.moves.now 0 (numbers_from 4 a.f.now a.at n)) e
     ∙ sets_start a.moves.now (numbers_from 4 a.f.now a.at a.n) a.n (numbers_length 4 a.f.now a.at a.n) (omega arith)

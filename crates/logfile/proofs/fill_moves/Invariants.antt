@@ -1,13 +1,9 @@
 -- `logfile::fill_moves` meets its contract. The loop's invariant: the moves before place j are put.
 use mathlib.Core.Path.{◌≡◌}
-use Prim.Native.Nat.{◌-◌, ◌≤◌}
 use lib.ListN.{length}
 use lib.Seq.{sets}
 use Rattle.logfile.specs.Files.{numbers_from}
 use Rattle.logfile.proofs.fill_moves.Given as goal
 
 abbrev pub invariant-loop-j : goal.invariant-loop-j
-invariant-loop-j l = (l.j ≤ l.n) × (length l.moves ≡ length l.initial.moves) × (l.moves ≡ sets l.initial.moves 0 (numbers_from 4 l.f l.at l.j))
-
-abbrev pub decreases-loop-j : goal.decreases-loop-j
-decreases-loop-j l = l.n - l.j
+invariant-loop-j l = (length l.moves ≡ length l.initial.moves) × (l.moves ≡ sets l.initial.moves 0 (numbers_from 4 l.f l.at l.j))

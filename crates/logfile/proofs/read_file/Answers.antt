@@ -1,5 +1,6 @@
 -- `logfile::read_file` meets its contract.
-use mathlib.Core.Path.{sym, ◌∙◌, ap}
+use Rattle.std.specs.Prelude.{Err}
+use mathlib.Core.Path.{◌≡◌, sym, ◌∙◌, ap}
 use mathlib.Core.List.{[], ◌∷◌}
 use native.Mathlib.Omega.{arith}
 use lib.ListN.{length}
@@ -11,18 +12,19 @@ use Rattle.logfile.proofs.Answers.{buffers_long, masks_short, moves_short, read_
 use Rattle.logfile.proofs.Sections.{numbers_put, open_file, shape_known}
 use Rattle.logfile.proofs.read_file.Goals as goal
 
-pub returns-in-Err : goal.returns-in-Err
-returns-in-Err c =
+pub returns-in_err-check_file : goal.returns-in_err-check_file
+returns-in_err-check_file c =
     let a = c.args in
     let f = a.file.now in
-    let e = sym c.check_file-check.ensures ∙ ap refused_by c.in-Err.is in
-    read_refused f a.masks.now a.moves.now (lowest_first (file_refusals f) ((short_buffers f (length a.masks.now) (length a.moves.now), ShortBuffer) ∷ []) e)
+    let e = sym c.check_file.ensures ∙ ap refused_by c.in_err-check_file.was in
+    let gone : c.from_residual.result ≡ Err c.in_err-check_file.field-0.0 = grind arith in
+    rw gone (read_refused f a.masks.now a.moves.now (lowest_first (file_refusals f) ((short_buffers f (length a.masks.now) (length a.moves.now), ShortBuffer) ∷ []) e))
 
 pub returns-then-masks-k : goal.returns-then-masks-k
 returns-then-masks-k c =
     let a = c.args in
     let f = a.file.now in
-    let good = sym c.check_file-check.ensures ∙ ap refused_by c.in_default.is in
+    let good = sym c.check_file.ensures ∙ ap refused_by c.in_ok-check_file.was in
     read_refused f a.masks.now a.moves.now
     (masks_short f (length a.masks.now) (length a.moves.now) good (omega (arith, shape_known f c.shape_of-shape.ensures (open_file f good).0, c.if-masks-k.true)))
 
@@ -30,7 +32,7 @@ pub returns-then-moves-count : goal.returns-then-moves-count
 returns-then-moves-count c =
     let a = c.args in
     let f = a.file.now in
-    let good = sym c.check_file-check.ensures ∙ ap refused_by c.in_default.is in
+    let good = sym c.check_file.ensures ∙ ap refused_by c.in_ok-check_file.was in
     read_refused f a.masks.now a.moves.now
     (moves_short f (length a.masks.now) (length a.moves.now) good (omega (arith, shape_known f c.shape_of-shape.ensures (open_file f good).0, c.if-moves-count.true)))
 
@@ -38,7 +40,7 @@ pub returns : goal.returns
 returns c =
     let a = c.args in
     let f = a.file.now in
-    let good = sym c.check_file-check.ensures ∙ ap refused_by c.in_default.is in
+    let good = sym c.check_file.ensures ∙ ap refused_by c.in_ok-check_file.was in
     let n = shape_known f c.shape_of-shape.ensures (open_file f good).0 in
     read_told f a.masks.now a.moves.now
     (buffers_long f (length a.masks.now) (length a.moves.now) good (omega (arith, n, c.if-masks-k.false)) (omega (arith, n, c.if-moves-count.false)))
