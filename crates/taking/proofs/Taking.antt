@@ -1,7 +1,6 @@
 -- What an event tells and leaves, from what the table alone gives.
 use mathlib.Core.Path.{◌≡◌, refl, sym, ◌∙◌, ap, ap₂, subst}
 use mathlib.Core.Bool.{Bool, true, false}
-use mathlib.Core.Logic.{⊎_elim}
 use mathlib.Core.List.Memᴰ
 use mathlib.Core.List.{List, [], ◌∷◌, ◌++◌}
 use mathlib.Core.Option.{none, some, none-ne-some, some-injective}
@@ -16,12 +15,9 @@ use Rattle.profile.specs.Refusals.{refused_by, full_table, longest, lowest, prof
 use Rattle.std.specs.Prelude.{Result, Ok, Err}
 use Rattle.profile.specs.declared.Refusal.{Refusal}
 use Rattle.profile.specs.declared.Refusal.TheVariants.{BadLetter, FullTable, LongLog}
-use Rattle.profile.proofs.Lists.{lt_or_le}
 use Rattle.theory.proofs.Refusals.{GoodProfile, lowest_append, lowest_first, lowest_none, profile_at}
 use Rattle.running.specs.Running.{p_of, Runs, StepPromise, event_refusals, event_table, record_refusals}
 use Rattle.running.specs.declared.Running.{Running}
-use Rattle.running.specs.declared.Step.{Step}
-use Rattle.running.specs.declared.Step.TheVariants.{Refused as NotTaken, Taken}
 use Rattle.running.proofs.Verdicts.{some_record}
 use Rattle.taking.specs.Taking.{Took, new_records}
 use Rattle.newcomers.specs.Newcomers.{Brought}
@@ -31,9 +27,6 @@ abbrev pub own_refusals : Bool → Bool → Bool → ℕ → List (Bool × Refus
 own_refusals b c d n = (b, LongLog) ∷ (c, BadLetter n) ∷ (d, FullTable) ∷ []
 
 module _ (p : Profile) (b c d : Bool) (n : ℕ) where
-  pub own_first : {x : Refusal} → lowest (profile_refusals p) ≡ some x → some x ≡ lowest (profile_refusals p ++ own_refusals b c d n)
-  own_first e = sym (lowest_first (profile_refusals p) (own_refusals b c d n) e)
-
   own_next : lowest (profile_refusals p) ≡ none → lowest (own_refusals b c d n) ≡ lowest (profile_refusals p ++ own_refusals b c d n)
   own_next e = sym (lowest_append (profile_refusals p) (own_refusals b c d n) e)
 
@@ -77,16 +70,16 @@ module _ (p : Profile) (k x a n m : ℕ) (s : Result Unit Refusal) (told : refus
 
 module _ (p : Profile) (a : ℕ) (r : Running) (t : List ℕ) where
   -- refused by the record alone
-  pub step_early : {r' : Running} {s : Step} (x : Refusal) → some x ≡ lowest (record_refusals p r a (length t)) → r' ≡ r → s ≡ NotTaken x → StepPromise p a r r' t t s
+  pub step_early : {r' : Running} {s : Result Unit Refusal} (x : Refusal) → some x ≡ lowest (record_refusals p r a (length t)) → r' ≡ r → s ≡ Err x → StepPromise p a r r' t t s
   step_early {r'} {s} x e q z = subst (StepPromise p a r r' t t) (sym z) record {
-    early = λ y o. ap NotTaken (some-injective _ _ (e ∙ o));
+    early = λ y o. ap Err (some-injective _ _ (e ∙ o));
     unchanged = (q, refl);
     refused = λ w h. sym (lowest_first (record_refusals p r a (length t)) ((full_table (p_of p (w ++ (a ∷ []))) (length t), FullTable) ∷ []) (sym e));
     left = λ w h. tt;
   }
 
   -- refused since the new records do not fit
-  pub took_refused : {r' : Running} {s : Step} (room : ℕ) → r' ≡ r → s ≡ NotTaken FullTable → (0 < r.prefixes → room < r.prefixes + new_records p a r t) → Took p a r r' room t t s
+  pub took_refused : {r' : Running} {s : Result Unit Refusal} (room : ℕ) → r' ≡ r → s ≡ Err FullTable → (0 < r.prefixes → room < r.prefixes + new_records p a r t) → Took p a r r' room t t s
   took_refused {r'} room q z h = subst (Took p a r r' room t t) (sym z) (refl, q, refl, h)
 
   module _ (room : ℕ) (place : room ≡ capacity layout (length t)) (e : none ≡ lowest (record_refusals p r a (length t))) where
@@ -96,15 +89,15 @@ module _ (p : Profile) (a : ℕ) (r : Running) (t : List ℕ) where
     -- the records that are counted and put are those of the event
     module _ (counted : (w : List ℕ) → Runs p w r t → r.prefixes + new_records p a r t ≡ p_of p (w ++ (a ∷ [])))
         (written : (w : List ℕ) (t' : List ℕ) → Runs p w r t → 10 * p_of p (w ++ (a ∷ [])) ≤ length t → Brought p r.prefixes a t t' → t' ≡ event_table p w a t) where
-      pub step_took : (r' : Running) (t' : List ℕ) (s : Step) → Took p a r r' room t t' s → StepPromise p a r r' t t' s
-      step_took r' t' (NotTaken x) h = record {
+      pub step_took : (r' : Running) (t' : List ℕ) (s : Result Unit Refusal) → Took p a r r' room t t' s → StepPromise p a r r' t t' s
+      step_took r' t' (Err x) h = record {
         early = λ y q. absurd (none-ne-some _ (e ∙ q));
         unchanged = (h.1, h.2);
         refused = λ w g.
             ap some h.0 ∙ sym (last_refusal w true (lt-ltb (capacity layout (length t)) (p_of p (w ++ (a ∷ []))) (omega (arith, h.3 (some_record p w g), counted w g, place))));
         left = λ w g. tt;
       }
-      step_took r' t' Taken h = record {
+      step_took r' t' (Ok u) h = record {
         early = λ y q. absurd (none-ne-some _ (e ∙ q));
         unchanged = tt;
         refused = λ w g. sym (last_refusal w false (le-ltb (capacity layout (length t)) (p_of p (w ++ (a ∷ []))) (omega (arith, h.1, counted w g, place))));
@@ -113,6 +106,3 @@ module _ (p : Profile) (a : ℕ) (r : Running) (t : List ℕ) where
           written w t' g (omega (arith, h.1, counted w g, place)) h.3,
         );
       }
-
-pub above_zero : {n : ℕ} → (n ≡ 0 → ⊥) → 0 < n
-above_zero {n} h = ⊎_elim (λ lt. lt) (λ le. absurd (h (omega (arith, le)))) (lt_or_le 0 n)

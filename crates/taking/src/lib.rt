@@ -1,22 +1,20 @@
 // Events of the running judge: Paper 7, "its record belongs to the caller and each event updates it there".
 #![tactic(auto)]
 
-ghost use Rattle.std.specs.Prelude.{◌≡◌, [], ◌∷◌, ◌++◌, ◌*◌, ◌≤◌, ◌<◌, leb, ltb, length};
+ghost use Rattle.std.specs.Prelude.{◌≡◌, Err, [], ◌∷◌, ◌++◌, ◌*◌, ◌≤◌, ◌<◌, leb, ltb, length};
 ghost use Rattle.profile.specs.Limits.{most_letters, most_states};
 ghost use Rattle.profile.specs.Automata.{profile_of};
 ghost use Rattle.profile.specs.Tables.{layout, record_length};
 ghost use Rattle.profile.specs.Refusals.{refused_by, longest, lowest, profile_refusals};
 ghost use Rattle.profile.specs.declared.Refusal.TheVariants.{BadLetter, FullTable, LongLog};
 ghost use Rattle.running.specs.Running.{StepPromise};
-ghost use Rattle.running.specs.declared.Step.TheVariants.{Refused as NotTaken};
 ghost use Rattle.taking.specs.Taking.{Took};
 
 use profile::limits::LONGEST;
 use profile::{Refusal, Shape};
-use running::{Running, Step, Stepped};
+use running::{Running, Stepped};
 
 // The lowest refusal of an event by its letter and the record alone: 2, 4, 6, 7, 8, or 10 where P records do not fit.
-#[tactic(auto, using(crate::proofs::Taking::tells_eight, crate::proofs::Taking::tells_none, crate::proofs::Taking::tells_seven, crate::proofs::Taking::tells_ten))]
 fn check_event(
     shape: Shape,
     masks: &[u16],
@@ -30,10 +28,7 @@ fn check_event(
     let taken = held.taken;
     let prefixes = held.prefixes;
     let k = shape.k;
-    let profile = checks::check_profile(shape, masks, moves);
-    if let Err(r) = profile {
-        return Err(r);
-    }
+    checks::check_profile(shape, masks, moves)?;
     if LONGEST <= taken {
         return Err(Refusal::LongLog);
     }
@@ -49,11 +44,11 @@ fn check_event(
 // An event refused: the record stays.
 fn refuse(held: Running, refusal: Refusal) -> Stepped
     ensures held_value { result.held ≡ held }
-    ensures answer_value { result.answer ≡ NotTaken refusal }
+    ensures answer_value { result.answer ≡ Err refusal }
 {
     Stepped {
         held,
-        answer: Step::Refused(refusal),
+        answer: Err(refusal),
     }
 }
 
@@ -86,7 +81,7 @@ fn take(
             prefixes: n + new,
             taken: taken + 1,
         },
-        answer: Step::Taken,
+        answer: Ok(()),
     }
 }
 
@@ -102,8 +97,7 @@ pub fn step(
     ensures { StepPromise (profile_of shape masks.now moves.now) letter held result.held table.old table.new result.answer }
 {
     let room = records::capacity(table);
-    let check = check_event(shape, masks, moves, letter, held, room);
-    if let Err(r) = check {
+    if let Err(r) = check_event(shape, masks, moves, letter, held, room) {
         return refuse(held, r);
     }
     take(held, shape, masks, moves, letter as usize, table, room)
