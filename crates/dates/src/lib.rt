@@ -1,9 +1,9 @@
 // Terms: document 02, Paper 8. Terms are the first and the last day of each, one term after the other.
 #![tactic(auto)]
 
-ghost use Rattle.std.specs.Prelude.{◌≡◌, ◌++◌, map, ◌<◌, length, drop, get_or};
+ghost use Rattle.std.specs.Prelude.{◌≡◌, not, ◌++◌, map, ◌<◌, length, drop, get_or};
 ghost use Rattle.profile.specs.Refusals.{refused_by, lowest};
-ghost use Rattle.terms.specs.Terms.{bad_term, events as events_of, in_term?, no_term, rise?, rises?, term_count, term_of as term_by, term_refusals};
+ghost use Rattle.terms.specs.Terms.{bad_term, events as events_of, has_term?, in_term?, no_term, rise?, rises?, term_count, term_of as term_by, term_refusals};
 ghost use Rattle.terms.specs.Coded.{Coding, code_of};
 
 use profile::Refusal;
@@ -13,7 +13,7 @@ use terms::{MOST_TERMS, TERM_BOUND};
 fn number_at(numbers: &[u32], i: usize) -> u32
     ensures { result ≡ get_or numbers.now i 0 }
 {
-    if i < numbers.len() { numbers[i] } else { 0 }
+    numbers.get(i).copied().unwrap_or(0)
 }
 
 // The first day of term i is no later than its last, which is before the first of the next term, if there is one.
@@ -35,15 +35,7 @@ fn rises(terms: &[u32], i: usize) -> bool
 fn rise(terms: &[u32]) -> bool
     ensures { result ≡ rise? terms.now }
 {
-    let n = terms.len() / 2;
-    let mut i = 0;
-    while i < n {
-        if !rises(terms, i) {
-            return false;
-        }
-        i += 1;
-    }
-    true
+    (0..terms.len() / 2).all(|i| rises(terms, i))
 }
 
 // The terms break the rules.
@@ -82,29 +74,26 @@ fn term_of(terms: &[u32], d: u32) -> usize
     ensures { result ≡ term_by terms.now d }
 {
     let n = terms.len() / 2;
-    let mut i = 0;
-    while i < n {
+    for i in 0..n {
         if in_term(terms, d, i) {
             return i;
         }
-        i += 1;
     }
     n
+}
+
+// The day is in no term.
+fn is_outside(terms: &[u32], d: u32) -> bool
+    ensures { result ≡ not (has_term? terms.now d) }
+{
+    terms.len() / 2 <= term_of(terms, d)
 }
 
 // One of the days is in no term.
 fn has_day_outside(days: &[u32], terms: &[u32]) -> bool
     ensures { result ≡ no_term days.now terms.now }
 {
-    let n = terms.len() / 2;
-    let mut i = 0;
-    while i < days.len() {
-        if n <= term_of(terms, days[i]) {
-            return true;
-        }
-        i += 1;
-    }
-    false
+    days.iter().any(|day| is_outside(terms, *day))
 }
 
 // The days and terms of a log: refused by 14, 15 and 16.
@@ -131,10 +120,8 @@ pub fn code_events(log: &[u8], days: &[u32], terms: &[u32], codes: &mut [u8])
     requires { Coding log.now days.now terms.now (length codes.old) }
     ensures { codes.new ≡ map (code_of terms.now) (events_of log.now days.now) ++ drop (length log.now) codes.old }
 {
-    let mut i = 0;
-    while i < log.len() {
+    for (i, letter) in log.iter().enumerate() {
         let t = term_of(terms, days[i]) as u8;
-        codes[i] = TERM_BOUND * log[i] + t;
-        i += 1;
+        codes[i] = TERM_BOUND * *letter + t;
     }
 }

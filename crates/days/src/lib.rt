@@ -58,12 +58,5 @@ fn is_day(n: u32) -> bool
 pub fn has_bad_day(days: &[u32]) -> bool
     ensures { result ≡ any (λ d. not (day? d)) days.now }
 {
-    let mut i = 0;
-    while i < days.len() {
-        if !is_day(days[i]) {
-            return true;
-        }
-        i += 1;
-    }
-    false
+    days.iter().any(|day| !is_day(*day))
 }

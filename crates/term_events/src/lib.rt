@@ -32,12 +32,10 @@ fn lets_in(next: &[Place], turns: &[Place], x: usize, y: usize) -> bool
 pub fn in_term(k: usize, next: &[Place], turns: &[Place], x: usize) -> bool
     ensures { result ≡ in_term? k next.now turns.now x }
 {
-    let mut y = 0;
-    while y < k {
+    for y in 0..k {
         if !lets_in(next, turns, x, y) {
             return false;
         }
-        y += 1;
     }
     true
 }

@@ -56,16 +56,11 @@ pub fn addable_in_terms(
     letters::next_places(c, k, starts, turns, &mut after);
     let mut set = 0u32;
     let mut number = 0u32;
-    let mut x = 0;
-    while x < k {
+    for x in 0..k {
         if comes_in_term(masks, keepers, k, n, &next, &after, x) {
-            set = set | (1u32 << x);
+            set |= 1u32 << x;
             number += 1;
         }
-        x += 1;
     }
-    Letters {
-        set: set,
-        number: number,
-    }
+    Letters { set, number }
 }

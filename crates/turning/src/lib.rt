@@ -30,13 +30,12 @@ fn put_turns_of(events: &[u8], x: usize, turns: &mut [Place], end: usize) -> usi
     requires { (length events.now ≤ longest) × T (all (λ e. ltb (code_term e) past_terms) events.now) × (length (turns_of events.now x) ≤ end) × (end ≤ length turns.old) }
     ensures { (result + length (turns_of events.now x) ≡ end) × (turns.new ≡ sets turns.old result (turns_of events.now x)) }
 {
-    let mut i = events.len();
-    let mut next = i as Place;
+    let n = events.len();
+    let mut next = n as Place;
     let mut turn = PLACE_BOUND * PAST_TERMS + next;
     let mut to = end - 1;
     turns[to] = turn;
-    while 0 < i {
-        i -= 1;
+    for i in (0..n).rev() {
         let e = events[i];
         if (e / TERM_BOUND) as usize == x {
             turn = turn_before((e % TERM_BOUND) as Place, turn, next);
@@ -54,9 +53,7 @@ pub fn put_turns(events: &[u8], k: usize, turns: &mut [Place])
     ensures { turns.new ≡ turn_table k events.now ++ drop (length (turn_table k events.now)) turns.old }
 {
     let mut to = events.len() + k;
-    let mut x = k;
-    while 0 < x {
-        x -= 1;
+    for x in (0..k).rev() {
         to = put_turns_of(events, x, turns, to);
     }
 }

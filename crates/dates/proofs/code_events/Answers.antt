@@ -10,7 +10,7 @@ use Rattle.terms.proofs.Logs.{term_small}
 use Rattle.dates.proofs.code_events.Goals as goal
 
 pub loop-i-init : goal.loop-i-init
-loop-i-init c = ((omega arith, refl), refl)
+loop-i-init c = (refl, refl)
 
 pub overflow_cast-t : goal.overflow_cast-t
 overflow_cast-t c =
@@ -31,7 +31,7 @@ overflow_add-codes c =
     omega (arith, letter_small s.args.log.now i s.requires.letters (omega arith), c.term_of-t.ensures, term_small s.args.terms.now (get_or s.args.days.now i 0) s.requires.few)
 
 pub bounds-codes-i : goal.bounds-codes-i
-bounds-codes-i c = let s = c in omega (arith, c.loop-i.invariant.0.1, s.requires.room)
+bounds-codes-i c = let s = c in omega (arith, c.loop-i.invariant.0, s.requires.room)
 
 pub loop-i-preserved : goal.loop-i-preserved
 loop-i-preserved c =
@@ -39,7 +39,7 @@ loop-i-preserved c =
     let a = s.args in
     let l = c.loop-i in
     let i = l.i in (
-      (omega arith, length-set l.codes i (code (get_or a.log.now i 0) c.term_of-t.result) ∙ l.invariant.0.1),
+      length-set l.codes i (code (get_or a.log.now i 0) c.term_of-t.result) ∙ l.invariant.0,
       ap₂ (λ cs v. set cs i (code (get_or a.log.now i 0) v)) l.invariant.1 c.term_of-t.ensures
           ∙ front_put (code_at a.log.now a.days.now a.terms.now) a.codes.now i (omega (arith, s.requires.room)),
     )

@@ -1,7 +1,6 @@
 -- `dates::code_events` meets its contract. The loop's invariant: the codes before place i are put.
 use mathlib.Core.Path.{◌≡◌}
 use mathlib.Core.List.{◌++◌, map}
-use Prim.Native.Nat.{◌-◌, ◌≤◌}
 use lib.ListN.{length, drop}
 use Rattle.profile.specs.Lists.{below}
 use Rattle.dates.proofs.Codes.{code_at}
@@ -9,7 +8,4 @@ use Rattle.dates.proofs.code_events.Given as goal
 
 abbrev pub invariant-loop-i : goal.invariant-loop-i
 invariant-loop-i l =
-    ((l.i ≤ length l.log) × (length l.codes ≡ length l.initial.codes)) × (l.codes ≡ map (code_at l.log l.days l.terms) (below l.i) ++ drop l.i l.initial.codes)
-
-abbrev pub decreases-loop-i : goal.decreases-loop-i
-decreases-loop-i l = length l.log - l.i
+    (length l.codes ≡ length l.initial.codes) × (l.codes ≡ map (code_at l.log l.days l.terms) (below l.i) ++ drop l.i l.initial.codes)

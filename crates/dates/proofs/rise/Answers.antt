@@ -1,21 +1,14 @@
-use borrow.Author.Count.{below_none}
-use mathlib.Core.Path.{refl, sym, ◌∙◌}
-use native.Mathlib.Omega.{arith}
+-- `dates::rise` meets its contract: the chain stops at the first term that does not rise.
+use Rattle.std.proofs.Common.{arith, rules}
+use mathlib.Core.Path.{◌≡◌}
+use mathlib.Core.Bool.{true, false}
+use Rattle.std.proofs.lemmas.Iterator.{YieldsList-from_range, cases_from_all}
 use Rattle.terms.specs.Terms.{rises?, term_count}
-use Rattle.days.proofs.Loops.{all_fails, all_pass}
+use Rattle.days.proofs.Loops.{all_answer}
 use Rattle.dates.proofs.rise.Goals as goal
-
-pub loop-i-init : goal.loop-i-init
-loop-i-init c = ((omega arith, refl), below_none _)
 
 pub returns : goal.returns
 returns c =
-    let l = c.loop-i in
-    let a = c.args in
-    all_pass (rises? a.terms.now) (term_count a.terms.now) (λ j h. l.invariant.1 j (omega (arith, h)))
-
-pub returns-then-not-rises : goal.returns-then-not-rises
-returns-then-not-rises c =
-    let l = c.loop-i in
-    let a = c.args in
-    all_fails (rises? a.terms.now) (term_count a.terms.now) l.i (omega arith) (sym c.rises.ensures ∙ c.if-not-rises.true)
+    let terms = c.args.terms.now in
+    all_answer (rises? terms) (term_count terms) c.all.result
+    (cases_from_all _ _ _ (λ i. rises? terms i ≡ true) (λ i. rises? terms i ≡ false) c.all.ensures.ran (YieldsList-from_range 0 (term_count terms) (term_count terms) (search rules) (omega arith)) (λ x q k. search rules) (λ x q k. search rules))

@@ -6,7 +6,7 @@ use Rattle.days.proofs.Loops.{first_found, first_none}
 use Rattle.dates.proofs.term_of.Goals as goal
 
 pub loop-i-init : goal.loop-i-init
-loop-i-init c = ((omega arith, refl), below_none _)
+loop-i-init c = (refl, below_none _)
 
 pub returns-then-in_term : goal.returns-then-in_term
 returns-then-in_term c =
@@ -15,7 +15,7 @@ returns-then-in_term c =
     first_found (in_term? a.terms.now a.d) (term_count a.terms.now) l.i (omega arith) l.invariant.1 (sym c.in_term.ensures ∙ c.if-in_term.true)
 
 pub loop-i-preserved : goal.loop-i-preserved
-loop-i-preserved c = ((omega arith, refl), below_more _ _ c.loop-i.invariant.1 (sym c.in_term.ensures ∙ c.if-in_term.false))
+loop-i-preserved c = (refl, below_more _ _ c.loop-i.invariant.1 (sym c.in_term.ensures ∙ c.if-in_term.false))
 
 pub returns : goal.returns
 returns c =

@@ -9,16 +9,13 @@ use Rattle.term_events.specs.InTerms.{lets_in?}
 use Rattle.term_events.proofs.InTerms.{all_more, all_stopped}
 use Rattle.term_events.proofs.in_term.Goals as goal
 
-pub loop-y-init : goal.loop-y-init
-loop-y-init c = (omega arith, tt)
-
 pub returns : goal.returns
 returns c =
     let a = c.args in
     let l = c.loop-y in
     let p = lets_in? (at a.next.now) (at a.turns.now) a.x in
     let e : l.y ≡ a.k = omega arith in
-    sym (is_true (all p (below a.k)) (subst (λ m. T (all p (below m))) e l.invariant.1))
+    sym (is_true (all p (below a.k)) (subst (λ m. T (all p (below m))) e l.invariant))
 
 pub returns-then-not-lets_in : goal.returns-then-not-lets_in
 returns-then-not-lets_in c =
@@ -32,4 +29,4 @@ loop-y-preserved c =
     let a = c.args in
     let l = c.loop-y in
     let p = lets_in? (at a.next.now) (at a.turns.now) a.x in
-    (omega arith, all_more p l.y l.invariant.1 (subst T (sym c.if-not-lets_in.false ∙ c.lets_in.ensures) tt))
+    all_more p l.y l.invariant (subst T (sym c.if-not-lets_in.false ∙ c.lets_in.ensures) tt)

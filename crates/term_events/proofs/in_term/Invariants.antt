@@ -1,5 +1,4 @@
--- `events::in_term` meets its contract. The loop's invariant: the letters below y let x by.
-use Prim.Native.Nat.{◌-◌, ◌≤◌}
+-- `term_events::in_term` meets its contract. The loop's invariant: the letters below y let x by.
 use lib.Dec.{T}
 use Rattle.profile.specs.Lists.{all, below}
 use Rattle.profile.specs.Prefixes.{at}
@@ -7,7 +6,4 @@ use Rattle.term_events.specs.InTerms.{lets_in?}
 use Rattle.term_events.proofs.in_term.Given as goal
 
 abbrev pub invariant-loop-y : goal.invariant-loop-y
-invariant-loop-y l = (l.y ≤ l.k) × T (all (lets_in? (at l.next) (at l.turns) l.x) (below l.y))
-
-abbrev pub decreases-loop-y : goal.decreases-loop-y
-decreases-loop-y l = l.k - l.y
+invariant-loop-y l = T (all (lets_in? (at l.next) (at l.turns) l.x) (below l.y))

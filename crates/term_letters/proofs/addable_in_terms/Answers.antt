@@ -23,7 +23,7 @@ use Rattle.term_letters.proofs.addable_in_terms.Goals as goal
 use Rattle.term_letters.proofs.addable_in_terms.Goals.{else-comes_in_term, then-comes_in_term}
 
 pub loop-x-init : goal.loop-x-init
-loop-x-init c = (omega arith, omega arith, refl, refl)
+loop-x-init c = (omega arith, refl, refl)
 
 pub loop-x-preserved : goal.loop-x-preserved
 loop-x-preserved c =
@@ -35,13 +35,12 @@ loop-x-preserved c =
     let done = filter p (below l.x) in
     (elim c.if-comes_in_term.branch [
       | then-comes_in_term v ↦ let f = below_yes p l.x (subst T (sym v.if-comes_in_term.true ∙ e) tt) in (
-        omega arith,
         omega (arith, v.number-is),
-        v.set-is ∙ ap₂ bit_or l.invariant.2 bit-x ∙ sym (ap (union (λ y. 2 ^ y)) f ∙ union_last (λ y. 2 ^ y) done l.x),
-        v.number-is ∙ omega (arith, l.invariant.3, ap length f, length-append done (l.x ∷ [])),
+        v.set-is ∙ ap₂ bit_or l.invariant.1 bit-x ∙ sym (ap (union (λ y. 2 ^ y)) f ∙ union_last (λ y. 2 ^ y) done l.x),
+        v.number-is ∙ omega (arith, l.invariant.2, ap length f, length-append done (l.x ∷ [])),
       )
       | else-comes_in_term v ↦ let f = below_no p l.x (subst (λ b. T (not b)) (sym v.if-comes_in_term.false ∙ e) tt) in
-          (omega arith, omega (arith, v.number-is), v.set-is ∙ l.invariant.2 ∙ sym (ap (union (λ y. 2 ^ y)) f), v.number-is ∙ l.invariant.3 ∙ sym (ap length f))
+          (omega (arith, v.number-is), v.set-is ∙ l.invariant.1 ∙ sym (ap (union (λ y. 2 ^ y)) f), v.number-is ∙ l.invariant.2 ∙ sym (ap length f))
     ])
 
 pub returns : goal.returns
@@ -61,4 +60,4 @@ returns c =
     ap (λ x. filter (passes may a.k a.n nx.new.next af.new.next) (below x)) e
     ∙ ap₂ (λ u v. filter (passes may a.k a.n u v) (below a.k)) en ea
     ∙ terms_first a.masks.now a.k a.n a.starts.now a.places.now a.turns.now (words a.c) z z in
-    (l.invariant.2 ∙ ap (union (λ y. 2 ^ y)) f, l.invariant.3 ∙ ap length f)
+    (l.invariant.1 ∙ ap (union (λ y. 2 ^ y)) f, l.invariant.2 ∙ ap length f)

@@ -2,7 +2,7 @@
 use mathlib.Core.Path.{◌≡◌}
 use mathlib.Core.Bool.{Bool, ◌&&◌}
 use mathlib.Core.List.{List}
-use Prim.Native.Nat.{ℕ, ◌-◌, ◌^◌, ◌≤◌}
+use Prim.Native.Nat.{ℕ, ◌^◌, ◌≤◌}
 use lib.ListN.{length}
 use Rattle.profile.specs.Automata.{union}
 use Rattle.profile.specs.Lists.{below, filter}
@@ -17,8 +17,5 @@ passes may k n next after x = comes_next? may k n next x && in_term? k next afte
 
 abbrev pub invariant-loop-x : goal.invariant-loop-x
 invariant-loop-x l =
-    (l.x ≤ l.k) × (l.number ≤ l.x) × (l.set ≡ union (λ y. 2 ^ y) (filter (passes (independent l.masks) l.k l.n l.next l.after) (below l.x)))
+    (l.number ≤ l.x) × (l.set ≡ union (λ y. 2 ^ y) (filter (passes (independent l.masks) l.k l.n l.next l.after) (below l.x)))
     × (l.number ≡ length (filter (passes (independent l.masks) l.k l.n l.next l.after) (below l.x)))
-
-abbrev pub decreases-loop-x : goal.decreases-loop-x
-decreases-loop-x l = l.k - l.x

@@ -4,6 +4,3 @@ use Rattle.turning.proofs.put_turns.Given as goal
 
 abbrev pub invariant-loop-x : goal.invariant-loop-x
 invariant-loop-x l = AllPut l.events l.k l.initial.turns l.turns l.to l.x
-
-abbrev pub decreases-loop-x : goal.decreases-loop-x
-decreases-loop-x l = l.x

@@ -4,6 +4,3 @@ use Rattle.turning.proofs.put_turns_of.Given as goal
 
 abbrev pub invariant-loop-i : goal.invariant-loop-i
 invariant-loop-i l = Put l.events l.x l.end l.initial.turns l.turns l.i l.to l.turn l.next
-
-abbrev pub decreases-loop-i : goal.decreases-loop-i
-decreases-loop-i l = l.i
