@@ -1,5 +1,6 @@
 -- The judge's answer from the table's promise: which refusal is given, and what is told.
 use mathlib.Core.Path.{◌≡◌, refl, sym, ◌∙◌, ap}
+use Rattle.std.specs.Prelude.{Ok, Err}
 use mathlib.Core.Bool.{Bool, true, false, true≢false}
 use mathlib.Core.List.Memᴰ
 use mathlib.Core.List.{List, [], ◌∷◌, ◌++◌, append_assoc}
@@ -19,10 +20,10 @@ use Rattle.theory.proofs.Refusals.{Admitted, GoodEvents, GoodProfile, admitted_a
 use Rattle.theory.proofs.Calls.{order_by_length}
 use Rattle.table.specs.Table.{build_refusals}
 use Rattle.table.specs.Table as Built
-use Rattle.table.specs.declared.Built.TheVariants as built
+use Rattle.table.specs.declared.Filled.{Filled}
 use Rattle.earliest.specs.Earliest.{Table, found?, with_order}
 use Rattle.verdict.specs.Verdict.{Counted, Promise, PromiseBy}
-use Rattle.verdict.specs.declared.Judged.TheVariants.{NoOrder, Order, Refused}
+use Rattle.verdict.specs.declared.Judged.TheVariants.{NoOrder, Order}
 
 -- a condition that does not hold is passed over
 pub lowest_skip : {A : Type 0} (l r : List (Bool × A)) (x : A) → lowest (l ++ ((false, x) ∷ r)) ≡ lowest (l ++ r)
@@ -70,25 +71,25 @@ pub order_length : (p : Profile) (w : List ℕ) {v : List ℕ} → order_by (pla
 order_length p w e = order_by_length (plain p) w e
 
 -- the table is filled for the events w, and nothing refuses the call
-module _ (p : Rules) (w order table table' : List ℕ) (q : Option Refusal) (P n : ℕ) (unrefused : none ≡ q) (h : Built.promised p w table table' (built.Filled P n)) where
-  counted : Counted p w table table' P n
+module _ (p : Rules) (w order table table' : List ℕ) (q : Option Refusal) (f : Filled) (unrefused : none ≡ q) (h : Built.promised p w table table' (Ok f)) where
+  counted : Counted p w table table' f.prefixes f.looks
   counted = record { prefixes = h.0; looks = h.1; table = h.2 }
 
   -- there is no order
-  pub none_told : (order' : List ℕ) → found? (order_by p w) ≡ false → order' ≡ with_order (order_by p w) order → PromiseBy p w order order' table table' q (NoOrder P n)
-  none_told order' f e = go (order_by p w) refl f e
+  pub none_told : (order' : List ℕ) → found? (order_by p w) ≡ false → order' ≡ with_order (order_by p w) order → PromiseBy p w order order' table table' q (Ok (NoOrder f.prefixes f.looks))
+  none_told order' i e = go (order_by p w) refl i e
     where
-      go : (o : Option (List ℕ)) → order_by p w ≡ o → found? o ≡ false → order' ≡ with_order o order → PromiseBy p w order order' table table' q (NoOrder P n)
-      go none i f e = record { refused = unrefused; told = (i, e, counted) }
-      go (some v) i f e = absurd (true≢false f)
+      go : (o : Option (List ℕ)) → order_by p w ≡ o → found? o ≡ false → order' ≡ with_order o order → PromiseBy p w order order' table table' q (Ok (NoOrder f.prefixes f.looks))
+      go none i g e = record { refused = unrefused; told = (i, e, counted) }
+      go (some v) i g e = absurd (true≢false g)
 
   -- there is one
-  pub some_told : (order' : List ℕ) → found? (order_by p w) ≡ true → order' ≡ with_order (order_by p w) order → PromiseBy p w order order' table table' q (Order P n)
-  some_told order' f e = go (order_by p w) refl f e
+  pub some_told : (order' : List ℕ) → found? (order_by p w) ≡ true → order' ≡ with_order (order_by p w) order → PromiseBy p w order order' table table' q (Ok (Order f.prefixes f.looks))
+  some_told order' i e = go (order_by p w) refl i e
     where
-      go : (o : Option (List ℕ)) → order_by p w ≡ o → found? o ≡ true → order' ≡ with_order o order → PromiseBy p w order order' table table' q (Order P n)
-      go none i f e = absurd (true≢false (sym f))
-      go (some v) i f e = record { refused = unrefused; told = (v, i, e ∙ ap (λ k. v ++ drop k order) (order_by_length p w i), counted) }
+      go : (o : Option (List ℕ)) → order_by p w ≡ o → found? o ≡ true → order' ≡ with_order o order → PromiseBy p w order order' table table' q (Ok (Order f.prefixes f.looks))
+      go none i g e = absurd (true≢false (sym g))
+      go (some v) i g e = record { refused = unrefused; told = (v, i, e ∙ ap (λ k. v ++ drop k order) (order_by_length p w i), counted) }
 
   -- what the extraction asks of the table
   pub table_ready : GoodProfile p.profile → GoodEvents p w → prefixes_by p w ≤ capacity layout (length table) → length table' ≡ length table → Table p w table'
@@ -97,33 +98,33 @@ module _ (p : Rules) (w order table table' : List ℕ) (q : Option Refusal) (P n
 module _ (p : Profile) (w order table : List ℕ) where
   -- the order buffer is too short
   pub told_short : {r : Refusal} → length order < length w
-      → some r ≡ lowest (profile_refusals p ++ (log_refusals p.k w ++ ((true, ShortBuffer) ∷ []))) → Promise p w order order table table (Refused r)
+      → some r ≡ lowest (profile_refusals p ++ (log_refusals p.k w ++ ((true, ShortBuffer) ∷ []))) → Promise p w order order table table (Err r)
   told_short h e = record { refused = order_short p w (length order) (length table) h e; told = (refl, λ ne. refl, record { long = refl; rest = refl }) }
 
   module _ (fits : length w ≤ length order) (table' : List ℕ) where
     -- building is refused
-    pub told_refused : (r : Refusal) → Built.Promise p w table table' (built.Refused r) → Promise p w order order table table' (Refused r)
+    pub told_refused : (r : Refusal) → Built.Promise p w table table' (Err r) → Promise p w order order table table' (Err r)
     told_refused r h = record { refused = h.refused ∙ sym (order_fits p w (length order) (length table) fits); told = (refl, h.table.0, h.table.1) }
 
-    module _ (P n : ℕ) (h : Built.Promise p w table table' (built.Filled P n)) where
+    module _ (f : Filled) (h : Built.Promise p w table table' (Ok f)) where
       unrefused : none ≡ judge_refusal p w (length order) (length table)
       unrefused = h.refused ∙ sym (order_fits p w (length order) (length table) fits)
 
-      pub told_none : (order' : List ℕ) → found? (order_by (plain p) w) ≡ false → order' ≡ with_order (order_by (plain p) w) order → Promise p w order order' table table' (NoOrder P n)
-      told_none = none_told (plain p) w order table table' _ P n unrefused h.table
+      pub told_none : (order' : List ℕ) → found? (order_by (plain p) w) ≡ false → order' ≡ with_order (order_by (plain p) w) order → Promise p w order order' table table' (Ok (NoOrder f.prefixes f.looks))
+      told_none = none_told (plain p) w order table table' _ f unrefused h.table
 
-      pub told_some : (order' : List ℕ) → found? (order_by (plain p) w) ≡ true → order' ≡ with_order (order_by (plain p) w) order → Promise p w order order' table table' (Order P n)
-      told_some = some_told (plain p) w order table table' _ P n unrefused h.table
+      pub told_some : (order' : List ℕ) → found? (order_by (plain p) w) ≡ true → order' ≡ with_order (order_by (plain p) w) order → Promise p w order order' table table' (Ok (Order f.prefixes f.looks))
+      told_some = some_told (plain p) w order table table' _ f unrefused h.table
 
       pub ready : length table' ≡ length table → Table (plain p) w table'
       ready l =
-          let f = (lowest_none (build_refusals p w (length table))).0 (sym h.refused) in
+          let n = (lowest_none (build_refusals p w (length table))).0 (sym h.refused) in
           let t = tenth p w (length order) (length table) in
-          let good = profile_at p ((lowest_none (profile_refusals p)).1 (λ c m. f c (Memᴰ.append_left (log_refusals p.k w ++ t) m))) in
-          let log = log_at p.k w ((lowest_none (log_refusals p.k w)).1 (λ c m. f c (Memᴰ.append_right (profile_refusals p) (Memᴰ.append_left t m)))) in
-          table_ready (plain p) w order table table' none P n refl h.table good (plain_events p w good log)
+          let good = profile_at p ((lowest_none (profile_refusals p)).1 (λ c m. n c (Memᴰ.append_left (log_refusals p.k w ++ t) m))) in
+          let log = log_at p.k w ((lowest_none (log_refusals p.k w)).1 (λ c m. n c (Memᴰ.append_right (profile_refusals p) (Memᴰ.append_left t m)))) in
+          table_ready (plain p) w order table table' none f refl h.table good (plain_events p w good log)
           (ltb-false (capacity layout (length table)) (prefixes_by (plain p) w)
-          (f _ (Memᴰ.append_right (profile_refusals p) (Memᴰ.append_right (log_refusals p.k w) (Memᴰ.head refl))))) l
+          (n _ (Memᴰ.append_right (profile_refusals p) (Memᴰ.append_right (log_refusals p.k w) (Memᴰ.head refl))))) l
 
 -- ---- the refusals up to 9
 

@@ -2,6 +2,7 @@
 -- with the rules p and the events w that was lent `order` and `table`, whatever these held, left `order'` and `table'`, and answered j; q is the refusal that
 -- applies, if any.
 use mathlib.Core.Path.{◌≡◌, refl, sym, ◌∙◌, ap, subst, subst₂}
+use Rattle.std.specs.Prelude.{Result, Ok, Err}
 use mathlib.Core.Logic.{◌⊎◌, inl, inr, ◌↔◌, ◌≢◌}
 use mathlib.Core.List.{List, [], ◌++◌, map}
 use mathlib.Core.Option.{Option, none, some, none-ne-some, some-ne-none, some-injective}
@@ -19,21 +20,22 @@ use Rattle.theory.proofs.Calls.{WitnessBy, no_order_by, order_by_earliest, order
 use Rattle.theory.proofs.Comparison.{by_total_same}
 use Rattle.theory.proofs.Refusals.{GoodEvents}
 use Rattle.theory.proofs.Tables.{Holds, holds_counts}
-use Rattle.verdict.specs.Verdict.{Counted, PromiseBy, judged, refused_by, verdict_number}
+use Rattle.profile.specs.Refusals.{refused_by}
+use Rattle.verdict.specs.Verdict.{Counted, PromiseBy, judged, verdict_number}
 use Rattle.verdict.specs.declared.Judged.{Judged}
-use Rattle.verdict.specs.declared.Judged.TheVariants.{NoOrder, Order, Refused}
+use Rattle.verdict.specs.declared.Judged.TheVariants.{NoOrder, Order}
 
 -- P, as it is told
-abbrev pub told_prefixes : Judged → Option ℕ
-told_prefixes (Refused r) = none
-told_prefixes (NoOrder P n) = some P
-told_prefixes (Order P n) = some P
+abbrev pub told_prefixes : Result Judged Refusal → Option ℕ
+told_prefixes (Err r) = none
+told_prefixes (Ok (NoOrder P n)) = some P
+told_prefixes (Ok (Order P n)) = some P
 
 -- looks, as it is told
-abbrev pub told_looks : Judged → Option ℕ
-told_looks (Refused r) = none
-told_looks (NoOrder P n) = some n
-told_looks (Order P n) = some n
+abbrev pub told_looks : Result Judged Refusal → Option ℕ
+told_looks (Err r) = none
+told_looks (Ok (NoOrder P n)) = some n
+told_looks (Ok (Order P n)) = some n
 
 -- the two verdicts are different
 zero_one : ◌≡◌ {A = Option ℕ} (some 0) (some 1) → ⊥
@@ -43,39 +45,39 @@ zero_one e = let q = some-injective 0 1 e in omega arith
 
 module _ (p : Rules) (w order order' table table' : List ℕ) (q : Option Refusal) where
   -- a call is refused by r exactly when r is the refusal that applies; else there is a verdict
-  pub refused_exactly_by : (j : Judged) → PromiseBy p w order order' table table' q j → (r : Refusal) → (j ≡ Refused r) ↔ (q ≡ some r)
-  refused_exactly_by (Refused s) h r = ((λ e. sym h.refused ∙ ap refused_by e), λ e. ap Refused (some-injective s r (h.refused ∙ e)))
-  refused_exactly_by (NoOrder P n) h r = ((λ e. sym h.refused ∙ ap refused_by e), λ e. absurd (none-ne-some r (h.refused ∙ e)))
-  refused_exactly_by (Order P n) h r = ((λ e. sym h.refused ∙ ap refused_by e), λ e. absurd (none-ne-some r (h.refused ∙ e)))
+  pub refused_exactly_by : (j : Result Judged Refusal) → PromiseBy p w order order' table table' q j → (r : Refusal) → (j ≡ Err r) ↔ (q ≡ some r)
+  refused_exactly_by (Err s) h r = ((λ e. sym h.refused ∙ ap refused_by e), λ e. ap Err (some-injective s r (h.refused ∙ e)))
+  refused_exactly_by (Ok (NoOrder P n)) h r = ((λ e. sym h.refused ∙ ap refused_by e), λ e. absurd (none-ne-some r (h.refused ∙ e)))
+  refused_exactly_by (Ok (Order P n)) h r = ((λ e. sym h.refused ∙ ap refused_by e), λ e. absurd (none-ne-some r (h.refused ∙ e)))
 
   -- the order's bytes, as many as the log has
-  pub order_bytes : (P n : ℕ) (h : PromiseBy p w order order' table table' q (Order P n)) → take (length w) order' ≡ h.told.0
+  pub order_bytes : (P n : ℕ) (h : PromiseBy p w order order' table table' q (Ok (Order P n))) → take (length w) order' ≡ h.told.0
   order_bytes P n h = ap (take (length w)) h.told.2 ∙ take_at h.told.0 (drop (length w) order) (length w) (order_by_length p w h.told.1)
 
   -- the call is not refused
   module _ (unrefused : q ≡ none) where
     -- there is a verdict, 0 or 1
-    pub verdict_cases_by : (j : Judged) → PromiseBy p w order order' table table' q j → (verdict_number j ≡ some 0) ⊎ (verdict_number j ≡ some 1)
-    verdict_cases_by (Refused r) h = absurd (some-ne-none r (h.refused ∙ unrefused))
-    verdict_cases_by (NoOrder P n) h = inl refl
-    verdict_cases_by (Order P n) h = inr refl
+    pub verdict_cases_by : (j : Result Judged Refusal) → PromiseBy p w order order' table table' q j → (verdict_number j ≡ some 0) ⊎ (verdict_number j ≡ some 1)
+    verdict_cases_by (Err r) h = absurd (some-ne-none r (h.refused ∙ unrefused))
+    verdict_cases_by (Ok (NoOrder P n)) h = inl refl
+    verdict_cases_by (Ok (Order P n)) h = inr refl
 
     -- "The log gets 'no order' exactly when no log reachable from it by exchanges is accepted."
-    pub no_order_exactly_by : (j : Judged) → PromiseBy p w order order' table table' q j → (verdict_number j ≡ some 0) ↔ ((v : List ℕ) → WitnessBy p w v → ⊥)
-    no_order_exactly_by (Refused r) h = absurd (some-ne-none r (h.refused ∙ unrefused))
-    no_order_exactly_by (NoOrder P n) h = ((λ e. (no_order_by p w).0 h.told.0), λ f. refl)
-    no_order_exactly_by (Order P n) h =
+    pub no_order_exactly_by : (j : Result Judged Refusal) → PromiseBy p w order order' table table' q j → (verdict_number j ≡ some 0) ↔ ((v : List ℕ) → WitnessBy p w v → ⊥)
+    no_order_exactly_by (Err r) h = absurd (some-ne-none r (h.refused ∙ unrefused))
+    no_order_exactly_by (Ok (NoOrder P n)) h = ((λ e. (no_order_by p w).0 h.told.0), λ f. refl)
+    no_order_exactly_by (Ok (Order P n)) h =
         let x = (order_by_earliest p w h.told.1).0 in ((λ e. absurd (zero_one (sym e))), λ f. absurd (f x.0 x.2))
 
     -- "Otherwise the order returned is reachable from it, accepted, and earlier in letter order than every other log that is both": it is the letters of such
     -- a log, and earlier than the letters of every other; the other bytes stay
-    pub order_exactly_by : (j : Judged) → PromiseBy p w order order' table table' q j → verdict_number j ≡ some 1
+    pub order_exactly_by : (j : Result Judged Refusal) → PromiseBy p w order order' table table' q j → verdict_number j ≡ some 1
         → ((x : List ℕ) × (map p.letter x ≡ take (length w) order') × WitnessBy p w x)
         × ((u : List ℕ) → WitnessBy p w u → map p.letter u ≢ take (length w) order' → Earlier (take (length w) order') (map p.letter u))
         × (drop (length w) order' ≡ drop (length w) order)
-    order_exactly_by (Refused r) h e = absurd (none-ne-some 1 e)
-    order_exactly_by (NoOrder P n) h e = absurd (zero_one e)
-    order_exactly_by (Order P n) h e =
+    order_exactly_by (Err r) h e = absurd (none-ne-some 1 e)
+    order_exactly_by (Ok (NoOrder P n)) h e = absurd (zero_one e)
+    order_exactly_by (Ok (Order P n)) h e =
         let front = sym (order_bytes P n h) in
         let x = order_by_earliest p w h.told.1 in (
           (x.0.0, x.0.1 ∙ front, x.0.2),
@@ -84,27 +86,27 @@ module _ (p : Rules) (w order order' table table' : List ℕ) (q : Option Refusa
         )
 
     -- what the table holds
-    held : GoodEvents p w → (j : Judged) → PromiseBy p w order order' table table' q j
+    held : GoodEvents p w → (j : Result Judged Refusal) → PromiseBy p w order order' table table' q j
         → Holds layout p.may p.letter (automaton p.profile) p.profile.k w table table'
-    held good (Refused r) h = absurd (some-ne-none r (h.refused ∙ unrefused))
-    held good (NoOrder P n) h = record { letters = good.letters; written = h.told.2.table }
-    held good (Order P n) h = record { letters = good.letters; written = h.told.3.table }
+    held good (Err r) h = absurd (some-ne-none r (h.refused ∙ unrefused))
+    held good (Ok (NoOrder P n)) h = record { letters = good.letters; written = h.told.2.table }
+    held good (Ok (Order P n)) h = record { letters = good.letters; written = h.told.3.table }
 
   -- P is the number of prefixes
-  count : (j : Judged) → PromiseBy p w order order' table table' q j → (P : ℕ) → told_prefixes j ≡ some P → P ≡ prefixes_by p w
-  count (Refused r) h P d = absurd (none-ne-some P d)
-  count (NoOrder Q n) h P d = sym (some-injective Q P d) ∙ h.told.2.prefixes
-  count (Order Q n) h P d = sym (some-injective Q P d) ∙ h.told.3.prefixes
+  count : (j : Result Judged Refusal) → PromiseBy p w order order' table table' q j → (P : ℕ) → told_prefixes j ≡ some P → P ≡ prefixes_by p w
+  count (Err r) h P d = absurd (none-ne-some P d)
+  count (Ok (NoOrder Q n)) h P d = sym (some-injective Q P d) ∙ h.told.2.prefixes
+  count (Ok (Order Q n)) h P d = sym (some-injective Q P d) ∙ h.told.3.prefixes
 
 -- ---- rules and events with the same answers
 
 -- where two rules and their events have the same order, P, looks, table and number of events, what is told of the one is told of the other
 pub told_alike : (p r : Rules) (v w : List ℕ) → length v ≡ length w → order_by p v ≡ order_by r w → prefixes_by p v ≡ prefixes_by r w → looks_by p v ≡ looks_by r w
-    → (order order' table table' : List ℕ) → table_by p v table ≡ table_by r w table → (j : Judged) → judged p v order order' table table' j → judged r w order order' table table' j
-told_alike p r v w l o P n order order' table table' t (Refused q) h = h
-told_alike p r v w l o P n order order' table table' t (NoOrder Q m) h =
+    → (order order' table table' : List ℕ) → table_by p v table ≡ table_by r w table → (j : Result Judged Refusal) → judged p v order order' table table' j → judged r w order order' table table' j
+told_alike p r v w l o P n order order' table table' t (Err q) h = h
+told_alike p r v w l o P n order order' table table' t (Ok (NoOrder Q m)) h =
     (sym o ∙ h.0, h.1, record { prefixes = h.2.prefixes ∙ P; looks = h.2.looks ∙ n; table = h.2.table ∙ t })
-told_alike p r v w l o P n order order' table table' t (Order Q m) h = (
+told_alike p r v w l o P n order order' table table' t (Ok (Order Q m)) h = (
   h.0,
   sym o ∙ h.1,
   h.2 ∙ ap (λ i. h.0 ++ drop i order) l,
@@ -124,17 +126,17 @@ module _ (p : Rules) (v w : List ℕ) (good : GoodEvents p v) (good' : GoodEvent
     counted_same : {P Q n m : ℕ} → Counted p v table₁ table₁' P n → Counted p w table₂ table₂' Q m → (P ≡ Q) × (n ≡ m)
     counted_same g h = (g.prefixes ∙ answers.1 ∙ sym h.prefixes, g.looks ∙ answers.2 ∙ sym h.looks)
 
-    pub judged_same_by : (i j : Judged) → PromiseBy p v order₁ order₁' table₁ table₁' q₁ i → PromiseBy p w order₂ order₂' table₂ table₂' q₂ j
+    pub judged_same_by : (i j : Result Judged Refusal) → PromiseBy p v order₁ order₁' table₁ table₁' q₁ i → PromiseBy p w order₂ order₂' table₂ table₂' q₂ j
         → (verdict_number i ≡ verdict_number j) × (told_prefixes i ≡ told_prefixes j) × (told_looks i ≡ told_looks j)
         × (verdict_number i ≡ some 1 → take (length v) order₁' ≡ take (length w) order₂')
-    judged_same_by (Refused r) j g h = absurd (some-ne-none r (g.refused ∙ first))
-    judged_same_by (NoOrder P n) (Refused r) g h = absurd (some-ne-none r (h.refused ∙ second))
-    judged_same_by (NoOrder P n) (NoOrder Q m) g h =
+    judged_same_by (Err r) j g h = absurd (some-ne-none r (g.refused ∙ first))
+    judged_same_by (Ok (NoOrder P n)) (Err r) g h = absurd (some-ne-none r (h.refused ∙ second))
+    judged_same_by (Ok (NoOrder P n)) (Ok (NoOrder Q m)) g h =
         let c = counted_same g.told.2 h.told.2 in (refl, ap some c.0, ap some c.1, λ e. absurd (zero_one e))
-    judged_same_by (NoOrder P n) (Order Q m) g h = absurd (none-ne-some _ (sym g.told.0 ∙ answers.0 ∙ h.told.1))
-    judged_same_by (Order P n) (Refused r) g h = absurd (some-ne-none r (h.refused ∙ second))
-    judged_same_by (Order P n) (NoOrder Q m) g h = absurd (none-ne-some _ (sym h.told.0 ∙ sym answers.0 ∙ g.told.1))
-    judged_same_by (Order P n) (Order Q m) g h = let c = counted_same g.told.3 h.told.3 in (refl, ap some c.0, ap some c.1, λ e. bytes)
+    judged_same_by (Ok (NoOrder P n)) (Ok (Order Q m)) g h = absurd (none-ne-some _ (sym g.told.0 ∙ answers.0 ∙ h.told.1))
+    judged_same_by (Ok (Order P n)) (Err r) g h = absurd (some-ne-none r (h.refused ∙ second))
+    judged_same_by (Ok (Order P n)) (Ok (NoOrder Q m)) g h = absurd (none-ne-some _ (sym h.told.0 ∙ sym answers.0 ∙ g.told.1))
+    judged_same_by (Ok (Order P n)) (Ok (Order Q m)) g h = let c = counted_same g.told.3 h.told.3 in (refl, ap some c.0, ap some c.1, λ e. bytes)
       where
         bytes : take (length v) order₁' ≡ take (length w) order₂'
         bytes =
@@ -142,7 +144,7 @@ module _ (p : Rules) (v w : List ℕ) (good : GoodEvents p v) (good' : GoodEvent
             ∙ sym (order_bytes p w order₂ order₂' table₂ table₂' q₂ Q m h)
 
     -- Paper 5: "Logs reachable from each other in both directions must, where both get a verdict, leave equal count fields, record by record"
-    pub fields_same_by : (i j : Judged) → PromiseBy p v order₁ order₁' table₁ table₁' q₁ i → PromiseBy p w order₂ order₂' table₂ table₂' q₂ j
+    pub fields_same_by : (i j : Result Judged Refusal) → PromiseBy p v order₁ order₁' table₁ table₁' q₁ i → PromiseBy p w order₂ order₂' table₂ table₂' q₂ j
         → (r n : ℕ) → r < prefixes_by p v → n < layout.numbers
         → get_or table₁' (record_length layout * r + n) 0 ≡ get_or table₂' (record_length layout * r + n) 0
     fields_same_by i j g h r n hr hn =
@@ -153,19 +155,19 @@ module _ (p : Rules) (v w : List ℕ) (good : GoodEvents p v) (good' : GoodEvent
 
   -- Paper 4: "If log v is reachable from log w and v has an accepted order, then w has one that is no later in letter order"; P of v is at most P of w
   module _ (reach : Reachable p.may w v) where
-    pub judged_reach_by : (i j : Judged) → PromiseBy p v order₁ order₁' table₁ table₁' q₁ i → PromiseBy p w order₂ order₂' table₂ table₂' q₂ j → verdict_number i ≡ some 1
+    pub judged_reach_by : (i j : Result Judged Refusal) → PromiseBy p v order₁ order₁' table₁ table₁' q₁ i → PromiseBy p w order₂ order₂' table₂ table₂' q₂ j → verdict_number i ≡ some 1
         → (verdict_number j ≡ some 1) × NoLater (take (length w) order₂') (take (length v) order₁')
-    judged_reach_by (Refused r) j g h e = absurd (none-ne-some 1 e)
-    judged_reach_by (NoOrder P n) j g h e = absurd (zero_one e)
-    judged_reach_by (Order P n) (Refused r) g h e = absurd (some-ne-none r (h.refused ∙ second))
-    judged_reach_by (Order P n) (NoOrder Q m) g h e = absurd (none-ne-some _ (sym h.told.0 ∙ (order_by_reach p v w reach g.told.1).1))
-    judged_reach_by (Order P n) (Order Q m) g h e =
+    judged_reach_by (Err r) j g h e = absurd (none-ne-some 1 e)
+    judged_reach_by (Ok (NoOrder P n)) j g h e = absurd (zero_one e)
+    judged_reach_by (Ok (Order P n)) (Err r) g h e = absurd (some-ne-none r (h.refused ∙ second))
+    judged_reach_by (Ok (Order P n)) (Ok (NoOrder Q m)) g h e = absurd (none-ne-some _ (sym h.told.0 ∙ (order_by_reach p v w reach g.told.1).1))
+    judged_reach_by (Ok (Order P n)) (Ok (Order Q m)) g h e =
         let x = order_by_reach p v w reach g.told.1 in
         let a = order_bytes p v order₁ order₁' table₁ table₁' q₁ P n g in
         let b = order_bytes p w order₂ order₂' table₂ table₂' q₂ Q m h ∙ some-injective h.told.0 x.0 (sym h.told.1 ∙ x.1) in
         (refl, subst₂ NoLater (sym b) (sym a) x.2)
 
-    pub counted_reach_by : (i j : Judged) → PromiseBy p v order₁ order₁' table₁ table₁' q₁ i → PromiseBy p w order₂ order₂' table₂ table₂' q₂ j
+    pub counted_reach_by : (i j : Result Judged Refusal) → PromiseBy p v order₁ order₁' table₁ table₁' q₁ i → PromiseBy p w order₂ order₂' table₂ table₂' q₂ j
         → (P Q : ℕ) → told_prefixes i ≡ some P → told_prefixes j ≡ some Q → P ≤ Q
     counted_reach_by i j g h P Q d e = omega (
       arith,

@@ -1,37 +1,32 @@
 -- Document 01, "The judge": its answer, and what is promised of the order buffer and the work table.
-use Rattle.std.specs.Prelude.{◌≡◌, ◌≢◌, List, [], ◌∷◌, ◌++◌, ℕ, length, drop}
+use Rattle.std.specs.Prelude.{Result, Ok, Err, ◌≡◌, ◌≢◌, List, [], ◌∷◌, ◌++◌, ℕ, length, drop}
 use Rattle.std.proofs.Math.Option.{Option, none, some}
 use Rattle.profile.specs.Automata.{Profile}
 use Rattle.profile.specs.Rules.{Rules, looks_by, order_by, plain, prefixes_by, table_by}
 use Rattle.profile.specs.Refusals.{judge_refusal, refusal_number, refusal_place}
+pub use Rattle.profile.specs.Refusals.{refused_by}
 use Rattle.profile.specs.declared.Refusal.{Refusal}
 use Rattle.profile.specs.declared.Refusal.TheVariants.{FullTable}
 use Rattle.table.specs.Table.{Spared}
 use Rattle.verdict.specs.declared.Judged.{Judged}
-use Rattle.verdict.specs.declared.Judged.TheVariants.{NoOrder, Order, Refused}
-
--- the refusal of an answer; none where there is a verdict
-abbrev pub refused_by : Judged → Option Refusal
-refused_by (Refused r) = some r
-refused_by (NoOrder P n) = none
-refused_by (Order P n) = none
+use Rattle.verdict.specs.declared.Judged.TheVariants.{NoOrder, Order}
 
 -- "verdict": 1 comes with the order, 0 means 'no order'; a refusal has none
-abbrev pub verdict_number : Judged → Option ℕ
-verdict_number (Refused r) = none
-verdict_number (NoOrder P n) = some 0
-verdict_number (Order P n) = some 1
+abbrev pub verdict_number : Result Judged Refusal → Option ℕ
+verdict_number (Err r) = none
+verdict_number (Ok (NoOrder P n)) = some 0
+verdict_number (Ok (Order P n)) = some 1
 
 -- the numbers of an answer: the refusal's number, or 0; place, verdict, P, looks
-abbrev pub judged_code : Judged → ℕ
-judged_code (Refused r) = refusal_number r
-judged_code (NoOrder P n) = 0
-judged_code (Order P n) = 0
+abbrev pub judged_code : Result Judged Refusal → ℕ
+judged_code (Err r) = refusal_number r
+judged_code (Ok (NoOrder P n)) = 0
+judged_code (Ok (Order P n)) = 0
 
-abbrev pub judged_told : Judged → List ℕ
-judged_told (Refused r) = refusal_place r ∷ 0 ∷ 0 ∷ 0 ∷ []
-judged_told (NoOrder P n) = 0 ∷ 0 ∷ P ∷ n ∷ []
-judged_told (Order P n) = 0 ∷ 1 ∷ P ∷ n ∷ []
+abbrev pub judged_told : Result Judged Refusal → List ℕ
+judged_told (Err r) = refusal_place r ∷ 0 ∷ 0 ∷ 0 ∷ []
+judged_told (Ok (NoOrder P n)) = 0 ∷ 0 ∷ P ∷ n ∷ []
+judged_told (Ok (Order P n)) = 0 ∷ 1 ∷ P ∷ n ∷ []
 
 -- "P", "looks", and what is promised of the table, which was `before`
 pub record Counted (p : Rules) (w before after : List ℕ) (P n : ℕ) : Type 0 where
@@ -41,19 +36,19 @@ pub record Counted (p : Rules) (w before after : List ℕ) (P n : ℕ) : Type 0 
 
 -- "Verdict 1 comes with the order in the first bytes of the order buffer …; its other bytes stay. Verdict 0 means 'no order' and leaves that buffer
 -- unchanged." "Refusals leave every buffer unchanged; only after 10 is the work table's content free", that of its usable numbers
-abbrev pub judged : Rules → List ℕ → List ℕ → List ℕ → List ℕ → List ℕ → Judged → Type 0
-judged p w order order' table table' (Refused r) = (order' ≡ order) × (r ≢ FullTable → table' ≡ table) × Spared table table'
-judged p w order order' table table' (NoOrder P n) =
+abbrev pub judged : Rules → List ℕ → List ℕ → List ℕ → List ℕ → List ℕ → Result Judged Refusal → Type 0
+judged p w order order' table table' (Err r) = (order' ≡ order) × (r ≢ FullTable → table' ≡ table) × Spared table table'
+judged p w order order' table table' (Ok (NoOrder P n)) =
     (order_by p w ≡ none) × (order' ≡ order) × Counted p w table table' P n
-judged p w order order' table table' (Order P n) =
+judged p w order order' table table' (Ok (Order P n)) =
     (v : List ℕ) × (order_by p w ≡ some v) × (order' ≡ v ++ drop (length w) order) × Counted p w table table' P n
 
 -- the whole promise of a call for the rules p and the events w that was lent `order` and `table` and left `order'` and `table'`; q is the refusal that its
 -- input and its buffers call for, if any
-pub record PromiseBy (p : Rules) (w order order' table table' : List ℕ) (q : Option Refusal) (r : Judged) : Type 0 where
+pub record PromiseBy (p : Rules) (w order order' table table' : List ℕ) (q : Option Refusal) (r : Result Judged Refusal) : Type 0 where
   pub refused : refused_by r ≡ q
   pub told : judged p w order order' table table' r
 
 -- that of the judge
-abbrev pub Promise : Profile → List ℕ → List ℕ → List ℕ → List ℕ → List ℕ → Judged → Type 0
+abbrev pub Promise : Profile → List ℕ → List ℕ → List ℕ → List ℕ → List ℕ → Result Judged Refusal → Type 0
 Promise p w order order' table table' r = PromiseBy (plain p) w order order' table table' (judge_refusal p w (length order) (length table)) r

@@ -12,12 +12,11 @@ ghost use Rattle.earliest.specs.Earliest.{Table, found?, record_count, with_orde
 ghost use Rattle.verdict.specs.Verdict.{Promise};
 
 use profile::{Refusal, Shape};
-use table::Built;
+use table::Filled;
 
-// The answer of the judge: the verdict, P and looks, or the refusal.
+// The answer of the judge where nothing is refused: the verdict, P and looks.
 #[derive(Clone, Copy)]
 pub enum Judged {
-    Refused(Refusal),
     NoOrder { prefixes: usize, looks: u64 },
     Order { prefixes: usize, looks: u64 },
 }
@@ -27,13 +26,10 @@ pub fn refusal_of_short(shape: Shape, masks: &[u16], moves: &[u32], log: &[u8]) 
     ensures { some result
         ≡ lowest (profile_refusals (profile_of shape masks.now moves.now) ++ (log_refusals shape.k log.now ++ ((true, ShortBuffer) ∷ []))) }
 {
-    let profile = checks::check_profile(shape, masks, moves);
-    if let Err(r) = profile {
+    if let Err(r) = checks::check_profile(shape, masks, moves) {
         return r;
     }
-    let k = shape.k;
-    let letters = logcheck::check_log(k, log);
-    if let Err(r) = letters {
+    if let Err(r) = logcheck::check_log(shape.k, log) {
         return r;
     }
     Refusal::ShortBuffer
@@ -71,21 +67,16 @@ pub fn judge(
     log: &[u8],
     order: &mut [u8],
     work: &mut [u32],
-) -> Judged
+) -> Result<Judged, Refusal>
     ensures { Promise (profile_of shape masks.now moves.now) log.now order.old order.new work.old work.new result }
 {
     if order.len() < log.len() {
-        return Judged::Refused(refusal_of_short(shape, masks, moves, log));
+        return Err(refusal_of_short(shape, masks, moves, log));
     }
-    let built = table::build(shape, masks, moves, log, work);
-    match built {
-        Built::Refused(r) => Judged::Refused(r),
-        Built::Filled { prefixes, looks } => {
-            if put_verdict(work, prefixes, shape, masks, moves, log, order, false) {
-                Judged::Order { prefixes, looks }
-            } else {
-                Judged::NoOrder { prefixes, looks }
-            }
-        }
+    let Filled { prefixes, looks } = table::build(shape, masks, moves, log, work)?;
+    if put_verdict(work, prefixes, shape, masks, moves, log, order, false) {
+        Ok(Judged::Order { prefixes, looks })
+    } else {
+        Ok(Judged::NoOrder { prefixes, looks })
     }
 }

@@ -9,16 +9,16 @@ use Rattle.verdict.proofs.refusal_of_short.Goals as goal
 pub returns-in-Err : goal.returns-in-Err
 returns-in-Err c =
     let a = c.args in
-    profile_first (profile_of a.shape a.masks.now a.moves.now) a.log.now (sym c.check_profile-profile.ensures ∙ ap refused_by c.in-Err.is)
+    profile_first (profile_of a.shape a.masks.now a.moves.now) a.log.now (sym c.check_profile.ensures ∙ ap refused_by c.in-Err.is)
 
-pub returns-in-Err-letters : goal.returns-in-Err-letters
-returns-in-Err-letters c =
+pub returns-in-Err-check_log : goal.returns-in-Err-check_log
+returns-in-Err-check_log c =
     let a = c.args in
-    log_next (profile_of a.shape a.masks.now a.moves.now) a.log.now (sym c.check_profile-profile.ensures ∙ ap refused_by c.in_default.is)
-    (sym c.check_log-letters.ensures ∙ ap refused_by c.in-Err-letters.is)
+    log_next (profile_of a.shape a.masks.now a.moves.now) a.log.now (sym c.check_profile.ensures ∙ ap refused_by c.in_default.is)
+    (sym c.check_log.ensures ∙ ap refused_by c.in-Err-check_log.is)
 
 pub returns : goal.returns
 returns c =
     let a = c.args in
-    buffer_last (profile_of a.shape a.masks.now a.moves.now) a.log.now (sym c.check_profile-profile.ensures ∙ ap refused_by c.in_default.is)
-    (sym c.check_log-letters.ensures ∙ ap refused_by c.in_default-letters.is)
+    buffer_last (profile_of a.shape a.masks.now a.moves.now) a.log.now (sym c.check_profile.ensures ∙ ap refused_by c.in_default.is)
+    (sym c.check_log.ensures ∙ ap refused_by c.in_default-check_log.is)
