@@ -19,8 +19,7 @@ use Rattle.theory.proofs.Refusals.{GoodLog, GoodProfile, lowest_append}
 use Rattle.logfile.specs.Files.{filled}
 use Rattle.logfile.proofs.Answers.{content_rises, no_larger, numbers, room}
 use Rattle.filewriter.specs.Written.{Fit, Writes, file_bytes, low_bytes, trailer_bytes, write_refusal, write_refusals, writing}
-use Rattle.filewriter.specs.declared.Writing.{Writing}
-use Rattle.filewriter.specs.declared.Writing.TheVariants.{Length}
+use Rattle.std.specs.Prelude.{Ok, Err}
 use Rattle.filewriter.proofs.Bytes.{low_length}
 
 -- ---- the conditions stand by rising number: the first that applies is the lowest
@@ -68,9 +67,9 @@ fit_of h masks moves w out g l r = record {
 }
 
 module _ (p : Profile) (w out : List ℕ) where
-  pub write_refused : {r : Refusal} → write_refusal p w (length out) ≡ some r → Writes p w out out (Writing.Refused r)
+  pub write_refused : {r : Refusal} → write_refusal p w (length out) ≡ some r → Writes p w out out (Err r)
   write_refused e = (sym (ap (λ o. writing o (length (file_bytes p w))) e), sym (ap (λ o. filled o (file_bytes p w) out) e))
 
   pub write_told : {n : ℕ} {o : List ℕ} → write_refusal p w (length out) ≡ none → n ≡ length (file_bytes p w)
-      → o ≡ file_bytes p w ++ drop (length (file_bytes p w)) out → Writes p w out o (Length n)
-  write_told e q r = (ap Length q ∙ sym (ap (λ o. writing o (length (file_bytes p w))) e), r ∙ sym (ap (λ o. filled o (file_bytes p w) out) e))
+      → o ≡ file_bytes p w ++ drop (length (file_bytes p w)) out → Writes p w out o (Ok n)
+  write_told e q r = (ap Ok q ∙ sym (ap (λ o. writing o (length (file_bytes p w))) e), r ∙ sym (ap (λ o. filled o (file_bytes p w) out) e))

@@ -1,5 +1,5 @@
 -- Document 01, "Log file": what the writer puts, and why it refuses.
-use Rattle.std.specs.Prelude.{◌≡◌, Bool, List, [], ◌∷◌, ◌++◌, ℕ, zero, suc, ◌+◌, ◌*◌, ◌/◌, ◌%◌, ◌≤◌, ◌<◌, length}
+use Rattle.std.specs.Prelude.{Result, Ok, Err, ◌≡◌, Bool, List, [], ◌∷◌, ◌++◌, ℕ, zero, suc, ◌+◌, ◌*◌, ◌/◌, ◌%◌, ◌≤◌, ◌<◌, length}
 use Rattle.std.proofs.Math.Option.{Option, none, some}
 use Rattle.profile.specs.Limits.{most_letters, most_states}
 use Rattle.profile.specs.Lists.{flat_map}
@@ -9,8 +9,6 @@ use Rattle.profile.specs.declared.Shape.{Shape}
 use Rattle.profile.specs.declared.Refusal.{Refusal}
 use Rattle.profile.specs.declared.Refusal.TheVariants.{ShortBuffer}
 use Rattle.logfile.specs.Files.{filled}
-use Rattle.filewriter.specs.declared.Writing.{Writing}
-use Rattle.filewriter.specs.declared.Writing.TheVariants.{Length}
 
 -- "Low byte first": the b low bytes of n
 abbrev pub low_bytes : ℕ → ℕ → List ℕ
@@ -49,21 +47,21 @@ abbrev pub write_refusal : Profile → List ℕ → ℕ → Option Refusal
 write_refusal p w m = lowest (write_refusals p w m)
 
 -- "tells the file's length", or refuses
-abbrev pub writing : Option Refusal → ℕ → Writing
-writing none n = Length n
-writing (some r) n = Writing.Refused r
+abbrev pub writing : Option Refusal → ℕ → Result ℕ Refusal
+writing none n = Ok n
+writing (some r) n = Err r
 
 -- its numbers: the refusal's number, or 0; place, the file's length
-abbrev pub writing_code : Writing → ℕ
-writing_code (Writing.Refused r) = refusal_number r
-writing_code (Length n) = 0
+abbrev pub writing_code : Result ℕ Refusal → ℕ
+writing_code (Err r) = refusal_number r
+writing_code (Ok n) = 0
 
-abbrev pub writing_told : Writing → List ℕ
-writing_told (Writing.Refused r) = refusal_place r ∷ 0 ∷ []
-writing_told (Length n) = 0 ∷ n ∷ []
+abbrev pub writing_told : Result ℕ Refusal → List ℕ
+writing_told (Err r) = refusal_place r ∷ 0 ∷ []
+writing_told (Ok n) = 0 ∷ n ∷ []
 
 -- what the writer promises: its answer, and the lent buffer afterwards
-abbrev pub Writes : Profile → List ℕ → List ℕ → List ℕ → Writing → Type 0
+abbrev pub Writes : Profile → List ℕ → List ℕ → List ℕ → Result ℕ Refusal → Type 0
 Writes p w out out' r =
     let q = write_refusal p w (length out) in
     (r ≡ writing q (length (file_bytes p w))) × (out' ≡ filled q (file_bytes p w) out)

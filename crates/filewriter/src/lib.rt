@@ -10,13 +10,6 @@ ghost use Rattle.filewriter.specs.Written.{Fit, Writes, file_bytes, low_bytes, t
 use profile::limits::TRAILER_LENGTH;
 use profile::{Refusal, Shape};
 
-// The answer of the writer: why the call is refused, or the file's length.
-#[derive(Clone, Copy)]
-pub enum Writing {
-    Refused(Refusal),
-    Length(usize),
-}
-
 // Puts the two low bytes of v, low byte first.
 fn put_half(v: u32, out: &mut [u8], at: usize)
     requires { at + 2 ≤ length out.old }
@@ -40,11 +33,8 @@ fn put_masks(masks: &[u16], out: &mut [u8], at: usize)
     requires { at + 2 * length masks.now ≤ length out.old }
     ensures { out.new ≡ sets out.old at (flat_map (low_bytes 2) masks.now) }
 {
-    let mut i = 0;
-    while i < masks.len() {
-        let mask = masks[i] as u32;
-        put_half(mask, out, at + 2 * i);
-        i += 1;
+    for (i, mask) in masks.iter().enumerate() {
+        put_half(*mask as u32, out, at + 2 * i);
     }
 }
 
@@ -53,11 +43,8 @@ fn put_moves(moves: &[u32], out: &mut [u8], at: usize)
     requires { at + 4 * length moves.now ≤ length out.old }
     ensures { out.new ≡ sets out.old at (flat_map (low_bytes 4) moves.now) }
 {
-    let mut i = 0;
-    while i < moves.len() {
-        let set = moves[i];
-        put_word(set, out, at + 4 * i);
-        i += 1;
+    for (i, set) in moves.iter().enumerate() {
+        put_word(*set, out, at + 4 * i);
     }
 }
 
@@ -66,12 +53,7 @@ fn put_bytes(bytes: &[u8], out: &mut [u8], at: usize)
     requires { at + length bytes.now ≤ length out.old }
     ensures { out.new ≡ sets out.old at bytes.now }
 {
-    let mut i = 0;
-    while i < bytes.len() {
-        let byte = bytes[i];
-        out[at + i] = byte;
-        i += 1;
-    }
+    out[at..at + bytes.len()].copy_from_slice(bytes);
 }
 
 // The trailer of a log of n letters, with the distances back to the masks and to the moves.
@@ -120,22 +102,21 @@ fn put_file(shape: Shape, masks: &[u16], moves: &[u32], log: &[u8], out: &mut [u
 }
 
 // Puts masks, moves, log and trailer, without gaps, and tells the file's length.
-pub fn write_file(shape: Shape, masks: &[u16], moves: &[u32], log: &[u8], out: &mut [u8]) -> Writing
+pub fn write_file(
+    shape: Shape,
+    masks: &[u16],
+    moves: &[u32],
+    log: &[u8],
+    out: &mut [u8],
+) -> Result<usize, Refusal>
     ensures { Writes (profile_of shape masks.now moves.now) log.now out.old out.new result }
 {
-    let k = shape.k;
-    let of_profile = checks::check_profile(shape, masks, moves);
-    if let Err(r) = of_profile {
-        return Writing::Refused(r);
-    }
-    let of_log = logcheck::check_log(k, log);
-    if let Err(r) = of_log {
-        return Writing::Refused(r);
-    }
+    checks::check_profile(shape, masks, moves)?;
+    logcheck::check_log(shape.k, log)?;
     let size = 2 * masks.len() + 4 * moves.len() + log.len() + TRAILER_LENGTH;
     if out.len() < size {
-        return Writing::Refused(Refusal::ShortBuffer);
+        return Err(Refusal::ShortBuffer);
     }
     put_file(shape, masks, moves, log, out);
-    Writing::Length(size)
+    Ok(size)
 }

@@ -10,7 +10,7 @@ use Rattle.filewriter.proofs.Bytes.{low_length}
 use Rattle.filewriter.proofs.put_masks.Goals as goal
 
 pub loop-i-init : goal.loop-i-init
-loop-i-init c = (omega arith, refl, refl)
+loop-i-init c = (refl, refl)
 
 pub overflow_cast-mask : goal.overflow_cast-mask
 overflow_cast-mask c = omega (arith, c.type_inv.masks c.loop-i.i)
@@ -20,13 +20,12 @@ loop-i-preserved c =
     let l = c.loop-i in
     let a = c.args in
     let p = c.put_half in (
-      omega arith,
-      p.auto.out ∙ l.invariant.1,
-      p.ensures ∙ ap (λ t. sets t (a.at + 2 * l.i) (low_bytes 2 (get_or a.masks.now l.i 0))) l.invariant.2
+      p.auto.out ∙ l.invariant.0,
+      p.ensures ∙ ap (λ t. sets t (a.at + 2 * l.i) (low_bytes 2 (get_or a.masks.now l.i 0))) l.invariant.1
           ∙ flat_map_more (low_bytes 2) 2 (low_length 2) a.out.now a.masks.now a.at l.i (omega arith),
     )
 
 pub returns : goal.returns
 returns c =
     let a = c.args in
-    c.loop-i.invariant.2 ∙ ap (λ v. sets a.out.now a.at (flat_map (low_bytes 2) v)) (take_all c.loop-i.i a.masks.now c.loop-i-test.false)
+    c.loop-i.invariant.1 ∙ ap (λ v. sets a.out.now a.at (flat_map (low_bytes 2) v)) (take_all c.loop-i.i a.masks.now (omega arith))

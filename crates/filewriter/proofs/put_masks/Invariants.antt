@@ -1,6 +1,5 @@
 -- `filewriter::put_masks` meets its contract. The loop's invariant: the masks before place i are put.
 use mathlib.Core.Path.{◌≡◌}
-use Prim.Native.Nat.{◌-◌, ◌≤◌}
 use lib.ListN.{length, take}
 use lib.Seq.{sets}
 use Rattle.profile.specs.Lists.{flat_map}
@@ -8,7 +7,4 @@ use Rattle.filewriter.specs.Written.{low_bytes}
 use Rattle.filewriter.proofs.put_masks.Given as goal
 
 abbrev pub invariant-loop-i : goal.invariant-loop-i
-invariant-loop-i l = (l.i ≤ length l.masks) × (length l.out ≡ length l.initial.out) × (l.out ≡ sets l.initial.out l.at (flat_map (low_bytes 2) (take l.i l.masks)))
-
-abbrev pub decreases-loop-i : goal.decreases-loop-i
-decreases-loop-i l = length l.masks - l.i
+invariant-loop-i l = (length l.out ≡ length l.initial.out) × (l.out ≡ sets l.initial.out l.at (flat_map (low_bytes 2) (take l.i l.masks)))

@@ -16,16 +16,16 @@ returns-then-out-size c =
     let a = c.args in
     let p = profile_of a.shape a.masks.now a.moves.now in
     let w = a.log.now in
-    let good_profile = sym c.check_profile-of_profile.ensures ∙ ap refused_by c.in_default.is in
-    let good_log = sym c.check_log-of_log.ensures ∙ ap refused_by c.in_default-of_log.is in
+    let good_profile = sym c.check_profile.ensures ∙ ap refused_by c.in_ok-check_profile.was in
+    let good_log = sym c.check_log.ensures ∙ ap refused_by c.in_ok-check_log.was in
     write_refused p w a.out.now (file_short p w (length a.out.now) good_profile good_log (omega (arith, file_length p w, c.if-out-size.true)))
 
 pub put_file-requires : goal.put_file-requires
 put_file-requires c =
     let a = c.args in
     let p = profile_of a.shape a.masks.now a.moves.now in
-    let good_profile = sym c.check_profile-of_profile.ensures ∙ ap refused_by c.in_default.is in
-    let good_log = sym c.check_log-of_log.ensures ∙ ap refused_by c.in_default-of_log.is in
+    let good_profile = sym c.check_profile.ensures ∙ ap refused_by c.in_ok-check_profile.was in
+    let good_log = sym c.check_log.ensures ∙ ap refused_by c.in_ok-check_log.was in
     fit_of a.shape a.masks.now a.moves.now a.log.now a.out.now (profile_at p good_profile) (log_at a.shape.k a.log.now good_log)
     (omega (arith, file_length p a.log.now, c.if-out-size.false))
 
@@ -35,8 +35,8 @@ returns c =
     let p = profile_of a.shape a.masks.now a.moves.now in
     let w = a.log.now in
     let out = a.out.now in
-    let good_profile = sym c.check_profile-of_profile.ensures ∙ ap refused_by c.in_default.is in
-    let good_log = sym c.check_log-of_log.ensures ∙ ap refused_by c.in_default-of_log.is in
+    let good_profile = sym c.check_profile.ensures ∙ ap refused_by c.in_ok-check_profile.was in
+    let good_log = sym c.check_log.ensures ∙ ap refused_by c.in_ok-check_log.was in
     let n = file_length p w in
     let fits : length (file_bytes p w) ≤ length out = omega (arith, n, c.if-out-size.false) in
     write_told p w out (file_fits p w (length out) good_profile good_log fits) (omega (arith, n))
