@@ -14,7 +14,7 @@ use Rattle.profile.specs.Limits.{deepest_brackets, most_letters, most_typed}
 use Rattle.profile.specs.declared.Refusal.{Refusal}
 use Rattle.profile.specs.declared.Refusal.TheVariants.{BadText, DeepText, LongText, OutOfRange, ShortBuffer}
 use Rattle.profile.specs.declared.Shape.{Shape}
-use Rattle.profile.specs.Refusals.{lowest}
+use Rattle.profile.specs.Refusals.{lowest, refused_by}
 use Rattle.expressions.specs.Expressions.{Expr, size}
 use Rattle.expressions.specs.Positions.{finals_of}
 use Rattle.expressions.specs.Texts.{Typed, expression}
@@ -25,20 +25,18 @@ use Rattle.expressions.proofs.Passes.{right_is}
 use Rattle.expressions.proofs.Trees.{tree_of}
 use Rattle.expressions.specs.Trees.{tree}
 use Rattle.theory.proofs.Refusals.{lowest_none}
-use Rattle.scanner.specs.declared.Scanned.TheVariants.{Broken, Right}
-use Rattle.scanner.specs.Scan.{scanned}
+use Rattle.scanner.specs.Scan.{right_as, scanned}
 use Rattle.scanner.proofs.Scans.{scanned_broken, scanned_right}
-use Rattle.expression.specs.declared.Made.{Made}
-use Rattle.expression.specs.declared.Made.TheVariants.{Profile, Refused}
-use Rattle.expression.specs.Making.{RightText, buffer_as, made_as, made_buffer, making, broken, broken_place, k_out_of_range, make_refusal, make_refusals, moves_put, refused_by, shape_of, too_deep, too_many, too_short}
+use Rattle.std.specs.Prelude.{Result, Ok, Err}
+use Rattle.expression.specs.Making.{RightText, buffer_as, made_as, made_buffer, making, broken, broken_place, k_out_of_range, make_refusal, make_refusals, moves_put, shape_of, too_deep, too_many, too_short}
 
 -- what the call shows of its answer r and of the buffer `after`, the buffer `before` being lent
-pub record Makes (k : ℕ) (u before : List ℕ) (r : Made) (after : List ℕ) : Type 0 where
+pub record Makes (k : ℕ) (u before : List ℕ) (r : Result Shape Refusal) (after : List ℕ) : Type 0 where
   -- a profile, or the lowest refusal that applies; a refusal leaves the buffer unchanged
   pub refused : refused_by r ≡ make_refusal k u (length before)
-  pub kept : (x : Refusal) → r ≡ Refused x → after ≡ before
+  pub kept : (x : Refusal) → r ≡ Err x → after ≡ before
   -- whatever expression the text types, the profile is made of it
-  pub made : (e : Expr) → Typed k expression u e → make_refusal k u (length before) ≡ none → (r ≡ Profile (shape_of k e)) × (after ≡ moves_put k e before)
+  pub made : (e : Expr) → Typed k expression u e → make_refusal k u (length before) ≡ none → (r ≡ Ok (shape_of k e)) × (after ≡ moves_put k e before)
 
 -- the refusal of the five conditions
 abbrev pub five : Bool → Option ℕ → Bool → Bool → Bool → Option Refusal
@@ -86,12 +84,12 @@ good_text k u n h =
       short = omega (arith, letters, ap length (letters_typed k few right.typed), length_leaves right.tree);
     }
 
-pub refused_is : (r : Made) (x : Refusal) → refused_by r ≡ some x → r ≡ Refused x
-refused_is (Profile h) x e = absurd (none-ne-some _ e)
-refused_is (Refused y) x e = ap Refused (some-injective _ _ e)
+pub refused_is : (r : Result Shape Refusal) (x : Refusal) → refused_by r ≡ some x → r ≡ Err x
+refused_is (Ok h) x e = absurd (none-ne-some _ e)
+refused_is (Err y) x e = ap Err (some-injective _ _ e)
 
 -- what the call shows is what the definitions say
-pub makes_equal : (k : ℕ) (u before : List ℕ) (r : Made) (after : List ℕ) → Makes k u before r after → (r ≡ making k u (length before)) × (after ≡ made_buffer k u before)
+pub makes_equal : (k : ℕ) (u before : List ℕ) (r : Result Shape Refusal) (after : List ℕ) → Makes k u before r after → (r ≡ making k u (length before)) × (after ≡ made_buffer k u before)
 makes_equal k u before r after m = go (make_refusal k u (length before)) refl
   where
     go : (o : Option Refusal) → make_refusal k u (length before) ≡ o → (r ≡ making k u (length before)) × (after ≡ made_buffer k u before)
@@ -105,24 +103,24 @@ makes_equal k u before r after m = go (make_refusal k u (length before)) refl
         (q ∙ sym (ap (λ o. made_as k o (tree k u)) h), m.kept x q ∙ sym (ap (λ o. buffer_as k o (tree k u) before) h))
 
 module _ (k : ℕ) (u before : List ℕ) where
-  refused_makes : (x : Refusal) → make_refusal k u (length before) ≡ some x → Makes k u before (Refused x) before
+  refused_makes : (x : Refusal) → make_refusal k u (length before) ≡ some x → Makes k u before (Err x) before
   refused_makes x e = record { refused = sym e; kept = λ y q. refl; made = λ t ty h. absurd (some-ne-none _ (sym e ∙ h)) }
 
   abbrev rest_of : Bool → Option ℕ → Option Refusal
   rest_of a f = five a f (too_deep u) (too_many k u) (too_short k u (length before))
 
-  pub makes_low : k < 1 → Makes k u before (Refused OutOfRange) before
+  pub makes_low : k < 1 → Makes k u before (Err OutOfRange) before
   makes_low h = refused_makes OutOfRange (ap (λ a. rest_of a (fault k u)) (k_low k h))
 
-  pub makes_high : 1 ≤ k → most_letters < k → Makes k u before (Refused OutOfRange) before
+  pub makes_high : 1 ≤ k → most_letters < k → Makes k u before (Err OutOfRange) before
   makes_high a b = refused_makes OutOfRange (ap (λ a. rest_of a (fault k u)) (k_high k a b))
 
   module _ (some_letter : 1 ≤ k) (few : k ≤ most_letters) where
-    pub makes_broken : (i : ℕ) → scanned k u ≡ Broken i → Makes k u before (Refused (BadText i)) before
+    pub makes_broken : (i : ℕ) → scanned k u ≡ Err i → Makes k u before (Err (BadText i)) before
     makes_broken i e = refused_makes (BadText i) (ap₂ rest_of (k_good k some_letter few) (scanned_broken k u e))
 
     -- a right text whose brackets go d deep and that types n letters
-    module _ (d n : ℕ) (right : scanned k u ≡ Right d n) where
+    module _ (d n : ℕ) (right : scanned k u ≡ right_as d n) where
       abbrev short : Bool
       short = ltb (length before) ((n + 1) * k)
 
@@ -131,18 +129,18 @@ module _ (k : ℕ) (u before : List ℕ) where
           let r = scanned_right k u right in
           ap₂ rest_of (k_good k some_letter few) r.0 ∙ ap₂ (λ d n. five false none (ltb deepest_brackets d) (ltb most_typed n) (ltb (length before) ((n + 1) * k))) (sym r.1) (sym r.2)
 
-      pub makes_deep : deepest_brackets < d → Makes k u before (Refused DeepText) before
+      pub makes_deep : deepest_brackets < d → Makes k u before (Err DeepText) before
       makes_deep h = refused_makes DeepText (right_refusal ∙ ap (λ c. five false none c (ltb most_typed n) short) (lt-ltb deepest_brackets d h))
 
       module _ (shallow : d ≤ deepest_brackets) where
-        pub makes_long : most_typed < n → Makes k u before (Refused LongText) before
+        pub makes_long : most_typed < n → Makes k u before (Err LongText) before
         makes_long h = refused_makes LongText (right_refusal ∙ ap₂ (λ c l. five false none c l short) (le-ltb deepest_brackets d shallow) (lt-ltb most_typed n h))
 
         module _ (few_letters : n ≤ most_typed) where
           lengths_fine : make_refusal k u (length before) ≡ five false none false false short
           lengths_fine = right_refusal ∙ ap₂ (λ c l. five false none c l short) (le-ltb deepest_brackets d shallow) (le-ltb most_typed n few_letters)
 
-          pub makes_short : length before < (n + 1) * k → Makes k u before (Refused ShortBuffer) before
+          pub makes_short : length before < (n + 1) * k → Makes k u before (Err ShortBuffer) before
           makes_short h = refused_makes ShortBuffer (lengths_fine ∙ ap (five false none false false) (lt-ltb (length before) ((n + 1) * k) h))
 
           module _ (fits : (n + 1) * k ≤ length before) where
@@ -165,19 +163,19 @@ module _ (k : ℕ) (u before : List ℕ) where
 
             pub makes_profile : (x : ℕ) (after : List ℕ)
                 → ((t : RightText k (n + 1) u before) → (x ≡ finals_of t.tree) × (after ≡ moves_put k t.tree before))
-                → Makes k u before (Profile (record { k = k; s = n + 1; start = 0; finals = x })) after
+                → Makes k u before (Ok (record { k = k; s = n + 1; start = 0; finals = x })) after
             makes_profile x after w = record {
               refused = sym (lengths_fine ∙ ap (five false none false false) (le-ltb (length before) ((n + 1) * k) fits));
               kept = λ y q. absurd (none-ne-some _ (ap refused_by q));
               made = λ e t h.
                   let m = w (typed_text e t) in
                   let shape : ℕ → ℕ → Shape = λ s f. record { k = k; s = s; start = 0; finals = f } in
-                  (ap Profile (ap₂ shape (add-one n ∙ ap suc (sized e t)) m.0), m.1);
+                  (ap Ok (ap₂ shape (add-one n ∙ ap suc (sized e t)) m.0), m.1);
             }
 
 -- the first two refusals of a text that keeps the rules, as the function tells them
-pub told_deep : (k : ℕ) (u before : List ℕ) (d n : ℕ) → scanned k u ≡ Right d n → 1 ≤ k → k ≤ most_letters → deepest_brackets < d → (Refused DeepText ≡ making k u (length before)) × (before ≡ made_buffer k u before)
+pub told_deep : (k : ℕ) (u before : List ℕ) (d n : ℕ) → scanned k u ≡ right_as d n → 1 ≤ k → k ≤ most_letters → deepest_brackets < d → (Err DeepText ≡ making k u (length before)) × (before ≡ made_buffer k u before)
 told_deep k u before d n r h few more = makes_equal k u before _ _ (makes_deep k u before h few d n r more)
 
-pub told_long : (k : ℕ) (u before : List ℕ) (d n : ℕ) → scanned k u ≡ Right d n → 1 ≤ k → k ≤ most_letters → d ≤ deepest_brackets → most_typed < n → (Refused LongText ≡ making k u (length before)) × (before ≡ made_buffer k u before)
+pub told_long : (k : ℕ) (u before : List ℕ) (d n : ℕ) → scanned k u ≡ right_as d n → 1 ≤ k → k ≤ most_letters → d ≤ deepest_brackets → most_typed < n → (Err LongText ≡ making k u (length before)) × (before ≡ made_buffer k u before)
 told_long k u before d n r h few shallow more = makes_equal k u before _ _ (makes_long k u before h few d n r shallow more)

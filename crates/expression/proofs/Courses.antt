@@ -14,7 +14,7 @@ use Rattle.profile.specs.declared.Refusal.{Refusal}
 use Rattle.profile.specs.declared.Refusal.TheVariants.{BadText}
 use Rattle.profile.specs.declared.Shape.{Shape}
 use Rattle.profile.specs.Automata.{Accepted, automaton, profile_of, row}
-use Rattle.profile.specs.Refusals.{profile_out_of_range, refusal_number, refusal_place, state_bit}
+use Rattle.profile.specs.Refusals.{refused_by, profile_out_of_range, refusal_number, refusal_place, state_bit}
 use Rattle.profile.specs.Traces.{bit, letters_below}
 use Rattle.expressions.specs.Expressions.{Describes, EndsIn, Expr, Leads, letter_at, numbered, size}
 use Rattle.expressions.specs.Positions.{moves_of}
@@ -26,9 +26,8 @@ use Rattle.expressions.proofs.Places.{place_is}
 use Rattle.expressions.proofs.Profiles.{in_range, moves_length, no_state_bit}
 use Rattle.expressions.proofs.Trees.{one_tree, tree_of}
 use Rattle.expressions.specs.Trees.{tree}
-use Rattle.expression.specs.declared.Made.{Made}
-use Rattle.expression.specs.declared.Made.TheVariants.{Profile, Refused}
-use Rattle.expression.specs.Making.{buffer_as, made_as, made_buffer, make_refusal, making, moves_put, refused_by, shape_of, too_deep, too_many, too_short}
+use Rattle.std.specs.Prelude.{Result, Ok, Err}
+use Rattle.expression.specs.Making.{buffer_as, made_as, made_buffer, make_refusal, making, moves_put, shape_of, too_deep, too_many, too_short}
 use Rattle.expression.proofs.Answers.{five, good_text, k_good}
 
 -- a profile was made: its numbers h, and the moves in `after`
@@ -56,7 +55,7 @@ module _ (k : ℕ) (u before : List ℕ) (unrefused : make_refusal k u (length b
   private_tree = (good_text k u (length before) unrefused).tree
 
   -- the answer and the buffer of a call that is not refused
-  answered : (making k u (length before) ≡ Profile (shape_of k private_tree)) × (made_buffer k u before ≡ moves_put k private_tree before)
+  answered : (making k u (length before) ≡ Ok (shape_of k private_tree)) × (made_buffer k u before ≡ moves_put k private_tree before)
   unfolding private_tree
   answered =
       let g = good_text k u (length before) unrefused in
@@ -102,30 +101,30 @@ broken_first c d b none i = ((λ e. absurd (other c d b e)), λ e. absurd (none-
     other false false false e = none-ne-some _ e
 
 -- the profile of an answer
-shape_told : Made → Option Shape
-shape_told (Profile h) = some h
-shape_told (Refused x) = none
+shape_told : Result Shape Refusal → Option Shape
+shape_told (Ok h) = some h
+shape_told (Err x) = none
 
-module _ (k : ℕ) (u before : List ℕ) (r : Made) (after : List ℕ) (answer : r ≡ making k u (length before)) (buffer : after ≡ made_buffer k u before) where
+module _ (k : ℕ) (u before : List ℕ) (r : Result Shape Refusal) (after : List ℕ) (answer : r ≡ making k u (length before)) (buffer : after ≡ made_buffer k u before) where
   -- "The lowest number that applies is given": the call is refused by x exactly when x is the lowest; else a profile is made
-  pub refused_exactly : (x : Refusal) → (r ≡ Refused x) ↔ (make_refusal k u (length before) ≡ some x)
+  pub refused_exactly : (x : Refusal) → (r ≡ Err x) ↔ (make_refusal k u (length before) ≡ some x)
   refused_exactly x = go (make_refusal k u (length before)) refl
     where
-      go : (o : Option Refusal) → make_refusal k u (length before) ≡ o → (r ≡ Refused x) ↔ (make_refusal k u (length before) ≡ some x)
+      go : (o : Option Refusal) → make_refusal k u (length before) ≡ o → (r ≡ Err x) ↔ (make_refusal k u (length before) ≡ some x)
       go none n = (
         (λ e. absurd (none-ne-some _ (ap refused_by (sym (answered k u before n).0 ∙ sym answer ∙ e)))),
         λ e. absurd (none-ne-some _ (sym n ∙ e)),
       )
       go (some y) n =
-          let q : r ≡ Refused y = answer ∙ ap (λ o. made_as k o (tree k u)) n in
-          ((λ e. n ∙ ap refused_by (sym q ∙ e)), λ e. q ∙ ap Refused (some-injective _ _ (sym n ∙ e)))
+          let q : r ≡ Err y = answer ∙ ap (λ o. made_as k o (tree k u)) n in
+          ((λ e. n ∙ ap refused_by (sym q ∙ e)), λ e. q ∙ ap Err (some-injective _ _ (sym n ∙ e)))
 
   -- "Refusals leave every buffer unchanged"
-  pub refused_unchanged : (x : Refusal) → r ≡ Refused x → after ≡ before
+  pub refused_unchanged : (x : Refusal) → r ≡ Err x → after ≡ before
   refused_unchanged x e = buffer ∙ ap (λ o. buffer_as k o (tree k u) before) ((refused_exactly x).0 e)
 
   -- a profile that was made is that of the courses typed
-  pub made_exactly : (h : Shape) → r ≡ Profile h → Courses k u before h after
+  pub made_exactly : (h : Shape) → r ≡ Ok h → Courses k u before h after
   unfolding shape_told
   made_exactly h e = go (make_refusal k u (length before)) refl
     where
@@ -137,7 +136,7 @@ module _ (k : ℕ) (u before : List ℕ) (r : Made) (after : List ℕ) (answer :
 
   -- 11 is given exactly when the text breaks the rules, and its place is "that of the first byte that no right text with the same beginning has there, or the
   -- text's length if it ends too early"
-  pub place_exactly : 1 ≤ k → k ≤ most_letters → (i : ℕ) → (r ≡ Refused (BadText i)) ↔ Breaks k u i
+  pub place_exactly : 1 ≤ k → k ≤ most_letters → (i : ℕ) → (r ≡ Err (BadText i)) ↔ Breaks k u i
   place_exactly some_letter few i =
       let p = place_is k some_letter few u i in
       let q = refused_exactly (BadText i) in

@@ -1,5 +1,5 @@
 -- Document 02, Paper 1: the refusals of typed courses, the answer, and the move buffer afterwards.
-use Rattle.std.specs.Prelude.{◌≡◌, Bool, true, false, ◌||◌, List, [], ◌∷◌, ◌++◌, map, ℕ, suc, ◌+◌, ◌*◌, ◌/◌, ◌%◌, ◌≤◌, ltb, drop, get_or, length}
+use Rattle.std.specs.Prelude.{Result, Ok, Err, ◌≡◌, Bool, true, false, ◌||◌, List, [], ◌∷◌, ◌++◌, map, ℕ, suc, ◌+◌, ◌*◌, ◌/◌, ◌%◌, ◌≤◌, ltb, drop, get_or, length}
 use Rattle.std.proofs.Math.Option.{Option, none, some}
 use Rattle.std.specs.Int.Bits.{bit_and}
 use Rattle.profile.specs.Limits.{deepest_brackets, most_letters, most_typed}
@@ -13,8 +13,6 @@ use Rattle.expressions.specs.Positions.{finals_of, moves_of}
 use Rattle.expressions.specs.Texts.{Typed, expression}
 use Rattle.expressions.specs.Passes.{deepest, fault, letters_of}
 use Rattle.expressions.specs.Trees.{tree}
-use Rattle.expression.specs.declared.Made.{Made}
-use Rattle.expression.specs.declared.Made.TheVariants.{Profile, Refused}
 
 -- 2, of k alone
 abbrev pub k_out_of_range : ℕ → Bool
@@ -54,19 +52,14 @@ make_refusals k u n =
 abbrev pub make_refusal : ℕ → List ℕ → ℕ → Option Refusal
 make_refusal k u n = lowest (make_refusals k u n)
 
--- the refusal of an answer; none where a profile is made
-abbrev pub refused_by : Made → Option Refusal
-refused_by (Profile h) = none
-refused_by (Refused x) = some x
-
 -- the numbers of an answer: the refusal's number, or 0; place, s, start, final set
-abbrev pub made_code : Made → ℕ
-made_code (Refused x) = refusal_number x
-made_code (Profile h) = 0
+abbrev pub made_code : Result Shape Refusal → ℕ
+made_code (Err x) = refusal_number x
+made_code (Ok h) = 0
 
-abbrev pub made_told : Made → List ℕ
-made_told (Refused x) = refusal_place x ∷ 0 ∷ 0 ∷ 0 ∷ []
-made_told (Profile h) = 0 ∷ h.s ∷ h.start ∷ h.finals ∷ []
+abbrev pub made_told : Result Shape Refusal → List ℕ
+made_told (Err x) = refusal_place x ∷ 0 ∷ 0 ∷ 0 ∷ []
+made_told (Ok h) = 0 ∷ h.s ∷ h.start ∷ h.finals ∷ []
 
 -- "the profile made": its numbers; its moves stand in the first s × k numbers of the buffer, "the rest of a longer move buffer stays"
 abbrev pub shape_of : ℕ → Expr → Shape
@@ -76,12 +69,12 @@ abbrev pub moves_put : ℕ → Expr → List ℕ → List ℕ
 moves_put k e before = moves_of k e ++ drop (suc (size e) * k) before
 
 -- the answer: the lowest refusal that applies, or the profile of the expression that the text types (a text that is not refused types one)
-abbrev pub made_as : ℕ → Option Refusal → Option Expr → Made
-made_as k (some x) t = Refused x
-made_as k none (some e) = Profile (shape_of k e)
-made_as k none none = Refused OutOfRange
+abbrev pub made_as : ℕ → Option Refusal → Option Expr → Result Shape Refusal
+made_as k (some x) t = Err x
+made_as k none (some e) = Ok (shape_of k e)
+made_as k none none = Err OutOfRange
 
-abbrev pub making : ℕ → List ℕ → ℕ → Made
+abbrev pub making : ℕ → List ℕ → ℕ → Result Shape Refusal
 making k u n = made_as k (make_refusal k u n) (tree k u)
 
 -- the move buffer afterwards: "Refusals leave every buffer unchanged"

@@ -5,20 +5,11 @@ ghost use Rattle.std.specs.Prelude.{◌≡◌, ◌*◌, ◌≤◌, length};
 ghost use Rattle.std.specs.Int.Bits.{bit_or};
 ghost use Rattle.profile.specs.Limits.{most_letters};
 ghost use Rattle.expressions.specs.Positions.{finals_of, when};
-ghost use Rattle.scanner.specs.declared.Scanned.TheVariants.{Right};
-ghost use Rattle.scanner.specs.Scan.{scanned};
+ghost use Rattle.scanner.specs.Scan.{right_as, scanned};
 ghost use Rattle.expression.specs.Making.{RightText, filled, made_buffer, making, moves_put};
 
 use profile::limits::{DEEPEST_BRACKETS, MOST_LETTERS, MOST_STATES, MOST_TYPED};
 use profile::{Refusal, Shape};
-use scanner::Scanned;
-
-// The answer: the numbers of the profile whose moves stand in the buffer, or why there is none.
-#[derive(Clone, Copy)]
-pub enum Made {
-    Profile(Shape),
-    Refused(Refusal),
-}
 
 // The final states: 0 for the empty log.
 fn with_empty(empty: bool, last: u32) -> u32
@@ -32,13 +23,10 @@ fn fill(k: usize, s: usize, rows: &[u32], sets: &[u32], moves: &mut [u32])
     requires { (1 ≤ k) × (k ≤ length sets.now) × (s ≤ length rows.now) × (s * k ≤ length moves.old) }
     ensures { moves.new ≡ filled k s rows.now sets.now moves.old }
 {
-    let end = s * k;
-    let mut j = 0;
-    while j < end {
+    for j in 0..s * k {
         let q = j / k;
         let a = j % k;
         moves[j] = rows[q] & sets[a];
-        j += 1;
     }
 }
 
@@ -58,23 +46,29 @@ fn write_moves(k: usize, s: usize, text: &[u8], moves: &mut [u32]) -> u32
 
 // The profile of a right text whose brackets go `deepest` deep and that types n letters; refused by 12, 13 and 9.
 #[tactic(auto, using(crate::proofs::Answers::told_deep, crate::proofs::Answers::told_long))]
-fn make_right(k: usize, text: &[u8], deepest: usize, n: usize, moves: &mut [u32]) -> Made
-    requires { (1 ≤ k) × (k ≤ most_letters) × (scanned k text.now ≡ Right deepest n) }
+fn make_right(
+    k: usize,
+    text: &[u8],
+    deepest: usize,
+    n: usize,
+    moves: &mut [u32],
+) -> Result<Shape, Refusal>
+    requires { (1 ≤ k) × (k ≤ most_letters) × (scanned k text.now ≡ right_as deepest n) }
     ensures { (result ≡ making k text.now (length moves.old))
         × (moves.new ≡ made_buffer k text.now moves.old) }
 {
     if DEEPEST_BRACKETS < deepest {
-        return Made::Refused(Refusal::DeepText);
+        return Err(Refusal::DeepText);
     }
     if MOST_TYPED < n {
-        return Made::Refused(Refusal::LongText);
+        return Err(Refusal::LongText);
     }
     let s = n + 1;
     if moves.len() < s * k {
-        return Made::Refused(Refusal::ShortBuffer);
+        return Err(Refusal::ShortBuffer);
     }
     let finals = write_moves(k, s, text, moves);
-    Made::Profile(Shape {
+    Ok(Shape {
         k: k,
         s: s,
         start: 0,
@@ -83,19 +77,18 @@ fn make_right(k: usize, text: &[u8], deepest: usize, n: usize, moves: &mut [u32]
 }
 
 // The profile of the typed courses; refused by 2, 11, 12, 13 and 9.
-pub fn make(k: usize, text: &[u8], moves: &mut [u32]) -> Made
+pub fn make(k: usize, text: &[u8], moves: &mut [u32]) -> Result<Shape, Refusal>
     ensures { (result ≡ making k text.now (length moves.old))
         × (moves.new ≡ made_buffer k text.now moves.old) }
 {
     if k < 1 {
-        return Made::Refused(Refusal::OutOfRange);
+        return Err(Refusal::OutOfRange);
     }
     if MOST_LETTERS < k {
-        return Made::Refused(Refusal::OutOfRange);
+        return Err(Refusal::OutOfRange);
     }
-    let scanned = scanner::scan(k, text);
-    match scanned {
-        Scanned::Broken(i) => Made::Refused(Refusal::BadText(i)),
-        Scanned::Right { deepest, letters } => make_right(k, text, deepest, letters, moves),
+    match scanner::scan(k, text) {
+        Err(i) => Err(Refusal::BadText(i)),
+        Ok(found) => make_right(k, text, found.deepest, found.letters, moves),
     }
 }

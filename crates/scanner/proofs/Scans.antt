@@ -21,8 +21,8 @@ use Rattle.expressions.proofs.Letters.{letters_no, letters_yes}
 use Rattle.profile.proofs.Sets.{or_assoc}
 use Rattle.theory.proofs.Counting.{at_map, length_range}
 use Rattle.scanner.specs.declared.Scanned.{Scanned}
-use Rattle.std.specs.Prelude.{Result, Ok, Err}
-use Rattle.scanner.specs.Scan.{scanned, scanned_as, sets_of}
+use Rattle.std.specs.Prelude.{Ok, Err}
+use Rattle.scanner.specs.Scan.{right_as, scanned, scanned_as, sets_of}
 
 true_t : (b : Bool) → b ≡ true → T b
 true_t b e = subst T (sym e) tt
@@ -157,10 +157,6 @@ passed_start k u = record { opened = omega arith; typed = omega arith; place = s
 from_here : (u : List ℕ) (i : ℕ) → i < length u → drop i u ≡ get_or u i 0 ∷ drop (i + 1) u
 from_here u i h = drop-cons u i 0 h ∙ ap (λ j. get_or u i 0 ∷ drop j u) (sym (add-one i))
 
--- a right text, by its numbers
-abbrev right_of : ℕ → ℕ → Result Scanned ℕ
-right_of d n = Ok (record { deepest = d; letters = n })
-
 module _ (k : ℕ) (u : List ℕ) (w : Bool) (d m n i : ℕ) (p : Passed k u w d m n i) where
   broken : fault k u ≡ some i → Err i ≡ scanned k u
   broken e = sym (ap (λ o. scanned_as o (deepest 0 u) (length (letters_of k u))) e)
@@ -204,12 +200,12 @@ module _ (k : ℕ) (u : List ℕ) (w : Bool) (d m n i : ℕ) (p : Passed k u w d
         unclosed zero f = absurd (f refl)
         unclosed (suc d) f = shift_here i
 
-    pub passed_right : w ≡ false → d ≡ 0 → Ok (record { deepest = m; letters = n }) ≡ scanned k u
+    pub passed_right : w ≡ false → d ≡ 0 → right_as m n ≡ scanned k u
     passed_right e z =
         let right : fault k u ≡ none = ends ∙ ap₂ (λ w d. shift i (ended w d)) e z in
         let deep : m ≡ deepest 0 u = omega (arith, z, p.deep ∙ ap (λ l. max m (deepest d l)) none_left) in
         let count : n ≡ length (letters_of k u) = omega (arith, p.count, ap (λ l. length (letters_of k l)) none_left) in
-        ap₂ right_of deep count ∙ sym (ap (λ o. scanned_as o (deepest 0 u) (length (letters_of k u))) right)
+        ap₂ right_as deep count ∙ sym (ap (λ o. scanned_as o (deepest 0 u) (length (letters_of k u))) right)
 
 -- what the pass tells, taken apart
 module _ (k : ℕ) (u : List ℕ) where
@@ -220,12 +216,15 @@ module _ (k : ℕ) (u : List ℕ) where
       go none q = cc
       go (some j) q = cc
 
-  pub scanned_right : {s : Scanned} → scanned k u ≡ Ok s → (fault k u ≡ none) × (s.deepest ≡ deepest 0 u) × (s.letters ≡ length (letters_of k u))
-  scanned_right {s} e = go (fault k u) e
+  scanned_ok : {s : Scanned} → scanned k u ≡ Ok s → (fault k u ≡ none) × (s.deepest ≡ deepest 0 u) × (s.letters ≡ length (letters_of k u))
+  scanned_ok {s} e = go (fault k u) e
     where
       go : (o : Option ℕ) → scanned_as o (deepest 0 u) (length (letters_of k u)) ≡ Ok s → (o ≡ none) × (s.deepest ≡ deepest 0 u) × (s.letters ≡ length (letters_of k u))
       go none q = (refl, cc, cc)
       go (some j) q = absurd (cc)
+
+  pub scanned_right : {d n : ℕ} → scanned k u ≡ right_as d n → (fault k u ≡ none) × (d ≡ deepest 0 u) × (n ≡ length (letters_of k u))
+  scanned_right e = scanned_ok e
 
 -- ---- the numbers of each letter
 

@@ -14,10 +14,14 @@ abbrev pub placed : Rust.Option Stand → Option Place
 placed (Rust.Some s) = after s.want s.depth
 placed Rust.None = none
 
+-- a text that keeps the rules, by how deep its brackets go and how many letters are typed
+abbrev pub right_as : ℕ → ℕ → Result Scanned ℕ
+right_as d n = Ok (record { deepest = d; letters = n })
+
 -- what a text is: the place of 11, or how deep its brackets go and how many letters are typed
 abbrev pub scanned_as : Option ℕ → ℕ → ℕ → Result Scanned ℕ
 scanned_as (some i) d n = Err i
-scanned_as none d n = Ok (record { deepest = d; letters = n })
+scanned_as none d n = right_as d n
 
 abbrev pub scanned : ℕ → List ℕ → Result Scanned ℕ
 scanned k u = scanned_as (fault k u) (deepest 0 u) (length (letters_of k u))

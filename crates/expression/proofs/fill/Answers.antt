@@ -11,7 +11,7 @@ use borrow.Author.Rules.{rules}
 use Rattle.expression.proofs.fill.Goals as goal
 
 pub loop-j-init : goal.loop-j-init
-loop-j-init c = (omega arith, refl, refl, refl)
+loop-j-init c = (refl, refl)
 
 pub offset_bounds-rows-q : goal.offset_bounds-rows-q
 offset_bounds-rows-q c =
@@ -63,14 +63,14 @@ loop-j-preserved c =
     let b : l.j % a.k < a.k = column_below a.k l.j S.requires.0 in
     let R = move_from a.k a.rows.now a.sets.now in
     let m : l.j < length a.moves.now = omega (arith, S.requires.3) in
-    (omega arith, refl, simp length-set l.invariant.2, ap (λ r. set r l.j (R l.j)) l.invariant.3 ∙ front_put R a.moves.now l.j m)
+    (simp length-set l.invariant.0, ap (λ r. set r l.j (R l.j)) l.invariant.1 ∙ front_put R a.moves.now l.j m)
 
 pub shape_of-moves : goal.shape_of-moves
-shape_of-moves c = c.loop-j.invariant.2
+shape_of-moves c = c.loop-j.invariant.0
 
 pub returns : goal.returns
 returns c =
     let a = c.args in
     let l = c.loop-j in
     let e : l.j ≡ a.s * a.k = omega arith in
-    l.invariant.3 ∙ ap (λ n. map (move_from a.k a.rows.now a.sets.now) (below n) ++ drop n a.moves.now) e
+    l.invariant.1 ∙ ap (λ n. map (move_from a.k a.rows.now a.sets.now) (below n) ++ drop n a.moves.now) e

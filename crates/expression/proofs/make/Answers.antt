@@ -21,12 +21,12 @@ returns-then-k-gt-MOST_LETTERS c =
 
 pub make_right-requires : goal.make_right-requires
 make_right-requires c =
-    (c.if-k-lt1.false, c.if-k-gt-MOST_LETTERS.false, sym c.scan-scanned.ensures ∙ c.in-Right.is)
+    (c.if-k-lt1.false, c.if-k-gt-MOST_LETTERS.false, sym c.scan.ensures ∙ c.in-Ok.is)
 
-pub returns-in-Broken : goal.returns-in-Broken
-returns-in-Broken c =
+pub returns-in-Err : goal.returns-in-Err
+returns-in-Err c =
     let S = c in
     let a = S.args in
     let u = a.text.now in
     let v = a.moves.now in
-    makes_equal a.k u v _ _ (makes_broken a.k u v c.if-k-lt1.false c.if-k-gt-MOST_LETTERS.false _ (sym c.scan-scanned.ensures ∙ c.in-Broken.is))
+    makes_equal a.k u v _ _ (makes_broken a.k u v c.if-k-lt1.false c.if-k-gt-MOST_LETTERS.false _ (sym c.scan.ensures ∙ c.in-Err.is))
