@@ -8,6 +8,7 @@ use native.Mathlib.Omega.{arith}
 use borrow.Author.Tests.{le-ltb, lt-ltb}
 use lib.Dec.{T, leb, leb→le, ltb, lt→ltb, ltb→lt}
 use lib.ListN.{length}
+use Rattle.std.specs.Prelude.{Ok, Err}
 use Rattle.profile.specs.Limits.{longest, most_letters}
 use Rattle.profile.specs.Lists.{all, below}
 use Rattle.profile.specs.Prefixes.{count}
@@ -16,12 +17,11 @@ use Rattle.profile.specs.Traces.{letters_below}
 use Rattle.profile.specs.declared.Refusal.{Refusal}
 use Rattle.profile.specs.declared.Refusal.TheVariants.{BadGroups, HighCeiling}
 use Rattle.profile.proofs.Lists.{Rising, all_at, all_of, fst_of, snd_of}
-use Rattle.theory.proofs.Refusals.{log_at, lowest_append, lowest_first, relation_at}
+use Rattle.theory.proofs.Refusals.{log_at, lowest_append, relation_at}
 use Rattle.ceilings.specs.Ceilings.{bad_groups, bound_refusal, bound_refusals, ceiling_of, high_ceiling, highest_ceiling}
 use Rattle.products.specs.Products.{product_of}
 use Rattle.products.proofs.Sizes.{product_ceiling}
 use Rattle.ceiling.specs.Ceiling.{bounded_as, bounding}
-use Rattle.ceiling.specs.declared.Bounded.TheVariants.{Ceiling, Refused}
 
 -- what the pass over the log asks for
 pub log_fits : (k : ℕ) (masks w : List ℕ) → lowest (relation_refusals k masks) ≡ none → lowest (log_refusals k w) ≡ none
@@ -36,28 +36,17 @@ module _ (k : ℕ) (masks w groups : List ℕ) where
   late = (bad_groups k masks groups, BadGroups) ∷ (high_ceiling groups w, HighCeiling) ∷ []
 
   -- the answer is that of the refusal
-  answer : {r : Refusal} → bound_refusal k masks w groups ≡ some r → Refused r ≡ bounding k masks w groups
+  answer : {r : Refusal} → bound_refusal k masks w groups ≡ some r → Err r ≡ bounding k masks w groups
   answer e = ap (λ o. bounded_as o (ceiling_of (λ a. a) groups w)) (sym e)
-
-  pub bound_relation : {r : Refusal} → lowest (relation_refusals k masks) ≡ some r → Refused r ≡ bounding k masks w groups
-  unfolding late
-  bound_relation e = answer (lowest_first (relation_refusals k masks) (log_refusals k w ++ late) e)
 
   module _ (e₀ : lowest (relation_refusals k masks) ≡ none) where
     past_masks : bound_refusal k masks w groups ≡ lowest (log_refusals k w ++ late)
     unfolding late
     past_masks = lowest_append (relation_refusals k masks) (log_refusals k w ++ late) e₀
 
-    pub bound_log : {r : Refusal} → lowest (log_refusals k w) ≡ some r → Refused r ≡ bounding k masks w groups
-    bound_log e = answer (past_masks ∙ lowest_first (log_refusals k w) late e)
-
     module _ (e₁ : lowest (log_refusals k w) ≡ none) where
       past_log : bound_refusal k masks w groups ≡ lowest late
       past_log = past_masks ∙ lowest_append (log_refusals k w) late e₁
-
-      pub bound_groups : bad_groups k masks groups ≡ true → Refused BadGroups ≡ bounding k masks w groups
-      unfolding late
-      bound_groups e = answer (past_log ∙ rw (e, lowest))
 
       -- the product of the counts, capped
       module _ (e₂ : bad_groups k masks groups ≡ false) (counts : List ℕ) (n : ℕ) (e₃ : counts ≡ map (count (λ a. a) w) (below most_letters))
@@ -65,20 +54,20 @@ module _ (k : ℕ) (masks w groups : List ℕ) where
         capped : n ≡ min (ceiling_of (λ a. a) groups w) (highest_ceiling + 1)
         capped = e₄ ∙ ap (λ m. min m (highest_ceiling + 1)) (ap (λ c. product_of c groups) e₃ ∙ product_ceiling w (log_fits k masks w e₀ e₁).1 groups)
 
-        pub bound_high : highest_ceiling < n → Refused HighCeiling ≡ bounding k masks w groups
+        pub bound_high : highest_ceiling < n → Err HighCeiling ≡ bounding k masks w groups
         unfolding late
         bound_high h =
             let l : highest_ceiling < ceiling_of (λ a. a) groups w = omega (arith, capped) in
             answer (past_log ∙ rw (e₂, lt-ltb highest_ceiling (ceiling_of (λ a. a) groups w) l, lowest))
 
-        pub bound_told : n ≤ highest_ceiling → Ceiling n ≡ bounding k masks w groups
+        pub bound_told : n ≤ highest_ceiling → Ok n ≡ bounding k masks w groups
         unfolding late
         bound_told h =
             let c = ceiling_of (λ a. a) groups w in
             let q : n ≡ c = omega (arith, capped) in
             let l : c ≤ highest_ceiling = omega arith in
             let e : bound_refusal k masks w groups ≡ none = past_log ∙ rw (e₂, le-ltb highest_ceiling c l, lowest) in
-            ap Ceiling q ∙ ap (λ o. bounded_as o c) (sym e)
+            ap Ok q ∙ ap (λ o. bounded_as o c) (sym e)
 
 -- the conditions stand by rising number, 2, 4, 7, 8, 18, 19: the first that applies is the lowest
 rising? : List ℕ → Bool

@@ -9,8 +9,9 @@ use Prim.Native.Nat.{ℕ, ◌≤◌}
 use native.Mathlib.Omega.{arith}
 use borrow.Author.Tests.{ltb-false}
 use lib.Dec.{T}
+use Rattle.std.specs.Prelude.{Err}
 use Rattle.profile.specs.Prefixes.{prefix_count}
-use Rattle.profile.specs.Refusals.{log_refusals, relation_refusals}
+use Rattle.profile.specs.Refusals.{log_refusals, refused_by, relation_refusals}
 use Rattle.profile.specs.Traces.{independent}
 use Rattle.profile.specs.declared.Refusal.{Refusal}
 use Rattle.profile.specs.declared.Refusal.TheVariants.{BadGroups, HighCeiling}
@@ -19,8 +20,6 @@ use Rattle.ceilings.specs.Ceilings.{GoodGroups, bad_groups, bound_refusal, bound
 use Rattle.ceilings.proofs.Events.{events_within}
 use Rattle.ceilings.proofs.Groups.{good_groups}
 use Rattle.ceiling.specs.Ceiling.{bounded_as, bounding, told_ceiling}
-use Rattle.ceiling.specs.declared.Bounded.{Bounded}
-use Rattle.ceiling.specs.declared.Bounded.TheVariants.{Ceiling, Refused}
 
 -- what is known where a ceiling is told
 pub record Told (k : ℕ) (masks w groups : List ℕ) (n : ℕ) : Type 0 where
@@ -32,16 +31,12 @@ pub record Told (k : ℕ) (masks w groups : List ℕ) (n : ℕ) : Type 0 where
 
 module _ (k : ℕ) (masks w groups : List ℕ) where
   -- the call is refused by r exactly when r is the first of 2, 4, 7, 8, 18, 19 that applies
-  pub refused_exactly : (r : Refusal) → (bounding k masks w groups ≡ Refused r) ↔ (bound_refusal k masks w groups ≡ some r)
+  pub refused_exactly : (r : Refusal) → (bounding k masks w groups ≡ Err r) ↔ (bound_refusal k masks w groups ≡ some r)
   refused_exactly r = ((λ e. go (bound_refusal k masks w groups) e), λ e. ap (λ o. bounded_as o (ceiling_of (λ a. a) groups w)) e)
     where
-      by : Bounded → Option Refusal
-      by (Ceiling n) = none
-      by (Refused r) = some r
-
-      go : (o : Option Refusal) → bounded_as o (ceiling_of (λ a. a) groups w) ≡ Refused r → o ≡ some r
-      go none e = ap by e
-      go (some q) e = ap by e
+      go : (o : Option Refusal) → bounded_as o (ceiling_of (λ a. a) groups w) ≡ Err r → o ≡ some r
+      go none e = ap refused_by e
+      go (some q) e = ap refused_by e
 
   -- a ceiling is told only where nothing is refused
   pub told_at : (n : ℕ) → told_ceiling (bounding k masks w groups) ≡ some n → Told k masks w groups n

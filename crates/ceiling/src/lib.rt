@@ -7,33 +7,19 @@ ghost use Rattle.ceiling.specs.Ceiling.{bounding};
 use ceilings::HIGHEST_CEILING;
 use profile::Refusal;
 
-// The answer: the ceiling, or why there is none.
-#[derive(Clone, Copy)]
-pub enum Bounded {
-    Ceiling(u32),
-    Refused(Refusal),
-}
-
 // A ceiling of P before the log is judged; refused by 2, 4, 7, 8, 18 and 19.
-pub fn bound(k: usize, masks: &[u16], log: &[u8], groups: &[u16]) -> Bounded
+pub fn bound(k: usize, masks: &[u16], log: &[u8], groups: &[u16]) -> Result<u32, Refusal>
     ensures { result ≡ bounding k masks.now log.now groups.now }
 {
-    let relation = checks::check_relation(k, masks);
-    if let Err(r) = relation {
-        return Bounded::Refused(r);
-    }
-    let letters = logcheck::check_log(k, log);
-    if let Err(r) = letters {
-        return Bounded::Refused(r);
-    }
+    checks::check_relation(k, masks)?;
+    logcheck::check_log(k, log)?;
     if grouping::groups_refused(k, masks, groups) {
-        return Bounded::Refused(Refusal::BadGroups);
+        return Err(Refusal::BadGroups);
     }
     let counts = products::tally(log);
     let n = products::product(&counts, groups);
     if HIGHEST_CEILING < n {
-        return Bounded::Refused(Refusal::HighCeiling);
+        return Err(Refusal::HighCeiling);
     }
-    let told = n as u32;
-    Bounded::Ceiling(told)
+    Ok(n as u32)
 }
