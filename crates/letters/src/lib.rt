@@ -34,14 +34,6 @@ pub fn next_places(c: Counts, k: usize, starts: &[Place], places: &[Place], next
     }
 }
 
-// k itself. The test shows the compiler, which reads no contract, that it is at most 16: no place is then tested again in the loops over the letters.
-fn bounded(k: usize) -> usize
-    requires { k ≤ most_letters }
-    ensures { result ≡ k }
-{
-    if k < MOST_LETTERS { k } else { MOST_LETTERS }
-}
-
 // The letters below k that can be added to the counts c of a log of n events; `keepers` are the sets of the letters that keep each letter.
 pub fn addable(
     c: Counts,
@@ -57,7 +49,8 @@ pub fn addable(
     ensures { (result.set ≡ union (λ x. 2 ^ x) (letters_by (independent masks.now) k n starts.now places.now (words c)))
         × (result.number ≡ length (letters_by (independent masks.now) k n starts.now places.now (words c))) }
 {
-    let end = bounded(k);
+    // k itself. `min` shows the compiler, which reads no contract, that it is at most 16: no place is then tested again in the loops over the letters.
+    let end = k.min(MOST_LETTERS);
     let mut next: [Place; MOST_LETTERS] = [0; MOST_LETTERS];
     next_places(c, end, starts, places, &mut next);
     let mut set = 0u32;

@@ -1,4 +1,4 @@
-// The words of the judge: profiles, refusals, answers of a check. The definitions of `specs/` say what they mean.
+// The words of the judge: profiles and refusals. The definitions of `specs/` say what they mean.
 pub mod limits;
 
 // The numbers of a profile; its masks and moves are slices beside it.
@@ -11,7 +11,7 @@ pub struct Shape {
 }
 
 // Why a call is refused. The definitions of `specs/Refusals.antt` give the number and the place.
-#[derive(Clone, Copy)]
+#[derive(Clone, Copy, Debug, PartialEq, Eq)]
 pub enum Refusal {
     ShortFile,
     OutOfRange,

@@ -36,12 +36,12 @@ pub fn by_letter(moves: &[u32], k: usize, s: usize, rows: &mut [u32; MOST_MOVES]
     }
 }
 
-// s itself. The test shows the compiler, which reads no contract, that it is at most 32: the loops over the states are then unrolled.
+// s itself. `min` shows the compiler, which reads no contract, that it is at most 32: the loops over the states are then unrolled.
 fn bounded(s: usize) -> usize
     requires { s ≤ most_states }
     ensures { result ≡ s }
 {
-    if s < ROW { s } else { ROW }
+    s.min(ROW)
 }
 
 // The states to which letter a leads from the states of a set. The number is read before the test, so that no turn depends on what it finds.
