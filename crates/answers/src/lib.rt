@@ -4,22 +4,23 @@
 ghost use Rattle.std.specs.Prelude.{◌≡◌};
 ghost use Rattle.verdict.specs.Verdict.{judged_code, judged_told};
 
+use profile::Refusal;
 use verdict::Judged;
 
 // Returns the refusal's number, or 0; tells the place, the verdict, P and looks.
-pub fn tell_judged(answer: Judged, told: &mut [u64; 4]) -> u32
+pub fn tell_judged(answer: Result<Judged, Refusal>, told: &mut [u64; 4]) -> u32
     ensures { (result ≡ judged_code answer) × (told.new ≡ judged_told answer) }
 {
     match answer {
-        Judged::Refused(r) => {
+        Err(r) => {
             *told = [refusals::place(r) as u64, 0, 0, 0];
             refusals::number(r)
         }
-        Judged::NoOrder { prefixes, looks } => {
+        Ok(Judged::NoOrder { prefixes, looks }) => {
             *told = [0, 0, prefixes as u64, looks];
             0
         }
-        Judged::Order { prefixes, looks } => {
+        Ok(Judged::Order { prefixes, looks }) => {
             *told = [0, 1, prefixes as u64, looks];
             0
         }
