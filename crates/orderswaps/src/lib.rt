@@ -23,14 +23,12 @@ pub fn swaps(
 {
     let mut c = counts::none_counted();
     let mut sum = 0u32;
-    let mut i = 0;
-    while i < log.len() {
+    for i in 0..log.len() {
         let x = order[i] as usize;
         let m = counts::numbers(c);
         let more = stepcost::step_cost(log, &m, whole, k, starts, places, x);
         sum = costcells::plus(sum, more);
         c = counts::one_more(c, x);
-        i += 1;
     }
     sum
 }

@@ -15,7 +15,7 @@ use Rattle.orderswaps.proofs.swaps.Goals as goal
 
 pub loop-i-init : goal.loop-i-init
 loop-i-init c = let b = c in
-    (omega arith, c.none_counted-c.ensures ∙ sym (packed_zero layout b.args.k), refl)
+    (c.none_counted-c.ensures ∙ sym (packed_zero layout b.args.k), refl)
 
 pub bounds-order-i : goal.bounds-order-i
 bounds-order-i c = let b = c in omega (arith, b.requires.arranged.long)
@@ -28,7 +28,7 @@ returns c = let b = c in
     let a = b.args in
     let l = c.loop-i in
     let e : l.i ≡ length a.log.now = omega arith in
-    l.invariant.2 ∙ ap (λ i. taking (λ a. a) a.log.now (λ x. 0) (take i a.order.now)) e ∙ sym (swaps_taking never (λ a. a) a.log.now (take (length a.log.now) a.order.now) b.requires.arranged.same)
+    l.invariant.1 ∙ ap (λ i. taking (λ a. a) a.log.now (λ x. 0) (take i a.order.now)) e ∙ sym (swaps_taking never (λ a. a) a.log.now (take (length a.log.now) a.order.now) b.requires.arranged.same)
 
 pub step_cost-more-requires-clause-within : goal.step_cost-more-requires-clause-within
 step_cost-more-requires-clause-within c = let b = c in
@@ -37,7 +37,7 @@ step_cost-more-requires-clause-within c = let b = c in
     let h : l.i < length a.log.now = omega arith in
     let le : l.i ≤ length a.log.now = omega arith in
     let few = read_few a.k a.log.now a.whole.now a.order.now b.requires.placed.letters b.requires.placed.few b.requires.placed.below_k b.requires.arranged l.i le in
-    let m = c.numbers-m.ensures ∙ l.invariant.1 in
+    let m = c.numbers-m.ensures ∙ l.invariant.0 in
     let field : (y : ℕ) → y < a.k → count_field layout c.numbers-m.result y ≡ count (λ a. a) (take l.i a.order.now) y =
     λ y lt. ap (λ t. count_field layout t y) m ∙ field_counted a.k b.requires.placed.letters (take l.i a.order.now) y few lt in
     let x = get_or a.order.now l.i 0 in
@@ -57,12 +57,11 @@ loop-i-preserved c = let b = c in
     let l = c.loop-i in
     let h : l.i < length a.log.now = omega arith in
     let x = get_or a.order.now l.i 0 in
-    let m = c.numbers-m.ensures ∙ l.invariant.1 in
+    let m = c.numbers-m.ensures ∙ l.invariant.0 in
     let t = next_taking a.k a.log.now a.whole.now a.order.now b.requires.placed.letters b.requires.placed.few b.requires.placed.below_k b.requires.arranged l.i h in
     let small = taking_small a.k a.log.now a.whole.now a.order.now b.requires.placed.letters b.requires.placed.few b.requires.placed.below_k b.requires.arranged (suc l.i) h in
     let step = c.step_cost-more.ensures ∙ ap (λ n. step_cost (λ a. a) a.log.now (count_field layout n) x) m in (
-      omega arith,
-      subst (λ n. words c.one_more-c.result ≡ packed layout (counted a.k (take n a.order.now))) (sym (add-one l.i)) (c.one_more-c.ensures ∙ ap (λ n. add_count layout n x) l.invariant.1
+      subst (λ n. words c.one_more-c.result ≡ packed layout (counted a.k (take n a.order.now))) (sym (add-one l.i)) (c.one_more-c.ensures ∙ ap (λ n. add_count layout n x) l.invariant.0
           ∙ next_counted a.k a.log.now a.whole.now a.order.now b.requires.placed.letters b.requires.placed.few b.requires.placed.below_k b.requires.arranged l.i h),
-      subst (λ n. c.plus-sum.result ≡ taking (λ a. a) a.log.now (λ x. 0) (take n a.order.now)) (sym (add-one l.i)) (c.plus-sum.ensures ∙ least_sum l.sum c.step_cost-more.result l.invariant.2 step t small),
+      subst (λ n. c.plus-sum.result ≡ taking (λ a. a) a.log.now (λ x. 0) (take n a.order.now)) (sym (add-one l.i)) (c.plus-sum.ensures ∙ least_sum l.sum c.step_cost-more.result l.invariant.1 step t small),
     )

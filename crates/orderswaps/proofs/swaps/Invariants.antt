@@ -1,4 +1,4 @@
--- `orderswaps::swaps` meets its contract. The loop's invariant: `c` and `sum` are the counts and the cost of the first i letters. The measure is what is left.
+-- `orderswaps::swaps` meets its contract. The loop's invariant: `c` and `sum` are the counts and the cost of the first i letters.
 use borrow.Author.Rules.{rules}
 use native.Mathlib.Omega.{arith}
 use Prim.Native.Nat.{ℕ, suc, ◌-◌, ◌≤◌, ◌<◌}
@@ -16,7 +16,4 @@ use Rattle.orderswaps.proofs.swaps.Given as goal
 
 abbrev pub invariant-loop-i : goal.invariant-loop-i
 invariant-loop-i l =
-    (l.i ≤ length l.log) × (words l.c ≡ packed layout (counted l.k (take l.i l.order))) × (l.sum ≡ taking (λ a. a) l.log (λ x. 0) (take l.i l.order))
-
-abbrev pub decreases-loop-i : goal.decreases-loop-i
-decreases-loop-i l = length l.log - l.i
+    (words l.c ≡ packed layout (counted l.k (take l.i l.order))) × (l.sum ≡ taking (λ a. a) l.log (λ x. 0) (take l.i l.order))
