@@ -42,9 +42,3 @@ module _ (t c : List ℕ) where
 
   pub back_end : (j : ℕ) → j ≡ 0 → High t c j → Splits t c j
   back_end j e high = record { inside = omega (arith, e); low = λ i l. absurd (omega (arith, e, l)); high = high }
-
-  pub found_here : (j : ℕ) (b : Bool) → j < records_in t → b ≡ has? t c j → b ≡ (ltb j (records_in t) && has? t c j)
-  found_here j b h e = e ∙ sym (ap (λ z. z && has? t c j) (is_true (ltb j (records_in t)) (lt→ltb j (records_in t) h)))
-
-  pub not_found : (j : ℕ) → records_in t ≤ j → false ≡ (ltb j (records_in t) && has? t c j)
-  not_found j h = sym (ap (λ z. z && has? t c j) (is_false (ltb j (records_in t)) (not_T (ltb j (records_in t)) (λ y. omega (arith, h, ltb→lt j (records_in t) y)))))

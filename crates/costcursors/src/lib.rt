@@ -15,14 +15,12 @@ pub fn forth(t: &[u32], from: usize, c: Counts) -> usize
     ensures { Ordered t.now → Splits t.now (words c) result }
 {
     let n = records::records_in(t);
-    let mut j = from;
-    while j < n {
+    for j in from..n {
         if !search::stands_before(records::counts_at(t, j), c) {
             return j;
         }
-        j += 1;
     }
-    j
+    n
 }
 
 // The first of the records in a row before record `from` that do not stand before the counts c; no record from `from` on does.
@@ -30,25 +28,19 @@ pub fn back(t: &[u32], from: usize, c: Counts) -> usize
     requires { (from ≤ records_in t.now) × High t.now (words c) from }
     ensures { Ordered t.now → Splits t.now (words c) result }
 {
-    let mut j = from;
-    while 0 < j {
-        if search::stands_before(records::counts_at(t, j - 1), c) {
-            return j;
+    for j in (0..from).rev() {
+        if search::stands_before(records::counts_at(t, j), c) {
+            return j + 1;
         }
-        j -= 1;
     }
-    j
+    0
 }
 
 // Record j has the counts c.
 pub fn stands_at(t: &[u32], j: usize, c: Counts) -> bool
     ensures { result ≡ (ltb j (records_in t.now) && has? t.now (words c) j) }
 {
-    if j < records::records_in(t) {
-        counts::same_counts(records::counts_at(t, j), c)
-    } else {
-        false
-    }
+    j < records::records_in(t) && counts::same_counts(records::counts_at(t, j), c)
 }
 
 // Where the row of record j begins in a table of costs with s cells to a row.

@@ -1,7 +1,7 @@
 use borrow.Author.Rules.{rules}
 use native.Mathlib.Omega.{arith}
-use Prim.Native.Nat.{◌-◌, ◌≤◌}
-use mathlib.Core.Path.{sym, ◌∙◌, ap}
+use Prim.Native.Nat.{◌+◌, ◌-◌, ◌≤◌}
+use mathlib.Core.Path.{◌≡◌, refl, sym, ◌∙◌, ap}
 use Rattle.counts.specs.Counts.{words}
 use Rattle.records.specs.Records.{counts_at, records_in}
 use Rattle.search.specs.Search.{stands_before?}
@@ -10,19 +10,21 @@ use Rattle.costcursors.specs.Cursors.{High}
 use Rattle.costcursors.proofs.back.Goals as goal
 
 pub loop-j-init : goal.loop-j-init
-loop-j-init c = (omega arith, c.requires.1)
+loop-j-init c = c.requires.1
 
 pub returns-then-stands_before : goal.returns-then-stands_before
 returns-then-stands_before c = let a = c.args in
     let l = c.loop-j in
-    back_stop a.t.now (words a.c) l.j (l.j - 1) (omega arith) l.invariant.0 l.invariant.1 (rw (sym (c.stands_before.ensures ∙ ap (λ v. stands_before? v (words a.c)) c.counts_at.ensures) ∙ c.if-stands_before.true) tt)
+    let e : l.j - 1 + 1 ≡ l.j = omega arith in
+    rw e (back_stop a.t.now (words a.c) l.j (l.j - 1) (omega arith) (omega (arith, l.auto.j, c.requires.0)) l.invariant (rw (sym (c.stands_before.ensures ∙ ap (λ v. stands_before? v (words a.c)) c.counts_at.ensures) ∙ c.if-stands_before.true) tt))
 
 pub loop-j-preserved : goal.loop-j-preserved
 loop-j-preserved c = let a = c.args in
     let l = c.loop-j in
-    (omega arith, back_more a.t.now (words a.c) l.j (l.j - 1) (omega arith) l.invariant.1 (rw (sym (c.stands_before.ensures ∙ ap (λ v. stands_before? v (words a.c)) c.counts_at.ensures) ∙ c.if-stands_before.false) tt))
+    back_more a.t.now (words a.c) l.j (l.j - 1) (omega arith) l.invariant (rw (sym (c.stands_before.ensures ∙ ap (λ v. stands_before? v (words a.c)) c.counts_at.ensures) ∙ c.if-stands_before.false) tt)
 
 pub returns : goal.returns
 returns c = let a = c.args in
     let l = c.loop-j in
-    λ o. back_end a.t.now (words a.c) l.j (omega arith) l.invariant.1
+    let e : l.j ≡ 0 = omega arith in
+    λ o. back_end a.t.now (words a.c) 0 refl (rw e at l.invariant)

