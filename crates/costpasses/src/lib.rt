@@ -73,15 +73,13 @@ fn from_record(
     ensures low_all { LowAll t.now j shape.k cursors.new }
     ensures by_index { (before : List ℕ) → Onward shape moves.now log.now t.now before costs.old j 0 → Onward shape moves.now log.now t.now before costs.new (suc j) 0 }
 {
-    let mut x = 0;
-    while x < shape.k {
+    for x in 0..shape.k {
         let step = Step {
             record: j,
             letter: x,
             cursor: cursors[x],
         };
         cursors[x] = lead_from(t, step, whole, shape, moves, log, starts, places, costs);
-        x += 1;
     }
 }
 
@@ -104,8 +102,7 @@ pub fn fill_there(
     let cells = costcursors::row_of(records, shape.s);
     costwrites::clear(costs, 0, cells);
     costwrites::lower(costs, shape.start, 0);
-    let mut j = 0;
-    while j < records {
+    for j in 0..records {
         from_record(
             t,
             j,
@@ -118,7 +115,6 @@ pub fn fill_there(
             &mut cursors,
             costs,
         );
-        j += 1;
     }
 }
 
@@ -174,15 +170,13 @@ fn to_record(
 {
     let row = costcursors::row_of(j, shape.s);
     costwrites::clear(costs, row, shape.s);
-    let mut x = 0;
-    while x < shape.k {
+    for x in 0..shape.k {
         let step = Step {
             record: j,
             letter: x,
             cursor: cursors[x],
         };
         cursors[x] = lead_to(t, step, whole, shape, moves, log, starts, places, costs);
-        x += 1;
     }
 }
 
@@ -206,9 +200,7 @@ pub fn fill_rest(
     let end = costcursors::row_of(last, shape.s);
     costwrites::clear(costs, end, shape.s);
     costwrites::lower_all(costs, end, shape.s, shape.finals, 0);
-    let mut j = last;
-    while 0 < j {
-        j -= 1;
+    for j in (0..last).rev() {
         to_record(
             t,
             j,

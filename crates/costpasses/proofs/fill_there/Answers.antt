@@ -42,7 +42,6 @@ loop-j-init c =
     let b = c in
     let a = b.args in
     let n = c.records_in-records.ensures in (
-      omega arith,
       n,
       c.numbers-whole.ensures ∙ c.counts_at.ensures ∙ ap (λ m. counts_at a.t.now (m - 1)) n,
       refl,
@@ -58,20 +57,19 @@ loop-j-preserved c =
     let l = c.loop-j in
     let f = c.from_record in
     let one = add-one l.j in (
-      omega arith,
+      l.invariant.0,
       l.invariant.1,
-      l.invariant.2,
-      f.auto.cursors ∙ l.invariant.3,
+      f.auto.cursors ∙ l.invariant.2,
       (λ lt. subst (λ n. LowAll a.t.now n a.shape.k f.new.cursors) (sym one)
           (low_record a.shape a.moves.now a.t.now a.log.now a.starts.now a.places.now a.costs.now b.requires l.j (subst (λ n. n < records_in a.t.now) one lt) f.new.cursors f.ensures.low_all)),
-      f.auto.costs ∙ l.invariant.5,
+      f.auto.costs ∙ l.invariant.4,
       λ before o. subst (λ n. Onward a.shape a.moves.now a.log.now a.t.now before f.new.costs n 0) (sym one)
-          (f.ensures.by_index before (l.invariant.6 before o)),
+          (f.ensures.by_index before (l.invariant.5 before o)),
     )
 
 pub shape_of-costs : goal.shape_of-costs
 shape_of-costs c =
-    c.loop-j.invariant.5 ∙ c.lower.auto.costs ∙ c.clear.auto.costs
+    c.loop-j.invariant.4 ∙ c.lower.auto.costs ∙ c.clear.auto.costs
 
 pub returns : goal.returns
 returns c =
@@ -82,7 +80,7 @@ returns c =
     (subst (λ m. Cleared a.costs.now c.clear.new.costs 0 m) (c.row_of-cells.ensures ∙ ap (λ m. m * a.shape.s) c.records_in-records.ensures) c.clear.ensures)
     c.lower.ensures b.requires.room in
     λ masks may letter w g. onward_fills a.shape masks a.moves.now may letter w a.t.now a.log.now a.starts.now a.places.now g
-    a.costs.now l.costs l.j 0 (omega (arith, l.invariant.1)) (l.invariant.6 a.costs.now begun)
+    a.costs.now l.costs l.j 0 (omega (arith, l.invariant.0)) (l.invariant.5 a.costs.now begun)
 
 pub row_of-cells-requires : goal.row_of-cells-requires
 row_of-cells-requires c =
@@ -95,8 +93,8 @@ from_record-requires c =
     let b = c in
     let a = b.args in
     let l = c.loop-j in
-    let lt : l.j < records_in a.t.now = omega (arith, l.invariant.1) in record {
-      given = given_as_long a.shape a.moves.now a.t.now a.log.now a.starts.now a.places.now a.costs.now l.costs (l.invariant.5 ∙ c.lower.auto.costs ∙ c.clear.auto.costs) b.requires;
-      whole_value = l.invariant.2;
-      j_bound = (lt, l.invariant.3, l.invariant.4 lt);
+    let lt : l.j < records_in a.t.now = omega (arith, l.invariant.0) in record {
+      given = given_as_long a.shape a.moves.now a.t.now a.log.now a.starts.now a.places.now a.costs.now l.costs (l.invariant.4 ∙ c.lower.auto.costs ∙ c.clear.auto.costs) b.requires;
+      whole_value = l.invariant.1;
+      j_bound = (lt, l.invariant.2, l.invariant.3 lt);
     }

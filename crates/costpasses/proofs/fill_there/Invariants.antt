@@ -1,5 +1,4 @@
--- `costpasses::fill_there` meets its contract. The loop's invariant: the letters of the records before j have led on, and each cursor stands right. The measure is the
--- records that are left.
+-- `costpasses::fill_there` meets its contract. The loop's invariant: the letters of the records before j have led on, and each cursor stands right.
 use borrow.Author.Rules.{rules}
 use native.Mathlib.Omega.{arith}
 use native.Mathlib.Numerals.{add-one}
@@ -17,9 +16,6 @@ use Rattle.costpasses.proofs.fill_there.Given as goal
 
 abbrev pub invariant-loop-j : goal.invariant-loop-j
 invariant-loop-j l =
-    (l.j ≤ l.records) × (l.records ≡ records_in l.t) × (l.whole ≡ counts_at l.t (records_in l.t - 1)) × (length l.cursors ≡ most_letters)
+    (l.records ≡ records_in l.t) × (l.whole ≡ counts_at l.t (records_in l.t - 1)) × (length l.cursors ≡ most_letters)
     × (l.j < records_in l.t → LowAll l.t l.j l.shape.k l.cursors) × (length l.costs ≡ length l.initial.costs)
     × ((before : List ℕ) → Onward l.shape l.moves l.log l.t before l.initial.costs 0 0 → Onward l.shape l.moves l.log l.t before l.costs l.j 0)
-
-abbrev pub decreases-loop-j : goal.decreases-loop-j
-decreases-loop-j l = l.records - l.j

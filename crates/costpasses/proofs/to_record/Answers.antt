@@ -14,11 +14,11 @@ use Rattle.costpasses.proofs.to_record.Goals as goal
 
 pub bounds-cursors-x : goal.bounds-cursors-x
 bounds-cursors-x c =
-    omega (arith, c.requires.given.lent.records.letters, c.loop-x.invariant.2)
+    omega (arith, c.requires.given.lent.records.letters, c.loop-x.invariant.1)
 
 pub bounds-cursors-x-in-loop-x : goal.bounds-cursors-x-in-loop-x
 bounds-cursors-x-in-loop-x c =
-    omega (arith, c.requires.given.lent.records.letters, c.loop-x.invariant.2)
+    omega (arith, c.requires.given.lent.records.letters, c.loop-x.invariant.1)
 
 pub loop-x-preserved : goal.loop-x-preserved
 loop-x-preserved c =
@@ -26,18 +26,17 @@ loop-x-preserved c =
     let a = b.args in
     let l = c.loop-x in
     let f = c.lead_to in
-    let lt : l.x < length l.cursors = omega (arith, b.requires.given.lent.records.letters, l.invariant.2) in (
-      omega arith,
-      f.auto.costs ∙ l.invariant.1,
-      length-set l.cursors l.x f.result ∙ l.invariant.2,
-      high_set a.t.now a.j a.shape.k l.x f.result l.cursors f.ensures.splits lt l.invariant.3,
+    let lt : l.x < length l.cursors = omega (arith, b.requires.given.lent.records.letters, l.invariant.1) in (
+      f.auto.costs ∙ l.invariant.0,
+      length-set l.cursors l.x f.result ∙ l.invariant.1,
+      high_set a.t.now a.j a.shape.k l.x f.result l.cursors f.ensures.splits lt l.invariant.2,
       λ before o. subst (λ n. Backward a.shape a.moves.now a.log.now a.t.now before f.new.costs a.j n) (sym (add-one l.x))
-          (f.ensures.by_index before (l.invariant.4 before o)),
+          (f.ensures.by_index before (l.invariant.3 before o)),
     )
 
 pub shape_of-costs : goal.shape_of-costs
 shape_of-costs c =
-    c.loop-x.invariant.1 ∙ c.clear.auto.costs
+    c.loop-x.invariant.0 ∙ c.clear.auto.costs
 
 pub row_of-row-requires : goal.row_of-row-requires
 row_of-row-requires c =
@@ -56,7 +55,7 @@ clear-requires c =
 pub loop-x-init : goal.loop-x-init
 loop-x-init c =
     let b = c in
-    (omega arith, refl, b.requires.j_bound.1, b.requires.j_bound.2, λ before o. o)
+    (refl, b.requires.j_bound.1, b.requires.j_bound.2, λ before o. o)
 
 pub lead_to-requires : goal.lead_to-requires
 lead_to-requires c =
@@ -64,9 +63,9 @@ lead_to-requires c =
     let a = b.args in
     let l = c.loop-x in
     let lt : l.x < a.shape.k = omega arith in record {
-      given = given_as_long a.shape a.moves.now a.t.now a.log.now a.starts.now a.places.now a.costs.now l.costs (l.invariant.1 ∙ c.clear.auto.costs) b.requires.given;
+      given = given_as_long a.shape a.moves.now a.t.now a.log.now a.starts.now a.places.now a.costs.now l.costs (l.invariant.0 ∙ c.clear.auto.costs) b.requires.given;
       whole_value = b.requires.whole_value;
-      record_bound = (omega (arith, b.requires.j_bound.0), lt, (l.invariant.3 l.x lt).0, (l.invariant.3 l.x lt).1);
+      record_bound = (omega (arith, b.requires.j_bound.0), lt, (l.invariant.2 l.x lt).0, (l.invariant.2 l.x lt).1);
     }
 
 pub returns : goal.returns
@@ -77,8 +76,8 @@ returns c =
     let all : l.x ≡ a.shape.k = omega arith in
     let cleared : Cleared a.costs.now c.clear.new.costs (a.j * a.shape.s) a.shape.s =
     subst (λ m. Cleared a.costs.now c.clear.new.costs m a.shape.s) c.row_of-row.ensures c.clear.ensures in record {
-      high_all = l.invariant.3;
+      high_all = l.invariant.2;
       by_index = λ before o. subst (λ n. Backward a.shape a.moves.now a.log.now a.t.now before l.costs a.j n) all
-          (l.invariant.4 before (backward_row a.shape a.moves.now a.log.now a.t.now (given_laid a.shape a.moves.now a.t.now a.log.now a.starts.now a.places.now a.costs.now b.requires.given) before a.costs.now c.clear.new.costs a.j a.shape.k
+          (l.invariant.3 before (backward_row a.shape a.moves.now a.log.now a.t.now (given_laid a.shape a.moves.now a.t.now a.log.now a.starts.now a.places.now a.costs.now b.requires.given) before a.costs.now c.clear.new.costs a.j a.shape.k
           (omega arith) b.requires.j_bound.0 cleared o));
     }

