@@ -5,16 +5,19 @@ use mathlib.Core.Logic.{⊎_elim}
 use mathlib.Core.List.{List, [], ◌∷◌}
 use Prim.Native.Nat.{ℕ, zero, suc, ◌+◌, ◌-◌, ◌≤◌, ◌<◌}
 use native.Mathlib.Omega.{arith}
-use lib.Dec.{T, eqb, leb}
+use lib.Dec.{T, eqb, leb, not_T}
 use borrow.Author.Tests.{eq-eqb, le-leb, lt-leb, ne_eqb}
 use lib.ListN.{length, get_or, drop, length-drop, drop_of_length-le}
 use lib.Seq.{drop-cons, drop-drop, get_or-drop}
+use Rattle.std.specs.Bool.{MatchBool}
+use Rattle.std.specs.List.{AllWithin, HoldsAt, range_with_len}
+use Rattle.std.proofs.lemmas.List.FromFn.{get_or-range_with_len, length-range_with_len}
 use Rattle.profile.specs.Lists.{all, below, equal?, filter, first_place, range}
 use Rattle.profile.specs.Orders.{project, same?}
 use Rattle.profile.specs.Traces.{independent}
 use Rattle.comparison.specs.Comparison.{pair_agrees?}
 use Rattle.theory.proofs.FirstPlaces.{first_no, first_passes, first_yes}
-use Rattle.profile.proofs.Lists.{all_at, all_of, below_at, below_of, both, filter_agree, filter_no, filter_yes, fst_of, lt_or_le, snd_of}
+use Rattle.profile.proofs.Lists.{all_at, all_of, below_at, below_of, both, filter_agree, filter_no, filter_yes, fst_of, is_false, is_true, lt_or_le, snd_of}
 use Rattle.profile.proofs.Sets.{t_eq}
 
 module _ (p : ℕ → Bool) where
@@ -95,32 +98,7 @@ module _ (p : ℕ → Bool) where
 abbrev pub kept? : ℕ → ℕ → ℕ → Bool
 kept? x y a = eqb a x || eqb a y
 
-pub kept_first : (x y a : ℕ) → a ≡ x → kept? x y a ≡ true
-kept_first x y a e = ap (λ b. b || eqb a y) (eq-eqb a x e)
-
-pub kept_second : (x y a : ℕ) → a ≡ y → kept? x y a ≡ true
-kept_second x y a e = or_comm (eqb a x) (eqb a y) ∙ ap (λ b. b || eqb a x) (eq-eqb a y e)
-
-pub kept_not : (x y a : ℕ) → (a ≡ x → ⊥) → (a ≡ y → ⊥) → kept? x y a ≡ false
-kept_not x y a d e = ap₂ (λ b c. b || c) (ne_eqb a x d) (ne_eqb a y e)
-
--- ---- a test of all numbers from a on, below k
-
-module _ (p : ℕ → Bool) (k a : ℕ) where
-  range_step : a < k → all p (range a (k - a)) ≡ (p a && all p (range (a + 1) (k - (a + 1))))
-  range_step h =
-      let e : k - a ≡ suc (k - (a + 1)) = omega arith in
-      let n : suc a ≡ a + 1 = omega arith in
-      ap (λ m. all p (range a m)) e ∙ ap (λ m. p a && all p (range m (k - (a + 1)))) n
-
-  pub range_yes : a < k → p a ≡ true → all p (range a (k - a)) ≡ all p (range (a + 1) (k - (a + 1)))
-  range_yes h e = range_step h ∙ ap (λ b. b && all p (range (a + 1) (k - (a + 1)))) e
-
-  pub range_no : a < k → p a ≡ false → all p (range a (k - a)) ≡ false
-  range_no h e = range_step h ∙ ap (λ b. b && all p (range (a + 1) (k - (a + 1)))) e
-
-  pub range_end : k ≤ a → all p (range a (k - a)) ≡ true
-  range_end h = let e : k - a ≡ 0 = omega arith in ap (λ m. all p (range a m)) e
+-- ---- a test of all numbers from a on
 
 all_range_at : (p : ℕ → Bool) (n a : ℕ) → T (all p (range a n)) → (y : ℕ) → a ≤ y → y < a + n → T (p y)
 all_range_at p zero a t y h k = absurd (omega arith)
@@ -132,6 +110,19 @@ all_range_of : (p : ℕ → Bool) (n a : ℕ) → ((y : ℕ) → a ≤ y → y <
 all_range_of p zero a f = tt
 all_range_of p (suc n) a f =
     both (p a) (all p (range (suc a) n)) (f a (omega arith) (omega arith)) (all_range_of p n (suc a) (λ y h k. f y (omega arith) (omega arith)))
+
+-- so a chain's `all` answers
+pub all_answer : (p : ℕ → Bool) (a n : ℕ) (b : Bool)
+    → MatchBool b (AllWithin (λ y. p y ≡ true) (range_with_len a n) 0 (length (range_with_len a n)))
+    ((k : ℕ) × (k < length (range_with_len a n)) × HoldsAt (λ y. p y ≡ false) (range_with_len a n) k)
+    → b ≡ all p (range a n)
+all_answer p a n true h = sym (is_true (all p (range a n)) (all_range_of p n a (λ y l m.
+    let e : get_or (range_with_len a n) (y - a) 0 ≡ y = omega (arith, get_or-range_with_len a n (y - a) 0 (omega arith)) in
+    subst T (sym (ap p (sym e) ∙ h (y - a) 0 (omega arith) (omega (arith, length-range_with_len a n)))) tt)))
+all_answer p a n false h = sym (is_false (all p (range a n)) (not_T (all p (range a n)) (λ t.
+    let lt : h.0 < n = omega (arith, h.1, length-range_with_len a n) in
+    let e : get_or (range_with_len a n) h.0 0 ≡ a + h.0 = get_or-range_with_len a n h.0 0 lt in
+    subst T (ap p (sym e) ∙ h.2 0) (all_range_at p n a t (a + h.0) (omega arith) (omega arith)))))
 
 -- a test of pairs that holds of x, y as of y, x: one order of each pair is enough
 half_pairs : (p : ℕ → ℕ → Bool) → ((x y : ℕ) → p x y ≡ p y x) → (k : ℕ)

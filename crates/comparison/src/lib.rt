@@ -16,22 +16,23 @@ pub struct RefusedLog {
     pub log: usize,
 }
 
+// The letter is x or y.
+fn is_kept(a: u8, x: usize, y: usize) -> bool
+    ensures { result ≡ (eqb a x || eqb a y) }
+{
+    a as usize == x || a as usize == y
+}
+
 // The first place from `from` on with the letter x or y; the log's end where there is none.
 fn next_kept(log: &[u8], from: usize, x: usize, y: usize) -> usize
     ensures { result ≡ from + first_place (λ a. eqb a x || eqb a y) (drop from log.now) }
 {
-    let mut i = from;
-    while i < log.len() {
-        let a = log[i] as usize;
-        if a == x {
+    for i in from..log.len() {
+        if is_kept(log[i], x, y) {
             return i;
         }
-        if a == y {
-            return i;
-        }
-        i += 1;
     }
-    i
+    from.max(log.len())
 }
 
 // The two logs are equal where only the letters x and y are kept.
@@ -59,40 +60,22 @@ fn agree(first: &[u8], second: &[u8], x: usize, y: usize) -> bool
 fn pair_agrees(masks: &[u16], first: &[u8], second: &[u8], x: usize, y: usize) -> bool
     ensures { result ≡ pair_agrees? masks.now first.now second.now x y }
 {
-    if commutation::independent(masks, x, y) {
-        if commutation::independent(masks, y, x) {
-            return true;
-        }
-    }
-    agree(first, second, x, y)
+    let mutual = commutation::independent(masks, x, y) && commutation::independent(masks, y, x);
+    mutual || agree(first, second, x, y)
 }
 
 // So for x and every letter from x to k - 1; x with itself is the projection to one letter.
 fn pairs_agree(k: usize, masks: &[u16], first: &[u8], second: &[u8], x: usize) -> bool
     ensures { result ≡ all (pair_agrees? masks.now first.now second.now x) (range x (k - x)) }
 {
-    let mut y = x;
-    while y < k {
-        if !pair_agrees(masks, first, second, x, y) {
-            return false;
-        }
-        y += 1;
-    }
-    true
+    (x..k).all(|y| pair_agrees(masks, first, second, x, y))
 }
 
 // The logs are the same: the projections to all pairs of letters that are not exchanged both ways agree.
 fn all_agree(k: usize, masks: &[u16], first: &[u8], second: &[u8]) -> bool
     ensures { result ≡ same? (independent masks.now) k first.now second.now }
 {
-    let mut x = 0;
-    while x < k {
-        if !pairs_agree(k, masks, first, second, x) {
-            return false;
-        }
-        x += 1;
-    }
-    true
+    (0..k).all(|x| pairs_agree(k, masks, first, second, x))
 }
 
 // Whether each log is reachable from the other; refused by 2 and 4, then by 7 and 8 of the first log, then of the second.

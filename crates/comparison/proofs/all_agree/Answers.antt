@@ -1,30 +1,15 @@
-use Prim.Native.Nat.{◌-◌}
-use mathlib.Core.Path.{◌≡◌, sym, ◌∙◌, ap}
-use Rattle.profile.specs.Lists.{all, range}
-use Rattle.comparison.proofs.Projections.{from_letter, range_end, range_no, range_yes, same_half}
-use native.Mathlib.Omega.{arith}
+-- `comparison::all_agree` meets its contract: one order of each pair is enough, and the chain stops at the first letter on which the logs do not agree.
+use Rattle.std.proofs.Common.{arith, rules}
+use mathlib.Core.Path.{◌≡◌, sym, ◌∙◌}
+use mathlib.Core.Bool.{true, false}
+use Rattle.std.proofs.lemmas.Iterator.{YieldsList-from_range, cases_from_all}
+use Rattle.comparison.proofs.Projections.{all_answer, from_letter, same_half}
 use Rattle.comparison.proofs.all_agree.Goals as goal
-
-pub loop-x-init : goal.loop-x-init
-loop-x-init c = let a = c.args in let e : a.k ≡ a.k - 0 = omega arith in ap (λ n. all (from_letter a.k a.masks.now a.first.now a.second.now) (range 0 n)) e
 
 pub returns : goal.returns
 returns c =
     let a = c.args in
-    let l = c.loop-x in
-    let q = from_letter a.k a.masks.now a.first.now a.second.now in
-    sym (same_half a.k a.masks.now a.first.now a.second.now ∙ l.invariant ∙ range_end q a.k l.x (omega arith))
-
-pub returns-then-not-pairs_agree : goal.returns-then-not-pairs_agree
-returns-then-not-pairs_agree c =
-    let a = c.args in
-    let l = c.loop-x in
-    let q = from_letter a.k a.masks.now a.first.now a.second.now in
-    sym (same_half a.k a.masks.now a.first.now a.second.now ∙ l.invariant ∙ range_no q a.k l.x (omega arith) (sym c.pairs_agree.ensures ∙ c.if-not-pairs_agree.true))
-
-pub loop-x-preserved : goal.loop-x-preserved
-loop-x-preserved c =
-    let a = c.args in
-    let l = c.loop-x in
-    let q = from_letter a.k a.masks.now a.first.now a.second.now in
-    l.invariant ∙ range_yes q a.k l.x (omega arith) (sym c.pairs_agree.ensures ∙ c.if-not-pairs_agree.false)
+    let p = from_letter a.k a.masks.now a.first.now a.second.now in
+    all_answer p 0 a.k c.all.result
+    (cases_from_all _ _ _ (λ x. p x ≡ true) (λ x. p x ≡ false) c.all.ensures.ran (YieldsList-from_range 0 a.k a.k (search rules) (omega arith)) (λ x q k. search rules) (λ x q k. search rules))
+    ∙ sym (same_half a.k a.masks.now a.first.now a.second.now)

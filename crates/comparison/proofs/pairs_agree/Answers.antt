@@ -1,29 +1,16 @@
-use mathlib.Core.Path.{refl, sym, ◌∙◌}
+-- `comparison::pairs_agree` meets its contract: the chain stops at the first letter on which the logs do not agree.
+use Rattle.std.proofs.Common.{arith, rules}
+use mathlib.Core.Path.{◌≡◌}
+use mathlib.Core.Bool.{true, false}
+use Prim.Native.Nat.{◌-◌}
+use Rattle.std.proofs.lemmas.Iterator.{YieldsList-from_range, cases_from_all}
 use Rattle.comparison.specs.Comparison.{pair_agrees?}
-use Rattle.comparison.proofs.Projections.{range_end, range_no, range_yes}
-use native.Mathlib.Omega.{arith}
+use Rattle.comparison.proofs.Projections.{all_answer}
 use Rattle.comparison.proofs.pairs_agree.Goals as goal
-
-pub loop-y-init : goal.loop-y-init
-loop-y-init c = refl
 
 pub returns : goal.returns
 returns c =
     let a = c.args in
-    let l = c.loop-y in
     let p = pair_agrees? a.masks.now a.first.now a.second.now a.x in
-    sym (l.invariant ∙ range_end p a.k l.y (omega arith))
-
-pub returns-then-not-pair_agrees : goal.returns-then-not-pair_agrees
-returns-then-not-pair_agrees c =
-    let a = c.args in
-    let l = c.loop-y in
-    let p = pair_agrees? a.masks.now a.first.now a.second.now a.x in
-    sym (l.invariant ∙ range_no p a.k l.y (omega arith) (sym c.pair_agrees.ensures ∙ c.if-not-pair_agrees.true))
-
-pub loop-y-preserved : goal.loop-y-preserved
-loop-y-preserved c =
-    let a = c.args in
-    let l = c.loop-y in
-    let p = pair_agrees? a.masks.now a.first.now a.second.now a.x in
-    l.invariant ∙ range_yes p a.k l.y (omega arith) (sym c.pair_agrees.ensures ∙ c.if-not-pair_agrees.false)
+    all_answer p a.x (a.k - a.x) c.all.result
+    (cases_from_all _ _ _ (λ y. p y ≡ true) (λ y. p y ≡ false) c.all.ensures.ran (YieldsList-from_range a.x a.k (a.k - a.x) (search rules) (omega arith)) (λ y q k. search rules) (λ y q k. search rules))
