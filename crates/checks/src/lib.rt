@@ -59,16 +59,13 @@ pub fn set_from(set: u32, n: usize) -> bool
 fn mask_refused(k: usize, masks: &[u16]) -> bool
     ensures { result ≡ mask_bit k masks.now }
 {
-    let mut i = 0;
-    while i < masks.len() {
-        let mask = masks[i];
-        if set_from(mask as u32, k) {
+    for (i, mask) in masks.iter().enumerate() {
+        if set_from(*mask as u32, k) {
             return true;
         }
         if commutation::independent(masks, i, i) {
             return true;
         }
-        i += 1;
     }
     false
 }
@@ -77,15 +74,7 @@ fn mask_refused(k: usize, masks: &[u16]) -> bool
 fn move_refused(moves: &[u32], s: usize) -> bool
     ensures { result ≡ any (bit_from s) moves.now }
 {
-    let mut i = 0;
-    while i < moves.len() {
-        let set = moves[i];
-        if set_from(set, s) {
-            return true;
-        }
-        i += 1;
-    }
-    false
+    moves.iter().any(|set| set_from(*set, s))
 }
 
 // 6: a move or the final set with a bit from s on.

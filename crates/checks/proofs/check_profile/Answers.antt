@@ -1,8 +1,7 @@
 -- `checks::check_profile` meets its contract: the condition of 2, then that of 4, then that of 6.
-use borrow.Author.Rules.{rules}
 use mathlib.Core.Path.{◌≡◌, sym, ◌∙◌}
 use mathlib.Core.Bool.{false}
-use Rattle.profile.specs.Automata.{Profile, profile_of}
+use Rattle.profile.specs.Automata.{profile_of}
 use Rattle.profile.specs.Refusals.{mask_bit, profile_out_of_range}
 use Rattle.checks.proofs.check_profile.Goals as goal
 use Rattle.checks.proofs.check_profile.Goals.{Else-mask_refused, Else-profile_out_of_range}

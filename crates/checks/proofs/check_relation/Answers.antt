@@ -1,5 +1,4 @@
 -- `checks::check_relation` meets its contract: the condition of 2, then that of 4.
-use borrow.Author.Rules.{rules}
 use mathlib.Core.Path.{sym, ◌∙◌}
 use Rattle.checks.proofs.check_relation.Goals as goal
 

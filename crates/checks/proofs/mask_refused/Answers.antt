@@ -1,11 +1,8 @@
-use borrow.Author.Rules.{rules}
 use borrow.Author.Count.{below_more, below_none}
 use mathlib.Core.Path.{◌≡◌, sym, ◌∙◌}
-use mathlib.Core.Bool.{false, ◌||◌}
-use Prim.Native.Nat.{ℕ, ◌≤◌, ◌<◌, ◌-◌}
+use mathlib.Core.Bool.{false}
 use native.Mathlib.Omega.{arith}
-use lib.ListN.{length, get_or}
-use Rattle.profile.specs.Traces.{independent}
+use lib.ListN.{get_or}
 use Rattle.profile.specs.Refusals.{bit_from}
 use Rattle.checks.proofs.Loops.{any_none_below, any_some_below}
 use Rattle.checks.proofs.mask_refused.Goals as goal
@@ -17,7 +14,7 @@ inside : (c : Else-set_from)
 inside c = sym c.set_from.ensures ∙ c.if-set_from.false
 
 pub loop-i-init : goal.loop-i-init
-loop-i-init c = (omega arith, below_none _)
+loop-i-init c = below_none _
 
 pub overflow_cast-mask : goal.overflow_cast-mask
 overflow_cast-mask c = omega (arith, c.type_inv.masks c.loop-i.i)
@@ -37,7 +34,7 @@ pub loop-i-preserved : goal.loop-i-preserved
 loop-i-preserved c =
     let b = c in
     let e = sym c.independent.ensures ∙ c.if-independent.false in
-    (omega arith, below_more _ _ b.loop-i.invariant.1 (rw (inside (goal.at.loop-i-preserved c).Else-set_from, e)))
+    below_more _ _ b.loop-i.invariant (rw (inside (goal.at.loop-i-preserved c).Else-set_from, e))
 
 pub returns : goal.returns
-returns c = sym (any_none_below _ _ _ c.loop-i-test.false c.loop-i.invariant.1)
+returns c = sym (any_none_below _ _ _ c.loop-i-test.false c.loop-i.invariant)

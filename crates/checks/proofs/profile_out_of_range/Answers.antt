@@ -1,5 +1,4 @@
 -- `checks::profile_out_of_range` meets its contract. The product is that of s at most 32 and k at most 16.
-use borrow.Author.Rules.{rules}
 use borrow.Author.Tests.{le-leb, le-ltb, lt-leb, lt-ltb}
 use mathlib.Core.Path.{◌≡◌, sym, ◌∙◌}
 use mathlib.Core.Bool.{false}

@@ -1,5 +1,4 @@
 -- `checks::set_from` meets its contract: a bit from n on by a shift; a set has no bit from 32 on.
-use borrow.Author.Rules.{rules}
 use borrow.Author.Tests.{lt-leb}
 use mathlib.Core.Path.{sym}
 use Prim.Native.Nat.{◌<◌, ◌^◌}

@@ -1,5 +1,4 @@
 -- `checks::states_refused` meets its contract.
-use borrow.Author.Rules.{rules}
 use mathlib.Core.Path.{sym, ◌∙◌}
 use Rattle.checks.proofs.states_refused.Goals as goal
 
