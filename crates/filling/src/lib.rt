@@ -33,9 +33,7 @@ fn fill_column(
     requires j_lt_records { (j < records) × (records * records ≤ length sets.old) × Known k masks.now rules.now log.now records sets.old j j }
     ensures { Known k masks.now rules.now log.now records sets.new (j + 1) (j + 1) }
 {
-    let mut i = j;
-    while 0 < i {
-        i -= 1;
+    for i in (0..j).rev() {
         let set = cell(table, k, masks, rules, log, sets, records, i, j);
         put_pair(sets, records, i, j, set);
     }
@@ -55,9 +53,7 @@ pub fn fill_sets(
     requires records_in_bounds { records * records ≤ length sets.old }
     ensures { AllKnown k masks.now rules.now log.now records sets.new }
 {
-    let mut j = 1;
-    while j < records {
+    for j in 1..records {
         fill_column(table, k, masks, rules, log, sets, records, j);
-        j += 1;
     }
 }

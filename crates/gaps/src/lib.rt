@@ -1,7 +1,7 @@
 // How the prefixes of two records stand to each other: document 02, Paper 13, "each pair of prefixes".
 #![tactic(auto)]
 
-ghost use Rattle.std.specs.Prelude.{◌≡◌, ℕ, ◌+◌, ◌*◌, ◌≤◌, ◌<◌, length};
+ghost use Rattle.std.specs.Prelude.{◌≡◌, ℕ, ◌+◌, ◌*◌, ◌≤◌, ◌<◌, length, MatchOption};
 ghost use Rattle.profile.specs.Limits.{most_letters};
 ghost use Rattle.profile.specs.Prefixes.{total};
 ghost use Rattle.profile.specs.Tables.{count_field, layout, record_length};
@@ -20,20 +20,18 @@ pub enum Gap {
     Apart,
 }
 
-// The first letter of which e has more than c; k where there is none.
-fn grown(c: &[u32; COUNT_NUMBERS], e: &[u32; COUNT_NUMBERS], k: usize) -> usize
+// The first letter of which e has more than c.
+fn grown(c: &[u32; COUNT_NUMBERS], e: &[u32; COUNT_NUMBERS], k: usize) -> Option<usize>
     requires { k ≤ most_letters }
-    ensures { (result ≤ k) × (result < k → count_field layout c.now result < count_field layout e.now result)
-        × ((x : ℕ) → x < result → count_field layout e.now x ≤ count_field layout c.now x) }
+    ensures { MatchOption result ((x : ℕ) → x < k → count_field layout e.now x ≤ count_field layout c.now x)
+        (λ a. (a < k) × (count_field layout c.now a < count_field layout e.now a) × ((x : ℕ) → x < a → count_field layout e.now x ≤ count_field layout c.now x)) }
 {
-    let mut x = 0;
-    while x < k {
+    for x in 0..k {
         if count_of(c, x) < count_of(e, x) {
-            return x;
+            return Some(x);
         }
-        x += 1;
     }
-    x
+    None
 }
 
 // How the counts c stand to the counts e.
@@ -42,18 +40,21 @@ fn gap_of(c: &[u32; COUNT_NUMBERS], e: &[u32; COUNT_NUMBERS], k: usize) -> Gap
     ensures { GapIs k (count_field layout c.now) (count_field layout e.now) result }
 {
     let mut events = 0usize;
-    let mut x = 0;
-    while x < k {
+    for x in 0..k {
         let p = count_of(c, x);
         let q = count_of(e, x);
         if q < p {
             return Gap::Outside;
         }
         events += q - p;
-        x += 1;
     }
     if events == 1 {
-        Gap::Letter(grown(c, e, k))
+        match grown(c, e, k) {
+            Some(a) => Gap::Letter(a),
+
+            // Not met: of the letter of one event e has more.
+            None => Gap::Apart,
+        }
     } else {
         Gap::Apart
     }

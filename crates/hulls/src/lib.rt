@@ -13,11 +13,9 @@ pub fn put_hulls(table: &mut [u32], records: usize, s: usize, reach: &[u32])
     requires { (record_length layout * records ≤ length table.old) × (s ≤ most_states) }
     ensures { table.new ≡ hulled s reach.now records table.old }
 {
-    let mut j = 0;
-    while j < records {
+    for j in 0..records {
         let at = RECORD_NUMBERS * j + COUNT_NUMBERS;
         let to = steps::step_forward(reach, 1, s, table[at], 0);
         table[at] = to;
-        j += 1;
     }
 }

@@ -22,9 +22,7 @@ fn gather(row: &[u16], column: &[u16], i: usize, j: usize, acc: &mut [u16])
     requires { (most_names ≤ length acc.old) × (i < j) × (j ≤ length row.now) × (j ≤ length column.now) }
     ensures { Gathered row.now column.now (i + 1) j acc.old acc.new }
 {
-    let mut m = i;
-    while m + 1 < j {
-        m += 1;
+    for m in i + 1..j {
         rulesets::spread(row[m], column[m], acc);
     }
 }

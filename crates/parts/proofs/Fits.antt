@@ -1,19 +1,23 @@
 -- A rule that gives a name two names, the first of one set and the second of another.
 use mathlib.Core.Path.{◌≡◌, refl, sym, ◌∙◌, ap, subst}
-use mathlib.Core.Bool.{◌&&◌}
+use mathlib.Core.Bool.{Bool, true, false, cond, ◌&&◌}
 use mathlib.Core.List.{List}
-use Prim.Native.Nat.{ℕ, ◌≤◌, ◌<◌}
+use Prim.Native.Nat.{ℕ, suc, ◌+◌}
 use native.Mathlib.Omega.{arith}
-use lib.Dec.{T, eqb, eqb→eq, ltb→lt}
+use lib.Dec.{T, eqb, ltb, eqb→eq}
 use lib.ListN.{get_or, length}
-use Rattle.profile.specs.Lists.{Mem, any}
+use Rattle.std.specs.Prelude.{None, Some, position}
+use Rattle.std.specs.List.{position_or_len}
+use Rattle.std.proofs.lemmas.Option.{none-some}
+use Rattle.std.proofs.lemmas.List.Quantifiers.{position-Some}
+use Rattle.std.proofs.lemmas.List.Recursion.{is_position_or_len}
+use Rattle.profile.specs.Lists.{Mem, any, first_place}
 use Rattle.profile.specs.Traces.{bit}
-use Rattle.profile.proofs.Lists.{any_at, any_of, both, fst_of, mem_getd, snd_of}
+use Rattle.profile.proofs.Lists.{any_at, any_of, both, fst_of, is_true, mem_getd, snd_of}
 use Rattle.logcheck.proofs.Search.{any_first}
-use Rattle.theory.proofs.FirstPlaces.{first_passes}
 use Rattle.grammars.specs.Grammars.{first_of, gives_two?, grammar_of, kind_of, name_of, second_of}
 use Rattle.grammars.proofs.Rules.{eq_test, two_test}
-use Rattle.rulesets.specs.Rulesets.{first_fitting, fits?}
+use Rattle.rulesets.specs.Rulesets.{fits?}
 
 pub fits_at : (rules : List ℕ) (n x y z : ℕ) → Mem z rules → T (fits? n x y z) → T ((grammar_of rules).two n (first_of z) (second_of z)) × T (bit x (first_of z)) × T (bit y (second_of z))
 fits_at rules n x y z i t =
@@ -45,15 +49,24 @@ fits_of rules n x y l r t a b =
     any_of (fits? n x y) u.1 (both k (m && (f && s)) (eq_test (kind_of z) 1 g.kind) (both m (f && s) (eq_test (name_of z) n g.name)
     (both f s (subst (λ j. T (bit x j)) (sym g.first) a) (subst (λ j. T (bit y j)) (sym g.second) b))))
 
--- where the search ends at the rules' end, none fits
-pub none_fits : (rules : List ℕ) (n x y l r : ℕ) → length rules ≤ first_fitting rules n x y → T ((grammar_of rules).two n l r) → T (bit x l) → T (bit y r) → ⊥
-none_fits rules n x y l r h t a b =
-    let k = ltb→lt (first_fitting rules n x y) (length rules) (subst T (any_first (fits? n x y) rules) (fits_of rules n x y l r t a b)) in
-    omega arith
+-- a list with an element that passes has a first place where one does
+no_place : (p : ℕ → Bool) (l : List ℕ) → None ≡ position p l → T (any p l) → ⊥
+no_place p l e t =
+    let q : first_place p l ≡ position_or_len p l = is_position_or_len (first_place p) p refl (λ x xs. step (p x) (first_place p xs)) l in
+    let lt : T (ltb (position_or_len p l) (length l)) = subst (λ n. T (ltb n (length l))) q (subst T (any_first p l) t) in
+    none-some (position_or_len p l) (e ∙ ap (λ b. cond b (Some (position_or_len p l)) None) (is_true (ltb (position_or_len p l) (length l)) lt))
+  where
+    step : (b : Bool) (n : ℕ) → elim b [ true ↦ 0 | false ↦ suc n ] ≡ cond b 0 (1 + n)
+    step true n = refl
+    step false n = omega arith
 
--- and where it does not, that one does
-pub some_fits : (rules : List ℕ) (n x y i : ℕ) → i ≡ first_fitting rules n x y → i < length rules
+-- where no place is found, no rule fits
+pub none_fits : (rules : List ℕ) (n x y l r : ℕ) → None ≡ position (fits? n x y) rules → T ((grammar_of rules).two n l r) → T (bit x l) → T (bit y r) → ⊥
+none_fits rules n x y l r e t a b = no_place (fits? n x y) rules e (fits_of rules n x y l r t a b)
+
+-- and at a place that is found one does
+pub some_fits : (rules : List ℕ) (n x y i : ℕ) → Some i ≡ position (fits? n x y) rules
     → T ((grammar_of rules).two n (first_of (get_or rules i 0)) (second_of (get_or rules i 0))) × T (bit x (first_of (get_or rules i 0))) × T (bit y (second_of (get_or rules i 0)))
-some_fits rules n x y i e h =
-    let q = first_passes (fits? n x y) rules (omega arith) in
-    fits_at rules n x y (get_or rules i 0) (mem_getd rules i 0 h) (subst T (sym (ap (λ j. fits? n x y (get_or rules j 0)) e ∙ q)) tt)
+some_fits rules n x y i e =
+    let q = position-Some (fits? n x y) rules i 0 (sym e) in
+    fits_at rules n x y (get_or rules i 0) (mem_getd rules i 0 q.0) (subst T (sym q.1) tt)

@@ -26,10 +26,8 @@ fn meeting(rules: &[u16], row: &[u16], column: &[u16], from: usize, to: usize, n
     requires { (to ≤ length row.now) × (to ≤ length column.now) × ((m l r : ℕ) × (from ≤ m) × (m < to) × Meets rules.now row.now column.now n m l r) }
     ensures { (from ≤ result.at) × (result.at < to) × Meets rules.now row.now column.now n result.at result.first result.second }
 {
-    let mut m = from;
-    while m < to {
-        let r = rulesets::fitting(rules, n, row[m], column[m]);
-        if r < rules.len() {
+    for m in from..to {
+        if let Some(r) = rulesets::fitting(rules, n, row[m], column[m]) {
             let x = rules[r];
             return Split {
                 at: m,
@@ -37,7 +35,6 @@ fn meeting(rules: &[u16], row: &[u16], column: &[u16], from: usize, to: usize, n
                 second: rules::second(x),
             };
         }
-        m += 1;
     }
     Split {
         at: to,

@@ -2,6 +2,7 @@
 #![tactic(auto)]
 
 ghost use Rattle.std.specs.Prelude.{◌≡◌};
+ghost use Rattle.std.specs.List.{list_any};
 ghost use Rattle.grammars.specs.Grammars.{bad_rules as rules_bad, first_of, kind_of, letter_of, name_of, rule_out_of_range, second_of};
 
 // The names and the rules of a grammar: so many at most.
@@ -52,6 +53,13 @@ fn bad_rule(k: usize, names: usize, x: u16) -> bool
     (names <= n) | (((a == 0) & (k <= y)) | (((a == 1) & ((names <= l) | (names <= r))) | (1 < a)))
 }
 
+// Some rule is bad.
+fn some_bad(k: usize, names: usize, rules: &[u16]) -> bool
+    ensures { result ≡ list_any (rule_out_of_range k names) rules.now }
+{
+    rules.iter().any(|x| bad_rule(k, names, *x))
+}
+
 // The grammar is refused by 21.
 pub fn bad_rules(k: usize, names: usize, rules: &[u16]) -> bool
     ensures { result ≡ rules_bad k names rules.now }
@@ -65,12 +73,5 @@ pub fn bad_rules(k: usize, names: usize, rules: &[u16]) -> bool
     if MOST_RULES < rules.len() {
         return true;
     }
-    let mut i = 0;
-    while i < rules.len() {
-        if bad_rule(k, names, rules[i]) {
-            return true;
-        }
-        i += 1;
-    }
-    false
+    some_bad(k, names, rules)
 }

@@ -1,6 +1,5 @@
 -- Sets of names by the rules of a grammar, gathered over the prefixes between two: the definitions that the contracts cite.
 use Rattle.std.specs.Prelude.{Bool, ◌&&◌, cond, ◌⊎◌, List, ℕ, ◌^◌, T, eqb, get_or}
-use Rattle.profile.specs.Lists.{first_place}
 use Rattle.profile.specs.Traces.{bit}
 use Rattle.profile.specs.Automata.{union}
 use Rattle.grammars.specs.Grammars.{first_of, kind_of, name_of, second_of}
@@ -18,9 +17,6 @@ closed_by acc x = cond (eqb (kind_of x) 1 && bit (get_or acc (first_of x) 0) (se
 abbrev pub closed : List ℕ → List ℕ → ℕ
 closed rules acc = union (closed_by acc) rules
 
--- the rule z gives the name n two names, the first of x and the second of y; the first such rule
+-- the rule z gives the name n two names, the first of x and the second of y
 abbrev pub fits? : ℕ → ℕ → ℕ → ℕ → Bool
 fits? n x y z = eqb (kind_of z) 1 && (eqb (name_of z) n && (bit x (first_of z) && bit y (second_of z)))
-
-abbrev pub first_fitting : List ℕ → ℕ → ℕ → ℕ → ℕ
-first_fitting rules n x y = first_place (fits? n x y) rules

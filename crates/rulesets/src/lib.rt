@@ -1,11 +1,11 @@
 // Sets of names by the rules of a grammar: document 02, Paper 13.
 #![tactic(auto)]
 
-ghost use Rattle.std.specs.Prelude.{◌≡◌, cond, ◌^◌, ◌≤◌, ◌<◌, length};
+ghost use Rattle.std.specs.Prelude.{◌≡◌, cond, ◌^◌, ◌≤◌, ◌<◌, length, position};
 ghost use Rattle.profile.specs.Traces.{bit};
 ghost use Rattle.grammars.specs.Grammars.{most_names, name_of};
 ghost use Rattle.grammars.specs.Sets.{lettered as letter_set, lettered_by};
-ghost use Rattle.rulesets.specs.Rulesets.{Spread, closed as closed_set, closed_by, first_fitting, fits?};
+ghost use Rattle.rulesets.specs.Rulesets.{Spread, closed as closed_set, closed_by, fits?};
 
 use rules::{first, kind, letter, name, second};
 
@@ -61,10 +61,8 @@ pub fn lettered(rules: &[u16], a: usize) -> u16
     ensures { result ≡ letter_set rules.now a }
 {
     let mut out = 0u16;
-    let mut i = 0;
-    while i < rules.len() {
-        out = out | by_letter(a, rules[i]);
-        i += 1;
+    for x in rules {
+        out = out | by_letter(a, *x);
     }
     out
 }
@@ -88,24 +86,15 @@ pub fn closed(rules: &[u16], acc: &[u16]) -> u16
     ensures { result ≡ closed_set rules.now acc.now }
 {
     let mut out = 0u16;
-    let mut i = 0;
-    while i < rules.len() {
-        out = out | by_names(acc, rules[i]);
-        i += 1;
+    for x in rules {
+        out = out | by_names(acc, *x);
     }
     out
 }
 
-// The first rule that gives the name n two names, the first of x and the second of y; the number of rules where none does.
-pub fn fitting(rules: &[u16], n: usize, x: u16, y: u16) -> usize
-    ensures { result ≡ first_fitting rules.now n x y }
+// The place of the first rule that gives the name n two names, the first of x and the second of y.
+pub fn fitting(rules: &[u16], n: usize, x: u16, y: u16) -> Option<usize>
+    ensures { result ≡ position (fits? n x y) rules.now }
 {
-    let mut i = 0;
-    while i < rules.len() {
-        if fits(n, x, y, rules[i]) {
-            return i;
-        }
-        i += 1;
-    }
-    i
+    rules.iter().position(|z| fits(n, x, y, *z))
 }

@@ -1,3 +1,2 @@
--- Laws of the checks of a view and of the visible part; the functions' proofs cite them.
-pub mod Entry
+-- Laws of the visible part; the functions' proofs cite them.
 pub mod Parts

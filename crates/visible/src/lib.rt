@@ -8,7 +8,6 @@ ghost use Rattle.profile.specs.Refusals.{bit_from, refused_by, lowest};
 ghost use Rattle.profile.specs.declared.Refusal.TheVariants.{ViewBit};
 ghost use Rattle.theory.proofs.Refusals.{GoodLog};
 ghost use Rattle.views.specs.Views.{entry_refusals, seen};
-ghost use Rattle.visible.specs.Visible.{first_of};
 
 use profile::{Refusal, Shape};
 
@@ -23,16 +22,6 @@ fn check_mask(k: usize, visible: u32) -> Result<(), Refusal>
     }
 }
 
-// The first of two checks that refuses.
-fn first(one: Result<(), Refusal>, other: Result<(), Refusal>) -> Result<(), Refusal>
-    ensures { result ≡ first_of one other }
-{
-    match one {
-        Err(r) => Err(r),
-        Ok(()) => other,
-    }
-}
-
 // The lowest of refusals 2, 4, 6, 20, 7 and 8 that applies, in this order.
 pub fn check_entry(
     shape: Shape,
@@ -44,11 +33,9 @@ pub fn check_entry(
     ensures { refused_by result ≡ lowest (entry_refusals (profile_of shape masks.now moves.now) visible log.now) }
 {
     let k = shape.k;
-    let profile = checks::check_profile(shape, masks, moves);
-    let mask = check_mask(k, visible);
-    let letters = logcheck::check_log(k, log);
-    let rest = first(mask, letters);
-    first(profile, rest)
+    checks::check_profile(shape, masks, moves)?;
+    check_mask(k, visible)?;
+    logcheck::check_log(k, log)
 }
 
 // One more than n where the mask has letter a, else n.
@@ -64,13 +51,10 @@ pub fn put_seen(visible: u32, k: usize, log: &[u8], part: &mut [u8]) -> usize
     requires { (k ≤ most_letters) × (length part.old ≡ longest) × GoodLog k log.now }
     ensures { (result ≡ length (seen visible log.now)) × (take result part.new ≡ seen visible log.now) }
 {
-    let mut i = 0;
     let mut n = 0;
-    while i < log.len() {
-        let a = log[i];
-        part[n] = a;
-        n = place_after(visible, a as usize, n);
-        i += 1;
+    for a in log {
+        part[n] = *a;
+        n = place_after(visible, *a as usize, n);
     }
     n
 }

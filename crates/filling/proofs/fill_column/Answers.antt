@@ -1,4 +1,4 @@
-use mathlib.Core.Path.{◌≡◌, refl, sym, ◌∙◌, subst}
+use mathlib.Core.Path.{◌≡◌, sym, subst}
 use Prim.Native.Nat.{◌+◌, ◌-◌}
 use Rattle.pairs.specs.Pairs.{Known}
 use Rattle.filling.proofs.Knowing.{known_column, known_more}
@@ -6,28 +6,23 @@ use native.Mathlib.Omega.{arith}
 use Rattle.filling.proofs.fill_column.Goals as goal
 
 pub loop-i-init : goal.loop-i-init
-loop-i-init c = let s = c in (omega arith, refl, s.requires.j_lt_records.2)
+loop-i-init c = c.requires.j_lt_records.2
 
 pub put_pair-requires : goal.put_pair-requires
 put_pair-requires c =
-    let s = c in
-    let l = c.loop-i in
-    (omega (arith, s.requires.j_lt_records.0), s.requires.j_lt_records.0, s.requires.setting.few, omega (arith, s.requires.j_lt_records.1, l.invariant.1))
+    let q = c.requires.j_lt_records in
+    (omega (arith, q.0), q.0, c.requires.setting.few, omega (arith, q.1, c.loop-i.auto.sets))
 
 pub loop-i-preserved : goal.loop-i-preserved
 loop-i-preserved c =
-    let s = c in
-    let a = s.args in
+    let a = c.args in
     let l = c.loop-i in
+    let q = c.requires.j_lt_records in
     let i = l.i - 1 in
     let e : l.i ≡ i + 1 = omega arith in
-    let p = c.put_pair in (
-      omega arith,
-      p.auto.sets ∙ l.invariant.1,
-      subst (λ t. Known a.k a.masks.now a.rules.now a.log.now a.records t a.j i) (sym p.ensures)
-          (known_more a.k a.masks.now a.rules.now a.log.now a.records l.sets i a.j c.cell-set.result (omega arith) s.requires.j_lt_records.0 (omega (arith, s.requires.j_lt_records.1, l.invariant.1))
-          c.cell-set.ensures (subst (λ n. Known a.k a.masks.now a.rules.now a.log.now a.records l.sets a.j n) e l.invariant.2)),
-    )
+    subst (λ t. Known a.k a.masks.now a.rules.now a.log.now a.records t a.j i) (sym c.put_pair.ensures)
+    (known_more a.k a.masks.now a.rules.now a.log.now a.records l.sets i a.j c.cell-set.result (omega arith) q.0 (omega (arith, q.1, l.auto.sets))
+    c.cell-set.ensures (subst (λ n. Known a.k a.masks.now a.rules.now a.log.now a.records l.sets a.j n) e l.invariant))
 
 pub returns : goal.returns
 returns c =
@@ -35,7 +30,7 @@ returns c =
     let l = c.loop-i in
     let e : l.i ≡ 0 = omega arith in
     known_column a.k a.masks.now a.rules.now a.log.now a.records l.sets a.j
-    (subst (λ n. Known a.k a.masks.now a.rules.now a.log.now a.records l.sets a.j n) e l.invariant.2)
+    (subst (λ n. Known a.k a.masks.now a.rules.now a.log.now a.records l.sets a.j n) e l.invariant)
 
 pub cell-set-requires-clause-i_lt_j : goal.cell-set-requires-clause-i_lt_j
 cell-set-requires-clause-i_lt_j c =
@@ -43,4 +38,4 @@ cell-set-requires-clause-i_lt_j c =
     let l = c.loop-i in
     let q = c.requires.j_lt_records in
     let e : l.i ≡ l.i - 1 + 1 = omega arith in
-    (omega arith, q.0, omega (arith, q.1, l.invariant.1), subst (λ n. Known a.k a.masks.now a.rules.now a.log.now a.records l.sets a.j n) e l.invariant.2)
+    (omega arith, q.0, omega (arith, q.1, l.auto.sets), subst (λ n. Known a.k a.masks.now a.rules.now a.log.now a.records l.sets a.j n) e l.invariant)

@@ -12,30 +12,27 @@ use native.Mathlib.Omega.{arith}
 use Rattle.parts.proofs.meeting.Goals as goal
 
 pub loop-m-init : goal.loop-m-init
-loop-m-init c = let w = c.requires.2 in (omega arith, omega (arith, w.3, w.4), λ i l r h k. absurd (omega arith))
+loop-m-init c = λ i l r h k. absurd (omega arith)
 
-pub returns-then-r-rules : goal.returns-then-r-rules
-returns-then-r-rules c =
+pub returns-in-Some : goal.returns-in-Some
+returns-in-Some c =
     let a = c.args in
     let l = c.loop-m in
     let x = get_or a.row.now l.m 0 in
     let y = get_or a.column.now l.m 0 in
-    let i = c.fitting-r.result in
-    let s = some_fits a.rules.now a.n x y i c.fitting-r.ensures c.if-r-rules.true in
+    let i = c.in-Some.r in
+    let s = some_fits a.rules.now a.n x y i c.in-Some.ensures in
     (omega arith, omega arith, subst₂ (λ f g. T ((grammar_of a.rules.now).two a.n f g) × T (bit x f) × T (bit y g)) (sym c.first.ensures) (sym c.second.ensures) s)
 
 pub loop-m-preserved : goal.loop-m-preserved
 loop-m-preserved c =
     let a = c.args in
-    let l = c.loop-m in (
-      omega arith,
-      omega arith,
-      λ i l' r h k m. ⊎_elim (λ lt. l.invariant.2 i l' r h lt m)
-          (λ le.
-          let e : i ≡ l.m = omega arith in
-          let m' = subst (λ j. Meets a.rules.now a.row.now a.column.now a.n j l' r) e m in
-          none_fits a.rules.now a.n (get_or a.row.now l.m 0) (get_or a.column.now l.m 0) l' r (omega (arith, c.if-r-rules.false, c.fitting-r.ensures)) m'.0 m'.1 m'.2) (lt_or_le i l.m),
-    )
+    let l = c.loop-m in
+    λ i l' r h k m. ⊎_elim (λ lt. l.invariant i l' r h lt m)
+    (λ le.
+    let e : i ≡ l.m = omega arith in
+    let m' = subst (λ j. Meets a.rules.now a.row.now a.column.now a.n j l' r) e m in
+    none_fits a.rules.now a.n (get_or a.row.now l.m 0) (get_or a.column.now l.m 0) l' r c.in_default.ensures m'.0 m'.1 m'.2) (lt_or_le i l.m)
 
 pub returns : goal.returns
 returns c =
@@ -43,4 +40,4 @@ returns c =
     let l = c.loop-m in
     let e : l.m ≡ a.to = omega arith in
     let w = c.requires.2 in
-    absurd (l.invariant.2 w.0 w.1 w.2 w.3 (omega (arith, w.4)) w.5)
+    absurd (l.invariant w.0 w.1 w.2 w.3 (omega (arith, w.4)) w.5)
