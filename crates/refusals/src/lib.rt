@@ -1,7 +1,7 @@
 // The number and the place of a refusal: document 01, "A refusal gives its number and a place".
 #![tactic(auto)]
 
-ghost use Rattle.std.specs.Prelude.{◌≡◌};
+ghost use Rattle.std.specs.Prelude.{◌≡◌, ◌<◌, ◌-◌, ◌∷◌, length, replicate};
 ghost use Rattle.profile.specs.Refusals.{refusal_number, refusal_place};
 
 use profile::Refusal;
@@ -62,4 +62,15 @@ pub fn place(r: Refusal) -> usize
         Refusal::BadRule => 0,
         Refusal::ShortSets => 0,
     }
+}
+
+// A refused call returns the refusal's number, and tells its place and zeros behind it.
+pub fn refuse(r: Refusal, told: &mut [u64]) -> u32
+    requires { 0 < length told.old }
+    ensures number { result ≡ refusal_number r }
+    ensures told { told.new ≡ refusal_place r ∷ replicate (length told.old - 1) 0 }
+{
+    told.fill(0);
+    told[0] = place(r) as u64;
+    number(r)
 }
