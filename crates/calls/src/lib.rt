@@ -6,7 +6,7 @@ ghost use Rattle.profile.specs.Automata.{profile_of};
 ghost use Rattle.calls.specs.Calls.{Asking, Starting, Stepping};
 
 use profile::Shape;
-use running::{Running, Started, Step, Told};
+use running::Running;
 
 // A start: tells the place.
 pub fn start(
@@ -19,13 +19,12 @@ pub fn start(
 ) -> u32
     ensures { Starting (profile_of shape masks.now moves.now) held.old held.new table.old table.new result told.new }
 {
-    let started = running::start(shape, masks, moves, table);
-    match started {
-        Started::Refused(r) => {
+    match running::start(shape, masks, moves, table) {
+        Err(r) => {
             *told = [refusals::place(r) as u64];
             refusals::number(r)
         }
-        Started::Begun(begun) => {
+        Ok(begun) => {
             let prefixes = begun.prefixes as u64;
             let taken = begun.taken as u64;
             *held = [prefixes, taken];
@@ -55,13 +54,12 @@ pub fn event(
     let prefixes = stepped.held.prefixes as u64;
     let taken = stepped.held.taken as u64;
     *held = [prefixes, taken];
-    let answer = stepped.answer;
-    match answer {
-        Step::Refused(r) => {
+    match stepped.answer {
+        Err(r) => {
             *told = [refusals::place(r) as u64];
             refusals::number(r)
         }
-        Step::Taken => {
+        Ok(()) => {
             *told = [0];
             0
         }
@@ -83,18 +81,16 @@ pub fn question(
         prefixes: held[0] as usize,
         taken: held[1] as usize,
     };
-    let answer = running::question(asked, shape, masks, moves, table);
-    match answer {
-        Told::Refused(r) => {
+    match running::question(asked, shape, masks, moves, table) {
+        Err(r) => {
             *told = [refusals::place(r) as u64, 0, 0, 0];
             refusals::number(r)
         }
-        Told::Verdict {
-            verdict,
-            prefixes,
-            taken,
-        } => {
-            *told = [0, verdict as u64, prefixes as u64, taken as u64];
+        Ok(answer) => {
+            let verdict = answer.verdict as u64;
+            let prefixes = answer.prefixes as u64;
+            let taken = answer.taken as u64;
+            *told = [0, verdict, prefixes, taken];
             0
         }
     }

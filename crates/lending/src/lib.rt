@@ -5,8 +5,8 @@ ghost use Rattle.std.specs.Prelude.{◌≡◌};
 ghost use Rattle.profile.specs.Automata.{profile_of};
 ghost use Rattle.running.specs.Running.{StepPromise};
 
-use profile::Shape;
-use running::{Running, Step};
+use profile::{Refusal, Shape};
+use running::Running;
 
 // An event: the record is updated where it stands. Refused by 2, 4, 6, 7, 8 and 10, and then neither the record nor the table is changed.
 pub fn event(
@@ -16,7 +16,7 @@ pub fn event(
     moves: &[u32],
     letter: u8,
     table: &mut [u32],
-) -> Step
+) -> Result<(), Refusal>
     ensures { StepPromise (profile_of shape masks.now moves.now) letter r.old r.new table.old table.new result }
 {
     let held = *r;
