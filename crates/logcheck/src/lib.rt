@@ -1,23 +1,18 @@
 // The check of a log: refusals 7 and 8.
 #![tactic(auto)]
 
-ghost use Rattle.std.specs.Prelude.{◌≡◌};
-ghost use Rattle.profile.specs.Refusals.{refused_by, log_refusals, lowest};
+ghost use Rattle.std.specs.Prelude.{◌≡◌, Some, None, if◌then◌else◌};
+ghost use Rattle.profile.specs.Refusals.{bad_letter, refused_by, log_refusals, lowest};
 ghost use Rattle.profile.specs.Refusals.{bad_place as bad_place_of};
 
 use profile::Refusal;
 use profile::limits::LONGEST;
 
-// 8: the first place of a log byte of k or more; the log's length where there is none.
-fn bad_place(k: usize, log: &[u8]) -> usize
-    ensures { result ≡ bad_place_of k log.now }
+// 8: the first place of a log byte of k or more.
+fn bad_place(k: usize, log: &[u8]) -> Option<usize>
+    ensures { result ≡ (if bad_letter k log.now then Some (bad_place_of k log.now) else None) }
 {
-    for (i, letter) in log.iter().enumerate() {
-        if k <= *letter as usize {
-            return i;
-        }
-    }
-    log.len()
+    log.iter().position(|letter| k <= *letter as usize)
 }
 
 // The lowest of refusals 7 and 8 that applies to a log.
@@ -27,9 +22,8 @@ pub fn check_log(k: usize, log: &[u8]) -> Result<(), Refusal>
     if LONGEST < log.len() {
         return Err(Refusal::LongLog);
     }
-    let at = bad_place(k, log);
-    if at < log.len() {
-        return Err(Refusal::BadLetter(at));
+    match bad_place(k, log) {
+        Some(at) => Err(Refusal::BadLetter(at)),
+        None => Ok(()),
     }
-    Ok(())
 }
