@@ -1,4 +1,5 @@
 -- One letter tried: whether an accepted end is reached with it, from what the table of records and the table of costs say.
+use Rattle.std.specs.Prelude.{Ok, Err, Some, None}
 use mathlib.Core.Path.{◌≡◌, sym, ◌∙◌, ap, subst}
 use mathlib.Core.Bool.{Bool, true, false}
 use mathlib.Core.Logic.{⊎_elim}
@@ -22,7 +23,6 @@ use Rattle.theory.proofs.Refusals.{GoodProfile, bit_from_at}
 use Rattle.counts.specs.Counts.{add_count}
 use Rattle.records.specs.Records.{counts_at, records_in}
 use Rattle.search.specs.Search.{found_in}
-use Rattle.search.specs.declared.Found.TheVariants.{Absent, At}
 use Rattle.swaps.specs.Closest.{rest_swaps}
 use Rattle.swaps.specs.Swaps.{step_cost}
 use Rattle.swaps.proofs.Pairs.{count_letters}
@@ -32,7 +32,6 @@ use Rattle.costrows.specs.Rows.{with_step}
 use Rattle.costreadings.proofs.Readings.{fits_at, fits_of}
 use Rattle.costwalk.specs.Walk.{Chooses, Ends, Standing, Tested, Tries}
 use Rattle.costwalk.specs.declared.Choice.{Choice}
-use Rattle.costwalk.specs.declared.Next.TheVariants.{Costs as Cost, Not}
 use Rattle.swaps.proofs.Letters.{step_letters}
 use Rattle.successors.proofs.More.{more_at, more_none, prefix_of}
 use Rattle.costwalk.proofs.Rows.{fields, recorded, whole_counts}
@@ -65,7 +64,7 @@ module _ {p : Profile} {may : ℕ → ℕ → Bool} {letter : ℕ → ℕ} {w t 
     looked : add_count layout n x ≡ add_count layout (packed layout z.counts) x
     looked = ap (λ m. add_count layout m x) z.numbers
 
-    module _ (r : ℕ) (found : found_in t (add_count layout n x) ≡ At r) where
+    module _ (r : ℕ) (found : found_in t (add_count layout n x) ≡ Ok r) where
       there : T (addable? may letter w (at z.counts) x) × (r < length (by_total may letter p.k w)) × (get_or (by_total may letter p.k w) r [] ≡ bump z.counts x)
       there = more_at (recorded z.lent) z.counts z.prefix x h r (ap (found_in t) (sym looked) ∙ found)
 
@@ -116,7 +115,7 @@ module _ {p : Profile} {may : ℕ → ℕ → Bool} {letter : ℕ → ℕ} {w t 
             subst T (sym d.told) (le→leb (with_step d.cost more-cost) left (subst (λ i. with_step d.cost i ≤ left) (sym is-cost)
             (fits_at may letter (automaton p) w (count_field layout n) S left x z.small costs (r * p.s) d.cost d.least (row_cells S) (e.1, e.2, e.3, e.4, e.5))))
 
-    pub absent_ends : (i S : ℕ) → found_in t (add_count layout n x) ≡ Absent i → Ends p may letter w (count_field layout n) S left x → ⊥
+    pub absent_ends : (i S : ℕ) → found_in t (add_count layout n x) ≡ Err i → Ends p may letter w (count_field layout n) S left x → ⊥
     absent_ends i S found e =
         more_none (recorded z.lent) z.counts z.prefix x h i (ap (found_in t) (sym looked) ∙ found)
         (subst (λ f. T (addable? may letter w f x)) counted e.0)
@@ -133,12 +132,12 @@ module _ (h : Shape) (moves t log starts places costs n : List ℕ) (S left : �
   pub passed_none : Passed 0
   passed_none masks may letter w z y lt e = omega (arith, lt)
 
-  pub passed_more : (x : ℕ) → Passed x → Tries h moves t log starts places costs n S left x Not → Passed (x + 1)
+  pub passed_more : (x : ℕ) → Passed x → Tries h moves t log starts places costs n S left x None → Passed (x + 1)
   passed_more x before now masks may letter w z y lt e = ⊎_elim (λ l. before masks may letter w z y l e)
       (λ l. let q : y ≡ x = omega (arith, lt, l) in now masks may letter w z (subst (λ i. Ends (profile_of h masks moves) may letter w (count_field layout n) S left i) q e))
       (lt_or_le y x)
 
-  pub chosen_of : (x cost : ℕ) → x < h.k → Passed x → Tries h moves t log starts places costs n S left x (Cost cost)
+  pub chosen_of : (x cost : ℕ) → x < h.k → Passed x → Tries h moves t log starts places costs n S left x (Some cost)
       → Chooses h moves t log starts places costs n S left (record { letter = x; cost = cost })
   chosen_of x cost lt before now masks may letter w z some = record {
     below = lt;
@@ -146,6 +145,3 @@ module _ (h : Shape) (moves t log starts places costs n : List ℕ) (S left : �
     first = before masks may letter w z;
     cost = (now masks may letter w z).1;
   }
-
-  pub chosen_never : (x : ℕ) (r : Choice) → h.k ≤ x → Passed x → Chooses h moves t log starts places costs n S left r
-  chosen_never x r le before masks may letter w z some = absurd (before masks may letter w z some.0 (omega (arith, some.1, le)) some.2)

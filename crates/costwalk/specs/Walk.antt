@@ -1,5 +1,5 @@
 -- Paper 10: the earliest order of the fewest swaps, letter by letter, from a table of costs.
-use Rattle.std.specs.Prelude.{◌≡◌, Bool, List, [], ℕ, ◌+◌, ◌*◌, ◌≤◌, ◌<◌, T, leb, length, get_or}
+use Rattle.std.specs.Prelude.{Some as Costs, None as Not, Option as Told, ◌≡◌, Bool, List, [], ℕ, ◌+◌, ◌*◌, ◌≤◌, ◌<◌, T, leb, length, get_or}
 use Rattle.std.proofs.Math.Option.{Option, some}
 use Rattle.profile.specs.Automata.{Profile, automaton, profile_of}
 use Rattle.profile.specs.Lists.{Mem}
@@ -14,8 +14,6 @@ use Rattle.costcells.specs.Cells.{Least, cell, cost_in, none_cost}
 use Rattle.costrows.specs.Rows.{with_step}
 use Rattle.costtable.specs.Costs.{Lent}
 use Rattle.costwalk.specs.declared.Choice.{Choice}
-use Rattle.costwalk.specs.declared.Next.{Next}
-use Rattle.costwalk.specs.declared.Next.TheVariants.{Costs, Not}
 
 -- a table of costs has a row of s cells for each of the counts l: in the cell of state q stands f of both
 pub record Rows (l : List (List ℕ)) (s : ℕ) (f : List ℕ → ℕ → Option ℕ) (costs : List ℕ) : Type 0 where
@@ -54,7 +52,7 @@ module _ (p : Profile) (may : ℕ → ℕ → Bool) (letter : ℕ → ℕ) (w : 
         × (q m : ℕ) × T (bit ((automaton p).step S x) q) × (rest_swaps may letter (automaton p) w (more c x) q ≡ some m) × (step_cost letter w c x + m ≤ left)
 
     -- what a try of letter x tells: its cost, or that no end is reached so
-    abbrev pub tried : ℕ → Next → Type 0
+    abbrev pub tried : ℕ → Told ℕ → Type 0
     tried x (Costs n) = Ends x × (n ≡ step_cost letter w c x)
     tried x Not = Ends x → ⊥
 
@@ -80,7 +78,7 @@ module _ (h : Shape) (moves t log starts places costs : List ℕ) where
     pub events : List ℕ
     pub standing : Standing (profile_of h masks moves) may letter events t log starts places costs n left
 
-  abbrev pub Tries : List ℕ → ℕ → ℕ → ℕ → Next → Type 0
+  abbrev pub Tries : List ℕ → ℕ → ℕ → ℕ → Told ℕ → Type 0
   Tries n S left x r = (masks : List ℕ) (may : ℕ → ℕ → Bool) (letter : ℕ → ℕ) (w : List ℕ)
       → Standing (profile_of h masks moves) may letter w t log starts places costs n left → tried (profile_of h masks moves) may letter w (count_field layout n) S left x r
 

@@ -15,7 +15,6 @@ ghost use Rattle.costwalk.specs.Walk.{Chooses, Known, Leads, Puts, Stands, Teste
 use counts::Counts;
 use profile::Shape;
 use profile::limits::{COUNT_NUMBERS, Place};
-use search::Found;
 
 // The counts of the last record: those of the whole log.
 fn last_counts(t: &[u32]) -> [u32; COUNT_NUMBERS]
@@ -31,13 +30,6 @@ struct Taken {
     counts: Counts,
     states: u32,
     left: u32,
-}
-
-// What a letter costs that can be taken next; or that it cannot.
-#[derive(Clone, Copy)]
-enum Next {
-    Costs(usize),
-    Not,
 }
 
 // The next letter and its cost.
@@ -79,24 +71,24 @@ fn try_letter(
     places: &[Place],
     costs: &[u32],
     x: usize,
-) -> Next
+) -> Option<usize>
     requires stands { Stands shape moves.now t.now log.now starts.now places.now costs.now (words taken.counts) taken.left }
     requires x_lt_k { x < shape.k }
     ensures { Tries shape moves.now t.now log.now starts.now places.now costs.now (words taken.counts) taken.states taken.left x result }
 {
     let c = taken.counts;
     let found = search::find(t, counts::one_more(c, x));
-    if let Found::At(r) = found {
+    if let Ok(r) = found {
         let n = counts::numbers(c);
         let whole = last_counts(t);
         let more = stepcost::step_cost(log, &n, &whole, shape.k, starts, places, x);
         let states = taken.states;
         let left = taken.left;
         if fits(costs, r, states, left, shape, moves, x, more) {
-            return Next::Costs(more);
+            return Some(more);
         }
     }
-    Next::Not
+    None
 }
 
 // The smallest letter with which an accepted end is reached for what is left.
@@ -113,19 +105,13 @@ fn choose(
     requires { Leads shape moves.now t.now log.now starts.now places.now costs.now (words taken.counts) taken.states taken.left }
     ensures { Chooses shape moves.now t.now log.now starts.now places.now costs.now (words taken.counts) taken.states taken.left result }
 {
-    let k = shape.k;
-    let mut x = 0;
-    while x < k {
+    for x in 0..shape.k {
         let next = try_letter(t, taken, shape, moves, log, starts, places, costs, x);
-        if let Next::Costs(cost) = next {
-            return Choice {
-                letter: x,
-                cost: cost,
-            };
+        if let Some(cost) = next {
+            return Choice { letter: x, cost };
         }
-        x += 1;
     }
-    Choice { letter: 0, cost: 0 }
+    unreachable!()
 }
 
 // Letter x, which costs `cost`, is taken next.
@@ -164,13 +150,11 @@ pub fn put_closest(
         states: 1u32 << shape.start,
         left: fewest,
     };
-    let mut i = 0;
-    while i < log.len() {
+    for i in 0..log.len() {
         let choice = choose(t, taken, shape, moves, log, starts, places, costs);
         let x = choice.letter;
         order[i] = x as u8;
         taken = take_letter(taken, shape, moves, x, choice.cost);
-        i += 1;
     }
 }
 

@@ -1,16 +1,13 @@
--- `costwalk::choose` meets its contract. The loop's invariant: no letter below x leads to an end. The measure is what is left of the letters.
+-- `costwalk::choose` meets its contract. The loop's invariant: no letter below x leads to an end.
 use borrow.Author.Rules.{rules}
 use mathlib.Core.Path.{subst}
 use Prim.Native.Nat.{◌-◌, ◌≤◌}
 use native.Mathlib.Omega.{arith}
 use Rattle.counts.specs.Counts.{words}
 use Rattle.costwalk.specs.Walk.{Tries}
-use Rattle.costwalk.proofs.Trying.{Passed, chosen_never, chosen_of, passed_more, passed_none}
+use Rattle.costwalk.proofs.Trying.{Passed, chosen_of, passed_more, passed_none}
 use Rattle.costwalk.proofs.choose.Given as goal
 
 abbrev pub invariant-loop-x : goal.invariant-loop-x
 invariant-loop-x l =
-    (l.x ≤ l.shape.k) × Passed l.shape l.moves l.t l.log l.starts l.places l.costs (words l.taken.counts) l.taken.states l.taken.left l.x
-
-abbrev pub decreases-loop-x : goal.decreases-loop-x
-decreases-loop-x l = l.shape.k - l.x
+    Passed l.shape l.moves l.t l.log l.starts l.places l.costs (words l.taken.counts) l.taken.states l.taken.left l.x

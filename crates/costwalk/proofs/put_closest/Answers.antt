@@ -13,53 +13,46 @@ overflow_shl-taken c = let g = c.requires.known.lent.profile in omega (arith, g.
 pub loop-i-init : goal.loop-i-init
 loop-i-init c =
     let a = c.args in
-    (omega arith, refl, walks_none a.shape a.moves.now a.t.now a.log.now a.starts.now a.places.now a.costs.now a.fewest a.order.now (words c.none_counted.result) c.none_counted.ensures)
+    (refl, walks_none a.shape a.moves.now a.t.now a.log.now a.starts.now a.places.now a.costs.now a.fewest a.order.now (words c.none_counted.result) c.none_counted.ensures)
 
 pub choose-choice-requires : goal.choose-choice-requires
 choose-choice-requires c =
     let a = c.args in
     let l = c.loop-i in
-    walks_lead a.shape a.moves.now a.t.now a.log.now a.starts.now a.places.now a.costs.now a.fewest a.order.now l.invariant.2 c.requires.known c.loop-i-test.true
+    walks_lead a.shape a.moves.now a.t.now a.log.now a.starts.now a.places.now a.costs.now a.fewest a.order.now l.invariant.1 c.requires.known c.loop-i-test.true
 
 pub overflow_cast-order : goal.overflow_cast-order
 overflow_cast-order c =
     let a = c.args in
     let l = c.loop-i in
-    let b = walks_below a.shape a.moves.now a.t.now a.log.now a.starts.now a.places.now a.costs.now a.fewest a.order.now l.invariant.2 c.loop-i-test.true c.requires.log_in_bounds c.choose-choice.result c.choose-choice.ensures c.requires.known in
+    let b = walks_below a.shape a.moves.now a.t.now a.log.now a.starts.now a.places.now a.costs.now a.fewest a.order.now l.invariant.1 c.loop-i-test.true c.requires.log_in_bounds c.choose-choice.result c.choose-choice.ensures c.requires.known in
     omega (arith, b.0, b.1)
 
 pub bounds-order-i : goal.bounds-order-i
-bounds-order-i c = let l = c.loop-i in omega (arith, l.invariant.1, c.loop-i-test.true, c.requires.log_in_bounds)
+bounds-order-i c = let l = c.loop-i in omega (arith, l.invariant.0, c.loop-i-test.true, c.requires.log_in_bounds)
 
 pub take_letter-taken-requires : goal.take_letter-taken-requires
 take_letter-taken-requires c =
     let a = c.args in
     let l = c.loop-i in
-    let b = walks_below a.shape a.moves.now a.t.now a.log.now a.starts.now a.places.now a.costs.now a.fewest a.order.now l.invariant.2 c.loop-i-test.true c.requires.log_in_bounds c.choose-choice.result c.choose-choice.ensures c.requires.known in
+    let b = walks_below a.shape a.moves.now a.t.now a.log.now a.starts.now a.places.now a.costs.now a.fewest a.order.now l.invariant.1 c.loop-i-test.true c.requires.log_in_bounds c.choose-choice.result c.choose-choice.ensures c.requires.known in
     (b.1, b.2, b.3)
-
-pub overflow_add-i : goal.overflow_add-i
-overflow_add-i c =
-    let few = c.requires.known.lent.placed.few in
-    let less = c.loop-i-test.true in
-    search rules
 
 pub loop-i-preserved : goal.loop-i-preserved
 loop-i-preserved c =
     let a = c.args in
     let l = c.loop-i in
     let e = c.take_letter-taken.ensures in (
-      omega arith,
-      length-set l.order l.i c.choose-choice.result.letter ∙ l.invariant.1,
-      walks_next a.shape a.moves.now a.t.now a.log.now a.starts.now a.places.now a.costs.now a.fewest a.order.now l.invariant.2 c.loop-i-test.true c.requires.log_in_bounds c.choose-choice.result c.choose-choice.ensures e.counts_value e.states_value e.left_value,
+      length-set l.order l.i c.choose-choice.result.letter ∙ l.invariant.0,
+      walks_next a.shape a.moves.now a.t.now a.log.now a.starts.now a.places.now a.costs.now a.fewest a.order.now l.invariant.1 c.loop-i-test.true c.requires.log_in_bounds c.choose-choice.result c.choose-choice.ensures e.counts_value e.states_value e.left_value,
     )
 
 pub shape_of-order : goal.shape_of-order
-shape_of-order c = c.loop-i.invariant.1
+shape_of-order c = c.loop-i.invariant.0
 
 pub returns : goal.returns
 returns c =
     let a = c.args in
     let l = c.loop-i in
-    let e : l.i ≡ length a.log.now = omega (arith, l.invariant.0, c.loop-i-test.false) in
-    walks_all a.shape a.moves.now a.t.now a.log.now a.starts.now a.places.now a.costs.now a.fewest a.order.now (subst (λ i. Walks a.shape a.moves.now a.t.now a.log.now a.starts.now a.places.now a.costs.now a.fewest a.order.now i l.order (words l.taken.counts) l.taken.states l.taken.left) e l.invariant.2)
+    let e : l.i ≡ length a.log.now = omega arith in
+    walks_all a.shape a.moves.now a.t.now a.log.now a.starts.now a.places.now a.costs.now a.fewest a.order.now (subst (λ i. Walks a.shape a.moves.now a.t.now a.log.now a.starts.now a.places.now a.costs.now a.fewest a.order.now i l.order (words l.taken.counts) l.taken.states l.taken.left) e l.invariant.1)

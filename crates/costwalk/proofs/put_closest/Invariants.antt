@@ -1,4 +1,4 @@
--- `costwalk::put_closest` meets its contract. The loop's invariant: i letters are written and taken (`Walks`). The measure is what is left of the log.
+-- `costwalk::put_closest` meets its contract. The loop's invariant: i letters are written and taken (`Walks`).
 use borrow.Author.Rules.{rules}
 use mathlib.Core.Path.{◌≡◌, refl, ◌∙◌, subst}
 use Prim.Native.Nat.{◌-◌, ◌≤◌}
@@ -10,7 +10,4 @@ use Rattle.costwalk.proofs.put_closest.Given as goal
 
 abbrev pub invariant-loop-i : goal.invariant-loop-i
 invariant-loop-i l =
-    (l.i ≤ length l.log) × (length l.order ≡ length l.initial.order) × Walks l.shape l.moves l.t l.log l.starts l.places l.costs l.fewest l.initial.order l.i l.order (words l.taken.counts) l.taken.states l.taken.left
-
-abbrev pub decreases-loop-i : goal.decreases-loop-i
-decreases-loop-i l = length l.log - l.i
+    (length l.order ≡ length l.initial.order) × Walks l.shape l.moves l.t l.log l.starts l.places l.costs l.fewest l.initial.order l.i l.order (words l.taken.counts) l.taken.states l.taken.left

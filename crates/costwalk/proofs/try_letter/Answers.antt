@@ -15,34 +15,34 @@ last_counts-whole-requires c = some_record c.requires.stands.standing.lent
 pub step_cost-more-requires : goal.step_cost-more-requires
 step_cost-more-requires c =
     let z = c.requires.stands.standing in
-    let f = ap (found_in c.args.t.now) (sym c.one_more.ensures) ∙ sym (c.find-found.ensures z.lent.records.ordered) ∙ c.in-At.is in
+    let f = ap (found_in c.args.t.now) (sym c.one_more.ensures) ∙ sym (c.find-found.ensures z.lent.records.ordered) ∙ c.in-Ok.is in
     record {
       placed = z.lent.placed;
-      within = within z c.args.x c.requires.x_lt_k c.in-At.r f c.numbers-n.result c.last_counts-whole.result c.numbers-n.ensures c.last_counts-whole.ensures;
+      within = within z c.args.x c.requires.x_lt_k c.in-Ok.r f c.numbers-n.result c.last_counts-whole.result c.numbers-n.ensures c.last_counts-whole.ensures;
     }
 
 pub fits-requires : goal.fits-requires
 fits-requires c =
     let z = c.requires.stands.standing in
-    let f = ap (found_in c.args.t.now) (sym c.one_more.ensures) ∙ sym (c.find-found.ensures z.lent.records.ordered) ∙ c.in-At.is in
+    let f = ap (found_in c.args.t.now) (sym c.one_more.ensures) ∙ sym (c.find-found.ensures z.lent.records.ordered) ∙ c.in-Ok.is in
     record {
-      k_le_most_letters = (z.lent.profile.relation.most, z.lent.profile.states.1, row_fits z c.args.x c.requires.x_lt_k c.in-At.r f);
+      k_le_most_letters = (z.lent.profile.relation.most, z.lent.profile.states.1, row_fits z c.args.x c.requires.x_lt_k c.in-Ok.r f);
       x_bound = step_inside (profile_of c.args.shape c.requires.stands.masks c.args.moves.now) z.lent.profile c.args.taken.states c.args.x;
     }
 
 pub returns-then-fits : goal.returns-then-fits
 returns-then-fits c = λ masks may letter w z.
     let a = c.args in
-    let f = ap (found_in a.t.now) (sym c.one_more.ensures) ∙ sym (c.find-found.ensures z.lent.records.ordered) ∙ c.in-At.is in
-    let e = c.step_cost-more.ensures ∙ own_cost z a.x c.requires.x_lt_k c.in-At.r f c.numbers-n.result c.numbers-n.ensures in
-    (ends_of z a.x c.requires.x_lt_k c.in-At.r f a.taken.states e (subst (λ b. Tested a.costs.now (c.in-At.r * a.shape.s) ((automaton (profile_of a.shape masks a.moves.now)).step a.taken.states a.x) c.step_cost-more.result a.taken.left b) c.if-fits.true c.fits.ensures), e)
+    let f = ap (found_in a.t.now) (sym c.one_more.ensures) ∙ sym (c.find-found.ensures z.lent.records.ordered) ∙ c.in-Ok.is in
+    let e = c.step_cost-more.ensures ∙ own_cost z a.x c.requires.x_lt_k c.in-Ok.r f c.numbers-n.result c.numbers-n.ensures in
+    (ends_of z a.x c.requires.x_lt_k c.in-Ok.r f a.taken.states e (subst (λ b. Tested a.costs.now (c.in-Ok.r * a.shape.s) ((automaton (profile_of a.shape masks a.moves.now)).step a.taken.states a.x) c.step_cost-more.result a.taken.left b) c.if-fits.true c.fits.ensures), e)
 
 pub returns-else-fits : goal.returns-else-fits
 returns-else-fits c = λ masks may letter w z.
     let a = c.args in
-    let f = ap (found_in a.t.now) (sym c.one_more.ensures) ∙ sym (c.find-found.ensures z.lent.records.ordered) ∙ c.in-At.is in
-    let e = c.step_cost-more.ensures ∙ own_cost z a.x c.requires.x_lt_k c.in-At.r f c.numbers-n.result c.numbers-n.ensures in
-    ends_not z a.x c.requires.x_lt_k c.in-At.r f a.taken.states e (subst (λ b. Tested a.costs.now (c.in-At.r * a.shape.s) ((automaton (profile_of a.shape masks a.moves.now)).step a.taken.states a.x) c.step_cost-more.result a.taken.left b) c.if-fits.false c.fits.ensures)
+    let f = ap (found_in a.t.now) (sym c.one_more.ensures) ∙ sym (c.find-found.ensures z.lent.records.ordered) ∙ c.in-Ok.is in
+    let e = c.step_cost-more.ensures ∙ own_cost z a.x c.requires.x_lt_k c.in-Ok.r f c.numbers-n.result c.numbers-n.ensures in
+    ends_not z a.x c.requires.x_lt_k c.in-Ok.r f a.taken.states e (subst (λ b. Tested a.costs.now (c.in-Ok.r * a.shape.s) ((automaton (profile_of a.shape masks a.moves.now)).step a.taken.states a.x) c.step_cost-more.result a.taken.left b) c.if-fits.false c.fits.ensures)
 
 pub returns-in_default : goal.returns-in_default
 returns-in_default c = λ masks may letter w z.
