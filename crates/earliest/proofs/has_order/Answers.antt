@@ -4,7 +4,6 @@ use native.Mathlib.Omega.{arith}
 use Rattle.profile.specs.Automata.{meets}
 use Rattle.earliest.proofs.Records.{first_record}
 use Rattle.earliest.proofs.Extraction.{found_first, start_set}
-use borrow.Author.Rules.{rules}
 use Rattle.earliest.proofs.has_order.Goals as goal
 
 pub last_at-backward-requires : goal.last_at-backward-requires

@@ -1,15 +1,13 @@
-use borrow.Author.Rules.{rules}
-use Prim.Native.Nat.{ℕ, ◌*◌, ◌-◌, ◌≤◌, ◌<◌}
+use Prim.Native.Nat.{ℕ, ◌*◌, ◌-◌, ◌<◌}
 use mathlib.Core.Path.{◌≡◌, sym, ap, subst}
 use native.Mathlib.Omega.{arith}
 use native.Mathlib.Numerals.{add-one}
 use lib.ListN.{length, set, take}
-use Rattle.terms.specs.Coded.{rules_of}
-use Rattle.profile.specs.Automata.{forward_step, profile_of}
+use Rattle.profile.specs.Automata.{forward_step}
 use Rattle.profile.specs.Tables.{layout, record_length}
 use Rattle.successors.specs.Successors.{Stands}
 use Rattle.successors.proofs.More.{stands_at}
-use Rattle.earliest.specs.Earliest.{Smallest, Some, Table}
+use Rattle.earliest.specs.Earliest.{Smallest, Some}
 use Rattle.earliest.proofs.Records.{recorded, used}
 use Rattle.earliest.proofs.Extraction.{Written, start_set, written_all, written_length, written_next, written_none, written_some}
 use Rattle.earliest.proofs.put_order.Goals as goal
@@ -29,7 +27,7 @@ pub loop-i-init : goal.loop-i-init
 loop-i-init c =
     let q = c.requires in
     let order = c.args.order.now in
-    (omega arith, q.table, subst (λ S. Written q.table order 0 order S 0) (sym (start_set q.table)) (written_none q.table order q.log_value))
+    (q.table, subst (λ S. Written q.table order 0 order S 0) (sym (start_set q.table)) (written_none q.table order q.log_value))
 
 pub slice_bounds-choose-end : goal.slice_bounds-choose-end
 slice_bounds-choose-end c = let q = c.requires in omega (arith, q.table.room, q.records_value)
@@ -39,15 +37,15 @@ choose-choice-requires c =
     let a = c.args in
     let q = c.requires in
     let l = c.loop-i in
-    let tab = l.invariant.1 in
+    let tab = l.invariant.0 in
     let part : take (record_length layout * a.records - 0) a.table.now ≡ used tab = ap (λ n. take n a.table.now) (whole a.records q.records_value) in record {
-      stands = (subst (λ u. Stands u a.shape.k l.at) (sym part) (stands_at (recorded tab) l.at l.invariant.2.inside), q.table.profile.states.1);
-      some = subst (λ u. Some (forward_step a.shape.k a.shape.s a.moves.now) u l.at l.states a.shape.k) (sym part) (written_some tab l.invariant.2 c.loop-i-test.true);
+      stands = (subst (λ u. Stands u a.shape.k l.at) (sym part) (stands_at (recorded tab) l.at l.invariant.1.inside), q.table.profile.states.1);
+      some = subst (λ u. Some (forward_step a.shape.k a.shape.s a.moves.now) u l.at l.states a.shape.k) (sym part) (written_some tab l.invariant.1 c.loop-i-test.true);
     }
 
 -- the letter chosen, in the words of the law of the next letter
 chosen : (c : After-choose-choice)
-    → Smallest (forward_step c.args.shape.k c.args.shape.s c.args.moves.now) (used c.loop-i.invariant.1) c.loop-i.at c.loop-i.states c.args.shape.k
+    → Smallest (forward_step c.args.shape.k c.args.shape.s c.args.moves.now) (used c.loop-i.invariant.0) c.loop-i.at c.loop-i.states c.args.shape.k
     c.choose-choice.result.letter c.choose-choice.result.next c.choose-choice.result.states
 chosen c =
     let a = c.args in
@@ -63,7 +61,7 @@ bounds-order-i c =
     let q = c.requires in
     let i = c.loop-i.invariant in
     let h : c.loop-i.i < length c.args.log.now = c.loop-i-test.true in
-    omega (arith, written_length i.1 i.2 (omega (arith, q.log_in_bounds)), q.log_in_bounds)
+    omega (arith, written_length i.0 i.1 (omega (arith, q.log_in_bounds)), q.log_in_bounds)
 
 pub overflow_sub-near : goal.overflow_sub-near
 overflow_sub-near c = omega (arith, (chosen (goal.at.overflow_sub-near c).After-choose-choice).behind)
@@ -73,20 +71,19 @@ loop-i-preserved c =
     let l = c.loop-i in
     let a = c.args in
     let x = c.choose-choice.result in (
-      omega arith,
-      l.invariant.1,
-      subst (λ n. Written l.invariant.1 a.order.now n (set l.order l.i x.letter) x.states x.next) (sym (add-one l.i))
-          (written_next l.invariant.1 l.invariant.2 c.loop-i-test.true c.requires.log_in_bounds (chosen (goal.at.loop-i-preserved c).After-choose-choice)),
+      l.invariant.0,
+      subst (λ n. Written l.invariant.0 a.order.now n (set l.order l.i x.letter) x.states x.next) (sym (add-one l.i))
+          (written_next l.invariant.0 l.invariant.1 c.loop-i-test.true c.requires.log_in_bounds (chosen (goal.at.loop-i-preserved c).After-choose-choice)),
     )
 
 pub shape_of-order : goal.shape_of-order
 shape_of-order c =
     let i = c.loop-i.invariant in
-    written_length i.1 i.2 (omega (arith, i.0, c.requires.log_in_bounds))
+    written_length i.0 i.1 (omega (arith, c.requires.log_in_bounds))
 
 pub returns : goal.returns
 returns c =
     let l = c.loop-i in
     let a = c.args in
-    let e : l.i ≡ length a.log.now = omega (arith, l.invariant.0, c.loop-i-test.false) in
-    written_all l.invariant.1 c.requires.log_value (subst (λ n. Written l.invariant.1 a.order.now n l.order l.states l.at) e l.invariant.2)
+    let e : l.i ≡ length a.log.now = omega (arith, c.loop-i-test.false) in
+    written_all l.invariant.0 c.requires.log_value (subst (λ n. Written l.invariant.0 a.order.now n l.order l.states l.at) e l.invariant.1)

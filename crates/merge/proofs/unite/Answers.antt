@@ -1,14 +1,11 @@
-use Prim.Native.Nat.{ℕ, ◌-◌, ◌^◌, ◌<◌}
+use Prim.Native.Nat.{ℕ, ◌-◌, ◌<◌}
 use mathlib.Core.Path.{◌≡◌, sym, ◌∙◌, ap}
-use mathlib.Core.Logic.{⊎_elim}
 use native.Mathlib.Omega.{arith}
 use lib.Bits.{bit_and, bit_or, and_le_r, or_zero_l}
 use lib.Count.{trailing_le, count_trailing_zeros}
-use lib.Dec.{T}
 use lib.ListN.{get_or}
 use Rattle.profile.specs.Automata.{forward_step}
 use Rattle.profile.specs.Prefixes.{at}
-use Rattle.profile.specs.Traces.{bit}
 use Rattle.theory.proofs.SetLoops.{rest_first, rest_in}
 use Rattle.records.specs.Records.{forward_at, records_in}
 use Rattle.rows.proofs.Rows.{forward_same}

@@ -1,23 +1,11 @@
 -- `merge::unite` meets its contract. The loop's invariant: what is handed on so far, united with what the records of the letters that are left hand on, is
 -- the whole. The measure is the set of the letters that are left, as a number.
-use Prim.Native.Nat.{ℕ, ◌-◌, ◌^◌, ◌<◌}
-use mathlib.Core.Path.{◌≡◌, sym, ◌∙◌, ap}
-use mathlib.Core.Logic.{⊎_elim}
-use native.Mathlib.Omega.{arith}
-use lib.Bits.{bit_and, bit_or, and_le_r, or_zero_l}
-use lib.Count.{trailing_le, count_trailing_zeros}
+use Prim.Native.Nat.{ℕ, ◌^◌, ◌<◌}
+use mathlib.Core.Path.{◌≡◌}
+use lib.Bits.{bit_or}
 use lib.Dec.{T}
-use lib.ListN.{get_or}
-use Rattle.profile.specs.Automata.{forward_step}
-use Rattle.profile.specs.Prefixes.{at}
 use Rattle.profile.specs.Traces.{bit}
-use Rattle.theory.proofs.SetLoops.{rest_first, rest_in}
-use Rattle.records.specs.Records.{forward_at, records_in}
-use Rattle.rows.proofs.Rows.{forward_same}
-use Rattle.merge.specs.declared.Handed.{Handed}
-use Rattle.merge.specs.Merge.{inherited, other_letters, passing, united}
-use Rattle.parents.proofs.Unions.{over_left, over_none, over_taken}
-use borrow.Author.Rules.{rules}
+use Rattle.merge.specs.Merge.{inherited, passing, united}
 use Rattle.merge.proofs.unite.Given as goal
 
 abbrev pub invariant-loop-rest : goal.invariant-loop-rest

@@ -9,7 +9,6 @@ use Rattle.counts.specs.Counts.{add_count}
 use Rattle.records.specs.Records.{records_in}
 use Rattle.merge.specs.Merge.{better, grown, joined, least_letters, least_words}
 use Rattle.merge.proofs.Givers.{better_none}
-use borrow.Author.Rules.{rules}
 use Rattle.merge.proofs.with_cursor.Goals as goal
 
 pub returns-then-records_in-j : goal.returns-then-records_in-j

@@ -1,12 +1,11 @@
 -- `merge::with_parent` meets its contract.
-use mathlib.Core.Path.{◌≡◌, refl, sym, ◌∙◌, ap, ap₂}
-use Prim.Native.Nat.{ℕ, ◌-◌, ◌*◌, ◌%◌, ◌^◌}
+use mathlib.Core.Path.{◌≡◌, refl, ◌∙◌, ap, ap₂}
+use Prim.Native.Nat.{◌-◌, ◌*◌, ◌%◌, ◌^◌}
 use native.Mathlib.Nat.{one-mul}
 use native.Mathlib.Omega.{arith}
 use lib.Bits.{bit_and, bit_or}
 use lib.Pow.{shl_exact}
 use Rattle.rows.specs.Rows.{forward_by}
-use borrow.Author.Rules.{rules}
 use Rattle.merge.proofs.with_parent.Goals as goal
 
 pub overflow_cast-passed : goal.overflow_cast-passed
