@@ -37,12 +37,10 @@ fn passes(masks: &[u16], group: u16, x: usize) -> bool
 fn pair_refused(masks: &[u16], group: u16) -> bool
     ensures { result ≡ exchanges masks.now group }
 {
-    let mut letter = 0;
-    while letter < masks.len() {
+    for letter in 0..masks.len() {
         if passes(masks, group, letter) {
             return true;
         }
-        letter += 1;
     }
     false
 }
@@ -61,42 +59,24 @@ fn group_refused(k: usize, masks: &[u16], group: u16) -> bool
 fn some_refused(k: usize, masks: &[u16], groups: &[u16]) -> bool
     ensures { result ≡ any (group_bad k masks.now) groups.now }
 {
-    let mut i = 0;
-    while i < groups.len() {
-        let group = groups[i];
-        if group_refused(k, masks, group) {
-            return true;
-        }
-        i += 1;
-    }
-    false
+    groups.iter().any(|group| group_refused(k, masks, *group))
 }
 
 // The letter is in one of the groups.
 fn held(groups: &[u16], x: usize) -> bool
     ensures { result ≡ any (λ g. bit g x) groups.now }
 {
-    let mut i = 0;
-    while i < groups.len() {
-        let group = groups[i];
-        if ceilings::has(group, x) {
-            return true;
-        }
-        i += 1;
-    }
-    false
+    groups.iter().any(|group| ceilings::has(*group, x))
 }
 
 // A letter below k is in no group.
 fn letter_missing(k: usize, groups: &[u16]) -> bool
     ensures { result ≡ lacks_letter k groups.now }
 {
-    let mut x = 0;
-    while x < k {
+    for x in 0..k {
         if !held(groups, x) {
             return true;
         }
-        x += 1;
     }
     false
 }
