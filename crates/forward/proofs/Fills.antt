@@ -23,7 +23,6 @@ use Rattle.theory.proofs.Fronts.{front_whole}
 use Rattle.forward.specs.Forward.{Forward, Ready}
 use Rattle.forward.specs.Merging.{Begun, Grows, Merging, Placed, Steps, begun, pairs, records_between, totals}
 use Rattle.forward.specs.declared.Filled.{Filled}
-use Rattle.forward.specs.declared.Merged.TheVariants as merged
 use Rattle.forward.proofs.Drafts.{begun_again, begun_same, totals_le, totals_more, totals_suc}
 use Rattle.forward.proofs.Puts.{level_part}
 use Rattle.forward.proofs.Steps.{placed_start}
@@ -99,7 +98,7 @@ module _ {p : Rules} {w : List ℕ} {m room : ℕ} {starts places turns : List �
       placed = f.placed;
     }
 
-    pub filling_next : (m : ℕ) (after next : List ℕ) → Steps p w room t first j table after next (merged.Put m) → length after ≡ length table → length next ≡ length cursors
+    pub filling_next : (m : ℕ) (after next : List ℕ) → Steps p w room t first j table after next (Some (Some m)) → length after ≡ length table → length next ≡ length cursors
         → Filling p w before after room t first (j + 1) (n + m) next
     filling_next m after next s l e = subst (λ i. Filling p w before after room t first i (n + m) next) (sym (add-one j)) (record {
       kept = l ∙ f.kept;
@@ -131,7 +130,7 @@ module _ {p : Rules} {w : List ℕ} {m room : ℕ} {starts places turns : List �
     pub filling_few : n ≤ most_letters * room
     filling_few = omega (arith, f.paired, f.inside, pairs_few p w r.profile.relation.most (take j E), length-take-le j E f.come)
 
-    pub filling_done : (after next : List ℕ) → Steps p w room t first j table after next merged.Nothing → Grows p w room t first before after (Some (j, n))
+    pub filling_done : (after next : List ℕ) → Steps p w room t first j table after next (Some None) → Grows p w room t first before after (Some (j, n))
     filling_done after next s =
         let all : take j E ≡ E = take_all j E (omega (arith, s.0)) in (
           s.0,

@@ -1,6 +1,7 @@
 -- A step of the merge in the table: the next record of a total is put, or there is none, or it does not fit.
 use mathlib.Core.Path.{◌≡◌, sym, ◌∙◌, ap, ap₂, subst}
 use mathlib.Core.Bool.{Bool, false}
+use Rattle.std.specs.Prelude.{Some}
 use mathlib.Core.List.{List, [], ◌∷◌, ◌++◌, append_assoc}
 use mathlib.Core.Option.{none, some}
 use Prim.Native.Nat.{ℕ, suc, ◌+◌, ◌*◌, ◌%◌, ◌^◌, ◌≤◌, ◌<◌}
@@ -25,7 +26,6 @@ use Rattle.merge.specs.Merge.{givers, inherited, least_of, passing, united}
 use Rattle.records.specs.Records.{put_record}
 use Rattle.forward.specs.Forward.{Ready}
 use Rattle.forward.specs.Merging.{Merging, Placed, Steps, begun, records_between, totals}
-use Rattle.forward.specs.declared.Merged.TheVariants.{Put}
 use Rattle.forward.proofs.Drafts.{begun_part, begun_put, totals_suc}
 use Rattle.forward.proofs.Handed.{handed_letters, handed_removable}
 use Rattle.forward.proofs.Steps.{next_forward, next_none, next_placed, next_some}
@@ -106,7 +106,7 @@ module _ {p : Rules} {w : List ℕ} {room : ℕ} {starts places turns : List ℕ
         → F ≡ givers part p.profile.k cursors
         → n ≡ ones L
         → after ≡ put_record table (first + j) (v ++ (S ∷ bit_or L (F * 2 ^ 16 % 2 ^ 32) ∷ []))
-        → Steps p w room t first j table after next (Put n)
+        → Steps p w room t first j table after next (Some (Some n))
     merge_put S L F n after next lt s a l g m put =
         let q = next_some r t part part_drafted cursors long j h.placed v least in
         let e = get_or E j [] in

@@ -16,8 +16,6 @@ use Rattle.cursors.specs.Cursors.{advanced}
 use Rattle.merge.specs.declared.Handed.{Handed}
 use Rattle.merge.specs.Merge.{givers, inherited, least_of, passing, united}
 use Rattle.rows.specs.Rows.{by_letter}
-use Rattle.forward.specs.declared.Merged.{Merged}
-use Rattle.forward.specs.declared.Merged.TheVariants as merged
 use Rattle.forward.specs.declared.Part.{Part}
 use Rattle.forward.specs.Forward.{Ready}
 use Rattle.records.specs.Drafts.{drafted, letters_of, of_total}
@@ -85,10 +83,10 @@ Halfway p w table a j cursors starts places turns termed =
     Ready p w (length table) a.room starts places turns termed × Merging p w table a.room a.t a.from a.first j cursors
 
 -- record j of total t + 1 is put, or there is none, or it does not fit
-abbrev pub Steps : Rules → List ℕ → ℕ → ℕ → ℕ → ℕ → List ℕ → List ℕ → List ℕ → Merged → Type 0
-Steps p w room t first j before after cursors merged.Nothing = (j ≡ length (of_total p w (suc t))) × (after ≡ before)
-Steps p w room t first j before after cursors merged.Full = room < first + length (of_total p w (suc t))
-Steps p w room t first j before after cursors (merged.Put n) =
+abbrev pub Steps : Rules → List ℕ → ℕ → ℕ → ℕ → ℕ → List ℕ → List ℕ → List ℕ → Option (Option ℕ) → Type 0
+Steps p w room t first j before after cursors (Some None) = (j ≡ length (of_total p w (suc t))) × (after ≡ before)
+Steps p w room t first j before after cursors None = room < first + length (of_total p w (suc t))
+Steps p w room t first j before after cursors (Some (Some n)) =
     (first + j < room)
     × (j < length (of_total p w (suc t)))
     × (n ≡ length (letters_of p w (get_or (of_total p w (suc t)) j [])))

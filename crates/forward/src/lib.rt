@@ -43,14 +43,6 @@ struct Part {
     first: usize,
 }
 
-// The next record of a total is put, with the number of letters that can be added; or there is none; or it does not fit.
-#[derive(Clone, Copy)]
-enum Merged {
-    Nothing,
-    Full,
-    Put(u32),
-}
-
 // Puts the record of the empty prefix; the number of letters that can be added to it.
 fn put_first(
     table: &mut [u32],
@@ -111,7 +103,7 @@ fn put_in(table: &mut [u32], first: usize, j: usize, c: Counts, forward: u32, la
     records::put(&mut table[at..], j, c, forward, last);
 }
 
-// Puts record j of the total behind the part, if there is one.
+// Puts record j of the total behind the part, if there is one, and tells the number of letters that can be added to it; `None` where it does not fit.
 fn merge_next(
     table: &mut [u32],
     part: Part,
@@ -126,7 +118,7 @@ fn merge_next(
     cursors: &mut [usize],
     turns: &[Place],
     termed: bool,
-) -> Merged
+) -> Option<Option<u32>>
     requires halfway { Halfway (rules_of (profile_of part.shape masks.now moves.now) termed) log.now table.old part j cursors.old starts.now places.now turns.now termed }
     requires prepared { Prepared (rules_of (profile_of part.shape masks.now moves.now) termed) rows.now keepers.now }
     ensures { Steps (rules_of (profile_of part.shape masks.now moves.now) termed) log.now part.room part.t part.first j table.old table.new cursors.new result }
@@ -139,7 +131,7 @@ fn merge_next(
     let end = RECORD * first;
     let next = next_counts(&table[start..end], k, s, masks, moves, rows, cursors);
     match next {
-        None => Merged::Nothing,
+        None => Some(None),
         Some((c, from, handed)) => {
             if first + j < room {
                 // Chosen here and in `put_first`, not in a function of its own: the compiler then puts the tests into the loop.
@@ -162,9 +154,9 @@ fn merge_next(
                         | letters::tested(c, k, masks, keepers, log.len(), starts, places, open)
                 };
                 put_in(table, first, j, c, handed.forward, set | (from << HALF));
-                Merged::Put(u32::count_ones(set))
+                Some(Some(u32::count_ones(set)))
             } else {
-                Merged::Full
+                None
             }
         }
     }
@@ -202,29 +194,26 @@ fn fill_total(
     let mut cursors = first_cursors(table, part, part.shape.k);
     let mut pairs = 0u64;
     let mut j = 0;
-    loop {
-        let merged = merge_next(
-            table,
-            part,
-            j,
-            masks,
-            moves,
-            rows,
-            keepers,
-            log,
-            starts,
-            places,
-            &mut cursors,
-            turns,
-            termed,
-        );
-        match merged {
-            Merged::Nothing => return Some((j, pairs)),
-            Merged::Full => return None,
-            Merged::Put(n) => pairs += n as u64,
-        }
+    // Kept: a `for` has no end to go to, since only the merge tells how many records the total has.
+    while let Some(n) = merge_next(
+        table,
+        part,
+        j,
+        masks,
+        moves,
+        rows,
+        keepers,
+        log,
+        starts,
+        places,
+        &mut cursors,
+        turns,
+        termed,
+    )? {
+        pairs += n as u64;
         j += 1;
     }
+    Some((j, pairs))
 }
 
 // Where the total behind the part stands, which has so many records.
@@ -263,6 +252,7 @@ fn fill_totals(
 {
     let mut at = part;
     let mut looks = number as u64;
+    // Kept: the part has the number of its total, which the next part comes from; a `for` would count the totals twice.
     while at.t < log.len() {
         let (records, pairs) = fill_total(
             table, at, masks, moves, rows, keepers, log, starts, places, turns, termed,

@@ -1,7 +1,6 @@
 -- `forward::fill_forward` meets its contract.
 use mathlib.Core.Path.{sym, subst}
 use native.Mathlib.Omega.{arith}
-use borrow.Author.Rules.{rules}
 use Rattle.terms.specs.Coded.{rules_of}
 use Rattle.profile.specs.Automata.{profile_of}
 use Rattle.forward.specs.Forward.{Ready}

@@ -1,7 +1,7 @@
-use mathlib.Core.Path.{refl, sym, subst}
-use Prim.Native.Nat.{◌+◌, ◌-◌}
+use mathlib.Core.Path.{refl, sym, ◌∙◌, ap, subst}
+use Rattle.std.specs.Prelude.{Some}
+use Prim.Native.Nat.{◌+◌}
 use native.Mathlib.Omega.{arith}
-use borrow.Author.Rules.{rules}
 use lib.ListN.{replicate}
 use Rattle.profile.specs.Limits.{most_letters}
 use Rattle.terms.specs.Coded.{rules_of}
@@ -10,7 +10,7 @@ use Rattle.forward.specs.Forward.{Ready}
 use Rattle.forward.specs.Merging.{Steps}
 use Rattle.forward.proofs.Fills.{Filling, filling_done, filling_few, filling_merging, filling_next, filling_start}
 use Rattle.forward.proofs.fill_total.Goals as goal
-use Rattle.forward.proofs.fill_total.Goals.{In-Put}
+use Rattle.forward.proofs.fill_total.Goals.{In-Some}
 
 pub loop-n-init : goal.loop-n-init
 loop-n-init c =
@@ -18,8 +18,8 @@ loop-n-init c =
     let h = c.requires.0 in
     subst (Filling (rules_of (profile_of a.part.shape a.masks.now a.moves.now) a.termed) a.log.now a.table.now a.table.now a.part.room a.part.t a.part.first 0 0) (sym c.first_cursors-cursors.ensures) (filling_start h.0 h.1 (replicate most_letters 0) refl)
 
-pub merge_next-merged-requires : goal.merge_next-merged-requires
-merge_next-merged-requires c =
+pub merge_next-requires : goal.merge_next-requires
+merge_next-requires c =
     let a = c.args in
     let h = c.requires.0 in
     let f = c.loop-n.invariant in record {
@@ -27,42 +27,42 @@ merge_next-merged-requires c =
       prepared = c.requires.1;
     }
 
-pub returns-in-Nothing : goal.returns-in-Nothing
-returns-in-Nothing c =
+pub returns : goal.returns
+returns c =
     let a = c.args in
     let h = c.requires.0 in
     let l = c.loop-n in
-    let x = c.merge_next-merged in
-    let s = subst (Steps (rules_of (profile_of a.part.shape a.masks.now a.moves.now) a.termed) a.log.now a.part.room a.part.t a.part.first l.j l.table x.new.table x.new.cursors) c.in-Nothing.is x.ensures in
+    let x = c.merge_next in
+    let s = subst (Steps (rules_of (profile_of a.part.shape a.masks.now a.moves.now) a.termed) a.log.now a.part.room a.part.t a.part.first l.j l.table x.new.table x.new.cursors) (c.in_ok-n.was ∙ ap Some c.in_default.is) x.ensures in
     filling_done h.0 h.1 l.invariant x.new.table x.new.cursors s
 
-pub returns-in-Full : goal.returns-in-Full
-returns-in-Full c =
+pub returns-in_err-n : goal.returns-in_err-n
+returns-in_err-n c =
     let a = c.args in
     let l = c.loop-n in
-    let x = c.merge_next-merged in
-    subst (Steps (rules_of (profile_of a.part.shape a.masks.now a.moves.now) a.termed) a.log.now a.part.room a.part.t a.part.first l.j l.table x.new.table x.new.cursors) c.in-Full.is x.ensures
+    let x = c.merge_next in
+    rw c.from_residual.ensures (subst (Steps (rules_of (profile_of a.part.shape a.masks.now a.moves.now) a.termed) a.log.now a.part.room a.part.t a.part.first l.j l.table x.new.table x.new.cursors) c.in_err-n.was x.ensures)
 
 -- the invariant behind an iteration that puts a record
-further : (c : In-Put)
+further : (c : In-Some)
     → Filling (rules_of (profile_of c.args.part.shape c.args.masks.now c.args.moves.now) c.args.termed) c.args.log.now c.args.table.now
-    c.merge_next-merged.new.table c.args.part.room c.args.part.t c.args.part.first (c.loop-n.j + 1) (c.loop-n.pairs + c.in-Put.n) c.merge_next-merged.new.cursors
+    c.merge_next.new.table c.args.part.room c.args.part.t c.args.part.first (c.loop-n.j + 1) (c.loop-n.pairs + c.in-Some.n) c.merge_next.new.cursors
 further c =
     let a = c.args in
     let h = c.requires.0 in
     let l = c.loop-n in
-    let x = c.merge_next-merged in
-    let s = subst (Steps (rules_of (profile_of a.part.shape a.masks.now a.moves.now) a.termed) a.log.now a.part.room a.part.t a.part.first l.j l.table x.new.table x.new.cursors) c.in-Put.is x.ensures in
-    filling_next h.0 h.1 l.invariant c.in-Put.n x.new.table x.new.cursors s x.auto.table x.auto.cursors
+    let x = c.merge_next in
+    let s = subst (Steps (rules_of (profile_of a.part.shape a.masks.now a.moves.now) a.termed) a.log.now a.part.room a.part.t a.part.first l.j l.table x.new.table x.new.cursors) (c.in_ok-n.was ∙ ap Some c.in-Some.is) x.ensures in
+    filling_next h.0 h.1 l.invariant c.in-Some.n x.new.table x.new.cursors s x.auto.table x.auto.cursors
 
 pub loop-n-preserved : goal.loop-n-preserved
-loop-n-preserved c = further (goal.at.loop-n-preserved c).In-Put
+loop-n-preserved c = further (goal.at.loop-n-preserved c).In-Some
 
 pub overflow_add-pairs : goal.overflow_add-pairs
-overflow_add-pairs c = let h = c.requires.0 in omega (arith, filling_few h.0 h.1 (further (goal.at.overflow_add-pairs c).In-Put), h.0.few)
+overflow_add-pairs c = let h = c.requires.0 in omega (arith, filling_few h.0 h.1 (further (goal.at.overflow_add-pairs c).In-Some), h.0.few)
 
 pub overflow_add-j : goal.overflow_add-j
-overflow_add-j c = omega (arith, (further (goal.at.overflow_add-j c).In-Put).inside, c.requires.0.0.few)
+overflow_add-j c = omega (arith, (further (goal.at.overflow_add-j c).In-Some).inside, c.requires.0.0.few)
 
 pub loop-n-smaller : goal.loop-n-smaller
-loop-n-smaller c = omega (arith, (further (goal.at.loop-n-smaller c).In-Put).inside)
+loop-n-smaller c = omega (arith, (further (goal.at.loop-n-smaller c).In-Some).inside)

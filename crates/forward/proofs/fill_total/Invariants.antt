@@ -1,15 +1,8 @@
 -- `forward::fill_total` meets its contract. The loop's invariant: the first j records are put, and their pairs counted.
-use mathlib.Core.Path.{refl, sym, subst}
 use Prim.Native.Nat.{◌+◌, ◌-◌}
-use native.Mathlib.Omega.{arith}
-use borrow.Author.Rules.{rules}
-use lib.ListN.{replicate}
-use Rattle.profile.specs.Limits.{most_letters}
 use Rattle.terms.specs.Coded.{rules_of}
 use Rattle.profile.specs.Automata.{profile_of}
-use Rattle.forward.specs.Forward.{Ready}
-use Rattle.forward.specs.Merging.{Steps}
-use Rattle.forward.proofs.Fills.{Filling, filling_done, filling_few, filling_merging, filling_next, filling_start}
+use Rattle.forward.proofs.Fills.{Filling}
 use Rattle.forward.proofs.fill_total.Given as goal
 
 abbrev pub invariant-loop-n : goal.invariant-loop-n

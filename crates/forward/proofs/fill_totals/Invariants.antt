@@ -1,14 +1,10 @@
 -- `forward::fill_totals` meets its contract. The loop's invariant: the totals up to that of the part are put, and their pairs counted.
-use mathlib.Core.Path.{◌≡◌, refl, sym, ap, subst, subst₂}
-use Prim.Native.Nat.{◌+◌, ◌-◌}
-use native.Mathlib.Omega.{arith}
-use borrow.Author.Rules.{rules}
+use mathlib.Core.Path.{◌≡◌}
+use Prim.Native.Nat.{◌-◌}
 use lib.ListN.{length}
 use Rattle.terms.specs.Coded.{rules_of}
 use Rattle.profile.specs.Automata.{profile_of}
-use Rattle.forward.specs.Forward.{Ready}
-use Rattle.forward.specs.Merging.{Begun, Grows, Prepared, Standing}
-use Rattle.forward.proofs.Fills.{Reaching, reaching_end, reaching_few, reaching_full, reaching_next, reaching_start}
+use Rattle.forward.proofs.Fills.{Reaching}
 use Rattle.forward.proofs.fill_totals.Given as goal
 
 abbrev pub invariant-loop-at : goal.invariant-loop-at
