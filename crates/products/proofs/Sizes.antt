@@ -4,7 +4,7 @@ use mathlib.Core.Bool.{Bool, true, false, cond}
 use mathlib.Core.Logic.{⊎_elim}
 use mathlib.Core.List.Memᴰ
 use mathlib.Core.List.{List, [], ◌∷◌, ◌++◌, map}
-use Prim.Native.Nat.{ℕ, zero, suc, ◌+◌, ◌*◌, ◌≤◌, ◌<◌, min}
+use Prim.Native.Nat.{ℕ, suc, ◌+◌, ◌*◌, ◌≤◌, ◌<◌, min}
 use native.Mathlib.Nat.{mul_assoc, mul-one, mul-le-mul}
 use native.Mathlib.Numerals.{add-one}
 use native.Mathlib.Omega.{arith}
@@ -154,17 +154,6 @@ product_one counts (g ∷ groups) =
 -- a product that is passed stays passed; one that is not is told
 pub product_high : (n rest whole : ℕ) → n * rest ≡ whole → 1 ≤ rest → 4294967295 < n → 4294967296 ≡ min whole 4294967296
 product_high n rest whole e h l = let m = mul-le-mul {n₁ = n} {m₁ = 1} {n₂ = n} {m₂ = rest} (omega arith) h in omega (arith, mul-one n)
-
-drop_all : (i : ℕ) (l : List ℕ) → length l ≤ i → drop i l ≡ []
-drop_all zero [] h = refl
-drop_all (suc i) [] h = refl
-drop_all zero (a ∷ l) h = absurd (omega arith)
-drop_all (suc i) (a ∷ l) h = drop_all i l (omega arith)
-
-pub product_told : (counts groups : List ℕ) (n i : ℕ) → length groups ≤ i → n * product_of counts (drop i groups) ≡ product_of counts groups → n ≤ 4294967295
-    → n ≡ min (product_of counts groups) 4294967296
-product_told counts groups n i h e l =
-    let q : n ≡ product_of counts groups = sym (mul-one n) ∙ ap (λ r. n * product_of counts r) (sym (drop_all i groups h)) ∙ e in omega arith
 
 -- one group more
 pub product_next : (counts groups : List ℕ) (n i g : ℕ) → i < length groups → get_or groups i 0 ≡ g → n * product_of counts (drop i groups) ≡ product_of counts groups

@@ -21,11 +21,9 @@ pub fn tally(log: &[u8]) -> [u16; MOST_LETTERS]
     ensures { result ≡ map (count (λ a. a) log.now) (below most_letters) }
 {
     let mut counts = [0u16; MOST_LETTERS];
-    let mut at = 0;
-    while at < log.len() {
+    for at in 0..log.len() {
         let a = log[at] as usize;
         counts[a] = counts[a] + 1;
-        at += 1;
     }
     counts
 }
@@ -48,10 +46,8 @@ fn size(counts: &[u16], group: u16) -> u64
     ensures { (result ≡ size_of counts.now group) × (result ≤ 1048560) }
 {
     let mut n = 0u64;
-    let mut x = 0;
-    while x < MOST_LETTERS {
+    for x in 0..MOST_LETTERS {
         n = n + part(counts, group, x);
-        x += 1;
     }
     n
 }
@@ -61,15 +57,12 @@ pub fn product(counts: &[u16], groups: &[u16]) -> u64
     ensures { result ≡ min (product_of counts.now groups.now) (highest_ceiling + 1) }
 {
     let mut n = 1u64;
-    let mut i = 0;
-    while i < groups.len() {
-        let group = groups[i];
-        let more = n * (size(counts, group) + 1);
+    for group in groups.iter() {
+        let more = n * (size(counts, *group) + 1);
         if HIGHEST_CEILING < more {
             return PASSED;
         }
         n = more;
-        i += 1;
     }
     n
 }
