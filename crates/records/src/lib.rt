@@ -37,23 +37,15 @@ pub fn counts_at(t: &[u32], j: usize) -> Counts
     ensures { words result ≡ counts_at t.now j }
 {
     let at = RECORD * j;
-    let w0 = t[at];
-    let w1 = t[at + 1];
-    let w2 = t[at + 2];
-    let w3 = t[at + 3];
-    let w4 = t[at + 4];
-    let w5 = t[at + 5];
-    let w6 = t[at + 6];
-    let w7 = t[at + 7];
     Counts {
-        w0: w0,
-        w1: w1,
-        w2: w2,
-        w3: w3,
-        w4: w4,
-        w5: w5,
-        w6: w6,
-        w7: w7,
+        w0: t[at],
+        w1: t[at + 1],
+        w2: t[at + 2],
+        w3: t[at + 3],
+        w4: t[at + 4],
+        w5: t[at + 5],
+        w6: t[at + 6],
+        w7: t[at + 7],
     }
 }
 
@@ -79,22 +71,14 @@ pub fn put(part: &mut [u32], j: usize, c: Counts, forward: u32, last: u32)
     ensures { part.new ≡ put_record part.old j (words c ++ (forward ∷ last ∷ [])) }
 {
     let at = RECORD * j;
-    let w0 = c.w0;
-    let w1 = c.w1;
-    let w2 = c.w2;
-    let w3 = c.w3;
-    let w4 = c.w4;
-    let w5 = c.w5;
-    let w6 = c.w6;
-    let w7 = c.w7;
-    part[at] = w0;
-    part[at + 1] = w1;
-    part[at + 2] = w2;
-    part[at + 3] = w3;
-    part[at + 4] = w4;
-    part[at + 5] = w5;
-    part[at + 6] = w6;
-    part[at + 7] = w7;
+    part[at] = c.w0;
+    part[at + 1] = c.w1;
+    part[at + 2] = c.w2;
+    part[at + 3] = c.w3;
+    part[at + 4] = c.w4;
+    part[at + 5] = c.w5;
+    part[at + 6] = c.w6;
+    part[at + 7] = c.w7;
     part[at + NUMBERS] = forward;
     part[at + (NUMBERS + 1)] = last;
 }

@@ -40,27 +40,8 @@ pub fn place(r: Refusal) -> usize
     ensures { result ≡ refusal_place r }
 {
     match r {
-        Refusal::ShortFile => 0,
-        Refusal::OutOfRange => 0,
-        Refusal::Distance => 0,
-        Refusal::MaskBit => 0,
-        Refusal::StateBit => 0,
-        Refusal::LongLog => 0,
-        Refusal::BadLetter(i) => i,
-        Refusal::ShortBuffer => 0,
-        Refusal::FullTable => 0,
-        Refusal::BadText(i) => i,
-        Refusal::DeepText => 0,
-        Refusal::LongText => 0,
-        Refusal::BadDay => 0,
-        Refusal::BadTerm => 0,
-        Refusal::NoTerm => 0,
-        Refusal::ShortCosts => 0,
-        Refusal::BadGroups => 0,
-        Refusal::HighCeiling => 0,
-        Refusal::ViewBit => 0,
-        Refusal::BadRule => 0,
-        Refusal::ShortSets => 0,
+        Refusal::BadLetter(i) | Refusal::BadText(i) => i,
+        _ => 0,
     }
 }
 
