@@ -50,10 +50,6 @@ pub fn place_at(places: &[Place], i: usize) -> Place
 pub fn next_place(starts: &[Place], places: &[Place], x: usize, n: Place) -> Place
     ensures { result ≡ get_or places.now (get_or starts.now x 0 + n) 0 }
 {
-    let start = if x < starts.len() {
-        starts[x] as usize
-    } else {
-        0
-    };
+    let start = place_at(starts, x) as usize;
     place_at(places, start + n as usize)
 }
