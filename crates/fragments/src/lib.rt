@@ -22,18 +22,6 @@ fn when(b: bool, set: u32) -> u32
     if b { set } else { 0 }
 }
 
-fn both(a: bool, b: bool) -> bool
-    ensures { result ≡ (a && b) }
-{
-    if a { b } else { false }
-}
-
-fn one_of(a: bool, b: bool) -> bool
-    ensures { result ≡ (a || b) }
-{
-    if a { true } else { b }
-}
-
 // One letter, number n, that ends at `at`.
 pub fn letter_part(at: usize, n: usize) -> Part
     requires { n < most_states }
@@ -55,7 +43,7 @@ pub fn choice_part(x: Part, y: Part) -> Part
     Part {
         at: y.at,
         next: y.next,
-        empty: one_of(x.empty, y.empty),
+        empty: x.empty || y.empty,
         first: x.first | y.first,
         last: x.last | y.last,
     }
@@ -68,7 +56,7 @@ pub fn sequence_part(x: Part, y: Part) -> Part
     Part {
         at: y.at,
         next: y.next,
-        empty: both(x.empty, y.empty),
+        empty: x.empty && y.empty,
         first: x.first | when(x.empty, y.first),
         last: when(y.empty, x.last) | y.last,
     }
@@ -79,11 +67,9 @@ pub fn link(rows: &mut [u32], from: u32, to: u32)
     requires { length rows.old ≤ most_states }
     ensures { rows.new ≡ linked rows.old from to }
 {
-    let mut i = 0;
-    while i < rows.len() {
+    for i in 0..rows.len() {
         let more = when((from >> i) & 1 == 1, to);
         rows[i] = rows[i] | more;
-        i += 1;
     }
 }
 
@@ -92,14 +78,12 @@ fn stars_end(text: &[u8], from: usize) -> usize
     requires { from ≤ length text.now }
     ensures { result ≡ from + stars (drop from text.now) }
 {
-    let mut at = from;
-    while at < text.len() {
+    for at in from..text.len() {
         if text[at] != 42 {
             return at;
         }
-        at += 1;
     }
-    at
+    text.len()
 }
 
 // The part that ends at `from`, with the stars behind it.

@@ -3,114 +3,54 @@
 #![tactic(auto)]
 
 ghost use Rattle.std.specs.Prelude.{length};
-ghost use Rattle.streams.specs.Streams.{input_within, moved_within};
+ghost use Rattle.streams.specs.Streams.{input_within};
 
 use std::io;
 use std::io::{Error, ErrorKind, Read, Write};
 
 // How many calls are made at most, so that the loops end whatever the system answers.
-const MOST_CALLS: u64 = 0xffff_ffff_ffff_ffff;
-
-// The input: how many bytes of it are in the buffer, to its end or to the buffer's; or why a read failed.
-#[derive(Clone, Copy)]
-pub enum Input {
-    Failed(Error),
-    Bytes(usize),
-}
-
-// One call: how many bytes it moved, none where a signal interrupted it; or the end; or why it failed.
-#[derive(Clone, Copy)]
-enum Call {
-    Failed(Error),
-    End,
-    Moved(usize),
-}
-
-// A call that failed, unless a signal interrupted it: such a call moved nothing.
-fn failed(e: Error) -> Call
-    ensures { moved_within 0 result }
-{
-    if e.kind() == ErrorKind::Interrupted {
-        return Call::Moved(0);
-    }
-    Call::Failed(e)
-}
-
-// One read.
-fn read_some<R: Read>(from: &mut R, buf: &mut [u8]) -> Call
-    ensures { moved_within (length buf.old) result }
-{
-    let got = from.read(buf);
-    match got {
-        Err(e) => failed(e),
-        Ok(n) => {
-            if n == 0 {
-                return Call::End;
-            }
-            Call::Moved(n)
-        }
-    }
-}
-
-// One write. One that takes no byte is one that failed.
-fn write_some<W: Write>(to: &mut W, buf: &[u8]) -> Call
-    ensures { moved_within (length buf.now) result }
-{
-    let put = to.write(buf);
-    match put {
-        Err(e) => failed(e),
-        Ok(n) => {
-            if n == 0 {
-                return Call::Failed(Error::new(ErrorKind::WriteZero, "no byte was taken"));
-            }
-            Call::Moved(n)
-        }
-    }
-}
+const MOST_CALLS: u64 = u64::MAX;
 
 // The error of a stream for which the calls have run out.
 fn too_many() -> Error {
     Error::other("too many calls")
 }
 
-// Reads until the input ends, the buffer is full or a read fails.
-pub fn read_input<R: Read>(from: &mut R, buf: &mut [u8]) -> Input
+// Reads until the input ends, the buffer is full or a read fails, and tells how many bytes of the input are in the buffer.
+pub fn read_input<R: Read>(from: &mut R, buf: &mut [u8]) -> io::Result<usize>
     ensures { input_within (length buf.new) result }
 {
     let mut done = 0;
-    let mut calls = MOST_CALLS;
-    while done < buf.len() {
-        if calls == 0 {
-            return Input::Failed(too_many());
+    for _ in 0..MOST_CALLS {
+        if done == buf.len() {
+            return Ok(done);
         }
-        calls -= 1;
-        let call = read_some(from, &mut buf[done..]);
-        match call {
-            Call::Failed(e) => return Input::Failed(e),
-            Call::End => return Input::Bytes(done),
-            Call::Moved(n) => done += n,
+        match from.read(&mut buf[done..]) {
+            Ok(0) => return Ok(done),
+            Ok(n) => done += n,
+            Err(e) if e.kind() == ErrorKind::Interrupted => {}
+            Err(e) => return Err(e),
         }
     }
-    Input::Bytes(done)
+    Err(too_many())
 }
 
 // Writes all bytes, or tells why not all are written.
+// Kept: std's `write_all` to standard output gives up when signals have interrupted some of its calls, and this goes on.
 pub fn write_output<W: Write>(to: &mut W, bytes: &[u8]) -> io::Result<()> {
-    let mut done = 0;
-    let mut calls = MOST_CALLS;
-    while done < bytes.len() {
-        if calls == 0 {
-            return Err(too_many());
+    let mut rest = bytes;
+    for _ in 0..MOST_CALLS {
+        if rest.is_empty() {
+            return Ok(());
         }
-        calls -= 1;
-        let call = write_some(to, &bytes[done..]);
-        match call {
-            Call::Moved(n) => done += n,
-            Call::Failed(e) => return Err(e),
-            Call::End => return Err(too_many()),
+        match to.write(rest) {
+            Ok(0) => return Err(Error::new(ErrorKind::WriteZero, "no byte was taken")),
+            Ok(n) => rest = &rest[n..],
+            Err(e) if e.kind() == ErrorKind::Interrupted => {}
+            Err(e) => return Err(e),
         }
     }
-    Ok(())
+    Err(too_many())
 }
 
 // Tells a failure on standard error, with the words. Where that fails too, nothing is left to be done.

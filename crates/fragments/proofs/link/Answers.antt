@@ -19,11 +19,11 @@ loop-i-preserved c = let a = c.args in
     let f : ℕ → ℕ = (λ i. bit_or (get_or t i 0) (when (bit a.from i) a.to)) in
     let h : l.i < length t = omega arith in
     let g : bit_or (get_or l.rows l.i 0) c.when-more.result ≡ f l.i =
-    ap₂ bit_or (ap (λ r. get_or r l.i 0) l.invariant.2 ∙ front_here f t l.i) (c.when-more.ensures ∙ ap (λ b. when b a.to) (shift_mask a.from l.i)) in
-    (omega arith, simp length-set l.invariant.1, ap₂ (λ r v. set r l.i v) l.invariant.2 g ∙ front_put f t l.i h)
+    ap₂ bit_or (ap (λ r. get_or r l.i 0) l.invariant.1 ∙ front_here f t l.i) (c.when-more.ensures ∙ ap (λ b. when b a.to) (shift_mask a.from l.i)) in
+    (simp length-set l.invariant.0, ap₂ (λ r v. set r l.i v) l.invariant.1 g ∙ front_put f t l.i h)
 
 pub shape_of-rows : goal.shape_of-rows
-shape_of-rows c = c.loop-i.invariant.1
+shape_of-rows c = c.loop-i.invariant.0
 
 pub returns : goal.returns
 returns c = let a = c.args in
@@ -31,4 +31,4 @@ returns c = let a = c.args in
     let l = c.loop-i in
     let f : ℕ → ℕ = (λ i. bit_or (get_or t i 0) (when (bit a.from i) a.to)) in
     let e : l.i ≡ length t = omega arith in
-    l.invariant.2 ∙ (ap (λ n. map f (below n) ++ drop n t) e ∙ (ap (λ r. map f (below (length t)) ++ r) (drop_of_length-le t {i = length t} (omega arith)) ∙ append-nil (map f (below (length t)))))
+    l.invariant.1 ∙ (ap (λ n. map f (below n) ++ drop n t) e ∙ (ap (λ r. map f (below (length t)) ++ r) (drop_of_length-le t {i = length t} (omega arith)) ∙ append-nil (map f (below (length t)))))

@@ -2,7 +2,6 @@
 use lib.ListN.{length, get_or, drop}
 use mathlib.Core.Path.{◌≡◌}
 use mathlib.Core.List.{◌++◌, map}
-use Prim.Native.Nat.{◌-◌, ◌≤◌}
 use Rattle.profile.specs.Lists.{below}
 use Rattle.profile.specs.Traces.{bit}
 use lib.Bits.{bit_or}
@@ -11,8 +10,5 @@ use Rattle.fragments.proofs.link.Given as goal
 
 abbrev pub invariant-loop-i : goal.invariant-loop-i
 invariant-loop-i l =
-    (l.i ≤ length l.initial.rows) × (length l.rows ≡ length l.initial.rows)
+    (length l.rows ≡ length l.initial.rows)
     × (l.rows ≡ map (λ k. bit_or (get_or l.initial.rows k 0) (when (bit l.from k) l.to)) (below l.i) ++ drop l.i l.initial.rows)
-
-abbrev pub decreases-loop-i : goal.decreases-loop-i
-decreases-loop-i l = length l.initial.rows - l.i

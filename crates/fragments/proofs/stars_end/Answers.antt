@@ -10,7 +10,7 @@ returns-then-text-at-ne42 c = let t = c.args.text.now in let l = c.loop-at in
 
 pub loop-at-preserved : goal.loop-at-preserved
 loop-at-preserved c = let t = c.args.text.now in let l = c.loop-at in
-    let h : l.at < length t = omega arith in (omega arith, omega (arith, stars_more t l.at h c.if-text-at-ne42.false))
+    let h : l.at < length t = omega arith in omega (arith, stars_more t l.at h c.if-text-at-ne42.false)
 
 pub returns : goal.returns
 returns c =

@@ -1,9 +1,6 @@
--- Before each call of `streams::read_input` the bytes read are within the buffer; fewer calls are left at each turn.
+-- Before each call of `streams::read_input` the bytes read are within the buffer.
 use Rattle.std.proofs.Common.{length, ◌≤◌, ◌≡◌}
 use Rattle.streams.proofs.read_input.Given as goal
 
-abbrev pub invariant-loop-done : goal.invariant-loop-done
-invariant-loop-done g l = (l.done ≤ length l.buf) × (length l.buf ≡ length l.initial.buf)
-
-abbrev pub decreases-loop-done : goal.decreases-loop-done
-decreases-loop-done g l = l.calls
+abbrev pub invariant-loop : goal.invariant-loop
+invariant-loop g l = (l.done ≤ length l.buf) × (length l.buf ≡ length l.initial.buf)
