@@ -5,8 +5,8 @@ ghost use Rattle.profile.specs.Automata.{profile_of};
 ghost use Rattle.closestanswer.specs.Answers.{Promise};
 
 use closestanswer::Closest;
-use profile::Shape;
-use table::Built;
+use profile::{Refusal, Shape};
+use table::Filled;
 
 // The order closest to what was recorded, with a budget of pairs of a prefix and a state; refused as the judge refuses, then by 17.
 pub fn closest(
@@ -18,17 +18,14 @@ pub fn closest(
     work: &mut [u32],
     costs: &mut [u32],
     budget: u64,
-) -> Closest
+) -> Result<Closest, Refusal>
     ensures { Promise (profile_of shape masks.now moves.now) log.now budget order.old order.new work.old work.new costs.old costs.new result }
 {
     if order.len() < log.len() {
-        return Closest::Refused(verdict::refusal_of_short(shape, masks, moves, log));
+        return Err(verdict::refusal_of_short(shape, masks, moves, log));
     }
-    let built = table::build(shape, masks, moves, log, work);
-    match built {
-        Built::Refused(r) => Closest::Refused(r),
-        Built::Filled { prefixes, looks } => closestfilled::answer(
-            work, prefixes, looks, shape, masks, moves, log, log, budget, order, costs, false,
-        ),
-    }
+    let Filled { prefixes, looks } = table::build(shape, masks, moves, log, work)?;
+    closestfilled::answer(
+        work, prefixes, looks, shape, masks, moves, log, log, budget, order, costs, false,
+    )
 }

@@ -1,5 +1,6 @@
 -- The sentences of Paper 10 as theorems about what the call promises: `Promise p w B order order' table table' costs costs' r` is what holds of a call with
 -- profile p, log w and budget B that was lent `order`, `table` and `costs`, whatever these held, left `order'`, `table'` and `costs'`, and answered r.
+use Rattle.std.specs.Prelude.{Result, Ok, Err}
 use mathlib.Core.Path.{◌≡◌, sym, ◌∙◌, ap, subst}
 use mathlib.Core.Bool.{not}
 use mathlib.Core.Logic.{◌↔◌, ◌≢◌}
@@ -12,7 +13,7 @@ use Rattle.profile.specs.Traces.{independent}
 use Rattle.profile.specs.Automata.{Profile, automaton}
 use Rattle.profile.specs.Orders.{NoLater}
 use Rattle.profile.specs.Rules.{plain}
-use Rattle.profile.specs.Refusals.{judge_refusal, judge_refusals, refusal_number}
+use Rattle.profile.specs.Refusals.{judge_refusal, judge_refusals, refusal_number, refused_by}
 use Rattle.profile.specs.declared.Refusal.{Refusal}
 use Rattle.profile.specs.declared.Refusal.TheVariants.{FullTable, ShortCosts}
 use Rattle.theory.proofs.Demands.{Witness, order_of, prefixes_of}
@@ -22,9 +23,9 @@ use Rattle.table.specs.Table.{Spared}
 use Rattle.verdict.specs.Verdict as judge
 use Rattle.verdict.specs.declared.Judged.{Judged}
 use Rattle.verdict.proofs.Promises as told
-use Rattle.closestanswer.specs.Answers.{Promise, closest_refusal, refused_by, verdict_number}
+use Rattle.closestanswer.specs.Answers.{Promise, closest_refusal, verdict_number}
 use Rattle.closestanswer.specs.declared.Closest.{Closest}
-use Rattle.closestanswer.specs.declared.Closest.TheVariants.{NoOrder, Order, Refused}
+use Rattle.closestanswer.specs.declared.Closest.TheVariants.{NoOrder, Order}
 use Rattle.closestanswer.proofs.Promises.{as_the_judge_by, before_none, covered_told_by, floor_fewest_swaps_by, floor_holds_by, judges_told_by, lowest_passes, no_order_told_by, order_accepted_by, refused_exactly_by, seventeen_exactly, told_looks, told_prefixes}
 
 -- the judge never gives 17
@@ -35,36 +36,36 @@ module _ (p : Profile) (w : List ℕ) (B : ℕ) (order order' table table' costs
   -- ---- refusals
 
   -- a call is refused by r exactly when r is the first that applies, 17 behind 10; else there is a verdict
-  pub refused_exactly : (a : Closest) → Promise p w B order order' table table' costs costs' a → (r : Refusal)
-      → (a ≡ Refused r) ↔ (closest_refusal p w (length order) (length table) (length costs) ≡ some r)
+  pub refused_exactly : (a : Result Closest Refusal) → Promise p w B order order' table table' costs costs' a → (r : Refusal)
+      → (a ≡ Err r) ↔ (closest_refusal p w (length order) (length table) (length costs) ≡ some r)
   refused_exactly = refused_exactly_by (plain p) w B order order' table table' costs costs' (closest_refusal p w (length order) (length table) (length costs))
 
   -- 17 is given exactly where the judge refuses nothing and the cost table has fewer than P × s numbers
-  pub short_exactly : (r : Closest) → Promise p w B order order' table table' costs costs' r
+  pub short_exactly : (r : Result Closest Refusal) → Promise p w B order order' table table' costs costs' r
       → (refused_by r ≡ some ShortCosts) ↔ ((judge_refusal p w (length order) (length table) ≡ none) × (length costs < prefixes_of p w * p.s))
   short_exactly r h =
       let z = seventeen_exactly (judge_refusals p w (length order) (length table)) (prefixes_of p w) p.s (length costs) (judge_not_short p w (length order) (length table)) in
       (λ e. z.0 (sym h.refused ∙ e), λ k. h.refused ∙ z.1 k)
 
   -- a refused call changes nothing it was lent, save the usable numbers of the work table at 10 and 17
-  pub refused_unchanged : (r : Refusal) → Promise p w B order order' table table' costs costs' (Refused r)
+  pub refused_unchanged : (r : Refusal) → Promise p w B order order' table table' costs costs' (Err r)
       → (order' ≡ order) × (costs' ≡ costs) × (r ≢ FullTable → r ≢ ShortCosts → table' ≡ table) × Spared table table'
   refused_unchanged r h = h.tells
 
   -- ---- the verdict
 
   -- "Verdict 0 remains as it is": exactly where no reachable log is accepted
-  pub no_order_told : (P n : ℕ) → Promise p w B order order' table table' costs costs' (NoOrder P n) → (v : List ℕ) → Witness p w v → ⊥
+  pub no_order_told : (P n : ℕ) → Promise p w B order order' table table' costs costs' (Ok (NoOrder P n)) → (v : List ℕ) → Witness p w v → ⊥
   no_order_told = no_order_told_by (plain p) w B order order' table table' costs costs' (closest_refusal p w (length order) (length table) (length costs))
 
   -- verdict, P, looks and the work table are those that the judge gives for the same profile, log, order buffer and work table
-  pub as_the_judge : (order₁ table₁ : List ℕ) (r : Closest) (j : Judged) → Promise p w B order order' table table' costs costs' r → judge.Promise p w order order₁ table table₁ j
+  pub as_the_judge : (order₁ table₁ : List ℕ) (r : Result Closest Refusal) (j : Result Judged Refusal) → Promise p w B order order' table table' costs costs' r → judge.Promise p w order order₁ table table₁ j
       → refused_by r ≡ none
       → (verdict_number r ≡ judge.verdict_number j) × (told_prefixes r ≡ told.told_prefixes j) × (told_looks r ≡ told.told_looks j) × (table' ≡ table₁)
   as_the_judge order₁ table₁ r j h g e = as_the_judge_by (plain p) w B order order' table table' costs costs' (closest_refusal p w (length order) (length table) (length costs)) order₁ table₁
       (before_none (judge_refusals p w (length order) (length table)) (prefixes_of p w) p.s (length costs) (sym h.refused ∙ e)) r j h g e
 
-  module _ (P n c f : ℕ) (h : Promise p w B order order' table table' costs costs' (Order P n c f)) where
+  module _ (P n c f : ℕ) (h : Promise p w B order order' table table' costs costs' (Ok (Order P n c f))) where
     -- "the answer is an accepted order, its swaps c": it stands in the first bytes of the buffer
     pub order_accepted : Witness p w (take (length w) order') × (c ≡ swaps (λ a. a) w (take (length w) order'))
     order_accepted =

@@ -1,5 +1,6 @@
 -- The sentences of Paper 10 as theorems about what a call promises, whatever its rules: `PromiseBy p w B order order' table table' costs costs' q r` is what
 -- holds of a call with the rules p, the events w and a budget of B pairs; q is the refusal that applies, if any.
+use Rattle.std.specs.Prelude.{Result, Ok, Err}
 use mathlib.Core.Path.{◌≡◌, refl, sym, ◌∙◌, ap, subst}
 use mathlib.Core.Bool.{Bool, true, false, not}
 use mathlib.Core.Logic.{◌↔◌}
@@ -16,7 +17,7 @@ use Rattle.profile.specs.Automata.{automaton}
 use Rattle.profile.specs.Lists.{all}
 use Rattle.profile.specs.Orders.{NoLater}
 use Rattle.profile.specs.Rules.{Rules, order_by}
-use Rattle.profile.specs.Refusals.{lowest}
+use Rattle.profile.specs.Refusals.{lowest, refused_by}
 use Rattle.profile.specs.declared.Refusal.{Refusal}
 use Rattle.profile.specs.declared.Refusal.TheVariants.{ShortCosts}
 use Rattle.profile.proofs.Lists.{fst_of, snd_of}
@@ -32,9 +33,9 @@ use Rattle.verdict.specs.Verdict as judge
 use Rattle.verdict.specs.declared.Judged.{Judged}
 use Rattle.verdict.specs.declared.Judged.TheVariants as judged
 use Rattle.verdict.proofs.Promises as told
-use Rattle.closestanswer.specs.Answers.{PromiseBy, refused_by, short_costs, verdict_number}
+use Rattle.closestanswer.specs.Answers.{PromiseBy, short_costs, verdict_number}
 use Rattle.closestanswer.specs.declared.Closest.{Closest}
-use Rattle.closestanswer.specs.declared.Closest.TheVariants.{NoOrder, Order, Refused}
+use Rattle.closestanswer.specs.declared.Closest.TheVariants.{NoOrder, Order}
 
 -- ---- refusals, and 17 behind them
 
@@ -76,25 +77,25 @@ module _ (J : List (Bool × Refusal)) (P s l : ℕ) where
 
 -- ---- P and looks, as they are told
 
-abbrev pub told_prefixes : Closest → Option ℕ
-told_prefixes (Refused r) = none
-told_prefixes (NoOrder P n) = some P
-told_prefixes (Order P n c f) = some P
+abbrev pub told_prefixes : Result Closest Refusal → Option ℕ
+told_prefixes (Err r) = none
+told_prefixes (Ok (NoOrder P n)) = some P
+told_prefixes (Ok (Order P n c f)) = some P
 
-abbrev pub told_looks : Closest → Option ℕ
-told_looks (Refused r) = none
-told_looks (NoOrder P n) = some n
-told_looks (Order P n c f) = some n
+abbrev pub told_looks : Result Closest Refusal → Option ℕ
+told_looks (Err r) = none
+told_looks (Ok (NoOrder P n)) = some n
+told_looks (Ok (Order P n c f)) = some n
 
 module _ (p : Rules) (w : List ℕ) (B : ℕ) (order order' table table' costs costs' : List ℕ) (q : Option Refusal) where
   -- a call is refused by r exactly when r is the refusal that applies; else there is a verdict
-  pub refused_exactly_by : (a : Closest) → PromiseBy p w B order order' table table' costs costs' q a → (r : Refusal) → (a ≡ Refused r) ↔ (q ≡ some r)
-  refused_exactly_by (Refused s) h r = ((λ e. sym h.refused ∙ ap refused_by e), λ e. ap Refused (some-injective s r (h.refused ∙ e)))
-  refused_exactly_by (NoOrder P n) h r = ((λ e. sym h.refused ∙ ap refused_by e), λ e. absurd (none-ne-some r (h.refused ∙ e)))
-  refused_exactly_by (Order P n c f) h r = ((λ e. sym h.refused ∙ ap refused_by e), λ e. absurd (none-ne-some r (h.refused ∙ e)))
+  pub refused_exactly_by : (a : Result Closest Refusal) → PromiseBy p w B order order' table table' costs costs' q a → (r : Refusal) → (a ≡ Err r) ↔ (q ≡ some r)
+  refused_exactly_by (Err s) h r = ((λ e. sym h.refused ∙ ap refused_by e), λ e. ap Err (some-injective s r (h.refused ∙ e)))
+  refused_exactly_by (Ok (NoOrder P n)) h r = ((λ e. sym h.refused ∙ ap refused_by e), λ e. absurd (none-ne-some r (h.refused ∙ e)))
+  refused_exactly_by (Ok (Order P n c f)) h r = ((λ e. sym h.refused ∙ ap refused_by e), λ e. absurd (none-ne-some r (h.refused ∙ e)))
 
   -- "Verdict 0 remains as it is": exactly where no reachable log is accepted
-  pub no_order_told_by : (P n : ℕ) → PromiseBy p w B order order' table table' costs costs' q (NoOrder P n) → (v : List ℕ) → WitnessBy p w v → ⊥
+  pub no_order_told_by : (P n : ℕ) → PromiseBy p w B order order' table table' costs costs' q (Ok (NoOrder P n)) → (v : List ℕ) → WitnessBy p w v → ⊥
   no_order_told_by P n h = (no_order_by p w).0 h.tells.0
 
   -- verdict, P, looks and the work table are those that a judge gives for the same rules, events, order buffer and work table, which does not refuse
@@ -102,18 +103,18 @@ module _ (p : Rules) (w : List ℕ) (B : ℕ) (order order' table table' costs c
     same_counts : {P n Q m : ℕ} → Counted p w table table' P n → Counted p w table table₁ Q m → (some P ≡ some Q) × (some n ≡ some m) × (table' ≡ table₁)
     same_counts a b = (ap some (a.prefixes ∙ sym b.prefixes), ap some (a.looks ∙ sym b.looks), a.table ∙ sym b.table)
 
-    pub as_the_judge_by : (r : Closest) (j : Judged) → PromiseBy p w B order order' table table' costs costs' q r → judge.PromiseBy p w order order₁ table table₁ q₁ j → refused_by r ≡ none
+    pub as_the_judge_by : (r : Result Closest Refusal) (j : Result Judged Refusal) → PromiseBy p w B order order' table table' costs costs' q r → judge.PromiseBy p w order order₁ table table₁ q₁ j → refused_by r ≡ none
         → (verdict_number r ≡ judge.verdict_number j) × (told_prefixes r ≡ told.told_prefixes j) × (told_looks r ≡ told.told_looks j) × (table' ≡ table₁)
-    as_the_judge_by (Refused x) j h g e = absurd (some-ne-none x e)
-    as_the_judge_by (NoOrder P n) (judged.Refused x) h g e = absurd (some-ne-none x (g.refused ∙ unrefused))
-    as_the_judge_by (NoOrder P n) (judged.NoOrder Q m) h g e = let s = same_counts h.tells.2 g.told.2 in (refl, s.0, s.1, s.2)
-    as_the_judge_by (NoOrder P n) (judged.Order Q m) h g e = absurd (none-ne-some g.told.0 (sym h.tells.0 ∙ g.told.1))
-    as_the_judge_by (Order P n c f) (judged.Refused x) h g e = absurd (some-ne-none x (g.refused ∙ unrefused))
-    as_the_judge_by (Order P n c f) (judged.NoOrder Q m) h g e = absurd (none-ne-some h.tells.0.order
+    as_the_judge_by (Err x) j h g e = absurd (some-ne-none x e)
+    as_the_judge_by (Ok (NoOrder P n)) (Err x) h g e = absurd (some-ne-none x (g.refused ∙ unrefused))
+    as_the_judge_by (Ok (NoOrder P n)) (Ok (judged.NoOrder Q m)) h g e = let s = same_counts h.tells.2 g.told.2 in (refl, s.0, s.1, s.2)
+    as_the_judge_by (Ok (NoOrder P n)) (Ok (judged.Order Q m)) h g e = absurd (none-ne-some g.told.0 (sym h.tells.0 ∙ g.told.1))
+    as_the_judge_by (Ok (Order P n c f)) (Err x) h g e = absurd (some-ne-none x (g.refused ∙ unrefused))
+    as_the_judge_by (Ok (Order P n c f)) (Ok (judged.NoOrder Q m)) h g e = absurd (none-ne-some h.tells.0.order
         (sym ((same_verdict p.may p.letter (automaton p.profile) (lawful p.profile) w p.profile.k p.profile.s B).1 g.told.0) ∙ h.tells.0.is_order))
-    as_the_judge_by (Order P n c f) (judged.Order Q m) h g e = let s = same_counts h.tells.1 g.told.3 in (refl, s.0, s.1, s.2)
+    as_the_judge_by (Ok (Order P n c f)) (Ok (judged.Order Q m)) h g e = let s = same_counts h.tells.1 g.told.3 in (refl, s.0, s.1, s.2)
 
-  module _ (P n c f : ℕ) (h : PromiseBy p w B order order' table table' costs costs' q (Order P n c f)) where
+  module _ (P n c f : ℕ) (h : PromiseBy p w B order order' table table' costs costs' q (Ok (Order P n c f))) where
     -- the order told is the letters of events that are reachable and accepted
     witness : (x : List ℕ) × (map p.letter x ≡ h.tells.0.order) × WitnessBy p w x
     witness =

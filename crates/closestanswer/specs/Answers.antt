@@ -1,9 +1,9 @@
 -- Paper 10: the answer of the call, its refusals, and what is promised of the lent buffers.
-use Rattle.std.specs.Prelude.{◌≡◌, Bool, ◌≢◌, List, [], ◌∷◌, ◌++◌, ℕ, ◌*◌, ltb, length, drop}
+use Rattle.std.specs.Prelude.{Result, Ok, Err, ◌≡◌, Bool, ◌≢◌, List, [], ◌∷◌, ◌++◌, ℕ, ◌*◌, ltb, length, drop}
 use Rattle.std.proofs.Math.Option.{Option, none, some}
 use Rattle.profile.specs.Automata.{Profile, automaton}
 use Rattle.profile.specs.Rules.{Rules, order_by, plain, prefixes_by}
-use Rattle.profile.specs.Refusals.{judge_refusals, lowest}
+use Rattle.profile.specs.Refusals.{judge_refusals, lowest, refused_by}
 use Rattle.profile.specs.declared.Refusal.{Refusal}
 use Rattle.profile.specs.declared.Refusal.TheVariants.{FullTable, ShortCosts}
 use Rattle.swaps.specs.Closest.{closest_order, floor}
@@ -11,7 +11,7 @@ use Rattle.swaps.specs.Swaps.{swaps}
 use Rattle.table.specs.Table.{Spared}
 use Rattle.verdict.specs.Verdict.{Counted}
 use Rattle.closestanswer.specs.declared.Closest.{Closest}
-use Rattle.closestanswer.specs.declared.Closest.TheVariants.{NoOrder, Order, Refused}
+use Rattle.closestanswer.specs.declared.Closest.TheVariants.{NoOrder, Order}
 
 -- 17: "when the lent cost table has fewer than P × s 32-bit numbers": P prefixes, s states, a cost table of n numbers
 abbrev pub short_costs : ℕ → ℕ → ℕ → Bool
@@ -25,17 +25,11 @@ closest_refusals p w n m l =
 abbrev pub closest_refusal : Profile → List ℕ → ℕ → ℕ → ℕ → Option Refusal
 closest_refusal p w n m l = lowest (closest_refusals p w n m l)
 
--- the refusal of an answer; none where there is a verdict
-abbrev pub refused_by : Closest → Option Refusal
-refused_by (Refused r) = some r
-refused_by (NoOrder P n) = none
-refused_by (Order P n c f) = none
-
 -- "verdict": 1 comes with the order, its swaps and the floor, 0 means 'no order'; a refusal has none
-abbrev pub verdict_number : Closest → Option ℕ
-verdict_number (Refused r) = none
-verdict_number (NoOrder P n) = some 0
-verdict_number (Order P n c f) = some 1
+abbrev pub verdict_number : Result Closest Refusal → Option ℕ
+verdict_number (Err r) = none
+verdict_number (Ok (NoOrder P n)) = some 0
+verdict_number (Ok (Order P n c f)) = some 1
 
 module _ (p : Rules) (w : List ℕ) (B : ℕ) where
   -- the order, and the floor, with a budget of B pairs
@@ -55,19 +49,19 @@ module _ (p : Rules) (w : List ℕ) (B : ℕ) where
 
   -- what is told, and what is promised of the buffers: "Verdict 0 remains as it is"; "after 17 the work table's content is free, as after 10, and after an
   -- answer the cost table's is"; the numbers of the work table that are unused stay
-  abbrev pub told : List ℕ → List ℕ → List ℕ → List ℕ → List ℕ → List ℕ → Closest → Type 0
-  told order order' table table' costs costs' (Refused r) =
+  abbrev pub told : List ℕ → List ℕ → List ℕ → List ℕ → List ℕ → List ℕ → Result Closest Refusal → Type 0
+  told order order' table table' costs costs' (Err r) =
       (order' ≡ order) × (costs' ≡ costs) × (r ≢ FullTable → r ≢ ShortCosts → table' ≡ table) × Spared table table'
-  told order order' table table' costs costs' (NoOrder P n) = (order_by p w ≡ none) × (order' ≡ order) × Counted p w table table' P n
-  told order order' table table' costs costs' (Order P n c f) = Close order order' c f × Counted p w table table' P n
+  told order order' table table' costs costs' (Ok (NoOrder P n)) = (order_by p w ≡ none) × (order' ≡ order) × Counted p w table table' P n
+  told order order' table table' costs costs' (Ok (Order P n c f)) = Close order order' c f × Counted p w table table' P n
 
 -- the whole promise of a call for the rules p, the events w and a budget of B pairs, that was lent `order`, `table` and `costs` and left `order'`, `table'`
 -- and `costs'`; q is the refusal that its input and its buffers call for, if any
-pub record PromiseBy (p : Rules) (w : List ℕ) (B : ℕ) (order order' table table' costs costs' : List ℕ) (q : Option Refusal) (r : Closest) : Type 0 where
+pub record PromiseBy (p : Rules) (w : List ℕ) (B : ℕ) (order order' table table' costs costs' : List ℕ) (q : Option Refusal) (r : Result Closest Refusal) : Type 0 where
   pub refused : refused_by r ≡ q
   pub tells : told p w B order order' table table' costs costs' r
 
 -- that of the call without terms
-abbrev pub Promise : Profile → List ℕ → ℕ → (order order' table table' costs costs' : List ℕ) → Closest → Type 0
+abbrev pub Promise : Profile → List ℕ → ℕ → (order order' table table' costs costs' : List ℕ) → Result Closest Refusal → Type 0
 Promise p w B order order' table table' costs costs' r =
     PromiseBy (plain p) w B order order' table table' costs costs' (closest_refusal p w (length order) (length table) (length costs)) r

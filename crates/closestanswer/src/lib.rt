@@ -1,12 +1,9 @@
 // The answer of the call for the closest order: document 02, Paper 10.
 #![tactic(auto)]
 
-use profile::Refusal;
-
-// The verdict, P and looks, with an order its swaps and the floor; or the refusal.
+// The verdict, P and looks, and with an order its swaps and the floor. A call gives this or a refusal.
 #[derive(Clone, Copy)]
 pub enum Closest {
-    Refused(Refusal),
     NoOrder {
         prefixes: usize,
         looks: u64,

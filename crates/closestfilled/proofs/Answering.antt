@@ -1,4 +1,5 @@
 -- The answer of a call from what filling its table promises.
+use Rattle.std.specs.Prelude.{Result, Ok, Err}
 use mathlib.Core.Path.{◌≡◌, refl, sym, ◌∙◌, ap}
 use mathlib.Core.Bool.{Bool, true, false, true≢false}
 use mathlib.Core.List.{List, [], ◌∷◌, ◌++◌, map}
@@ -17,12 +18,12 @@ use Rattle.profile.specs.declared.Refusal.TheVariants.{FullTable, ShortCosts}
 use Rattle.theory.proofs.Refusals.{lowest_append, lowest_first}
 use Rattle.search.proofs.Prefixes.{whole_part}
 use Rattle.table.specs.Table as Built
-use Rattle.table.specs.declared.Built.TheVariants as built
+use Rattle.table.specs.declared.Filled.{Filled}
 use Rattle.earliest.specs.Earliest.{Table, found?, record_count}
 use Rattle.verdict.specs.Verdict.{Counted}
 use Rattle.closestanswer.specs.Answers.{PromiseBy, short_costs}
 use Rattle.closestanswer.specs.declared.Closest.{Closest}
-use Rattle.closestanswer.specs.declared.Closest.TheVariants.{NoOrder, Order, Refused}
+use Rattle.closestanswer.specs.declared.Closest.TheVariants.{NoOrder, Order}
 use Rattle.closestorder.specs.Held.{Held}
 use Rattle.closestfilled.specs.Answered.{answered}
 
@@ -56,12 +57,12 @@ module _ (p : Rules) (w : List ℕ) (B : ℕ) (order table costs : List ℕ) (J 
 
   -- what J refuses is refused alike
   pub refused_before : {r : Refusal} → some r ≡ lowest J → (table' : List ℕ) → (r ≢ FullTable → table' ≡ table) → Built.Spared table table'
-      → PromiseBy p w B order order table table' costs costs (lowest (J ++ ((short_costs (prefixes_by p w) p.profile.s (length costs), ShortCosts) ∷ []))) (Refused r)
+      → PromiseBy p w B order order table table' costs costs (lowest (J ++ ((short_costs (prefixes_by p w) p.profile.s (length costs), ShortCosts) ∷ []))) (Err r)
   refused_before e table' t u = record { refused = sym (lowest_first J seventeenth (sym e)); tells = (refl, refl, (λ a b. t a), u) }
 
   -- J refuses nothing, and the table is filled
-  module _ (table' : List ℕ) (P n : ℕ) (unrefused : none ≡ lowest J) (h : Built.promised p w table table' (built.Filled P n)) where
-    counted : {Q m : ℕ} → Q ≡ P → m ≡ n → Counted p w table table' Q m
+  module _ (table' : List ℕ) (made : Filled) (unrefused : none ≡ lowest J) (h : Built.promised p w table table' (Ok made)) where
+    counted : {Q m : ℕ} → Q ≡ made.prefixes → m ≡ made.looks → Counted p w table table' Q m
     counted e q = record { prefixes = e ∙ h.0; looks = q ∙ h.1; table = h.2 }
 
     -- what is left is 17
@@ -69,20 +70,20 @@ module _ (p : Rules) (w : List ℕ) (B : ℕ) (order table costs : List ℕ) (J 
         → lowest ((b, ShortCosts) ∷ []) ≡ lowest (J ++ ((short_costs (prefixes_by p w) p.profile.s (length costs), ShortCosts) ∷ []))
     seventeen b e = sym (lowest_append J seventeenth (sym unrefused) ∙ ap (λ c. lowest ((c, ShortCosts) ∷ [])) e)
 
-    in_all : P * p.profile.s ≡ prefixes_by p w * p.profile.s
+    in_all : made.prefixes * p.profile.s ≡ prefixes_by p w * p.profile.s
     in_all = ap (λ i. i * p.profile.s) h.0
 
-    pub told_answer : (order' costs' : List ℕ) (r : Closest) → answered p w B P n order order' costs costs' r
+    pub told_answer : (order' costs' : List ℕ) (r : Result Closest Refusal) → answered p w B made.prefixes made.looks order order' costs costs' r
         → PromiseBy p w B order order' table table' costs costs' (lowest (J ++ ((short_costs (prefixes_by p w) p.profile.s (length costs), ShortCosts) ∷ []))) r
-    told_answer order' costs' (Refused r) (short, e, o, c) = record {
+    told_answer order' costs' (Err r) (short, e, o, c) = record {
       refused = ap some e ∙ seventeen true (lt-ltb (length costs) (prefixes_by p w * p.profile.s) (omega (arith, short, in_all)));
       tells = (o, c, (λ a b. absurd (b e)), h.3);
     }
-    told_answer order' costs' (NoOrder Q m) (room, e, q, f, o) = record {
+    told_answer order' costs' (Ok (NoOrder Q m)) (room, e, q, f, o) = record {
       refused = seventeen false (le-ltb (length costs) (prefixes_by p w * p.profile.s) (omega (arith, room, in_all)));
       tells = (f, o, counted e q);
     }
-    told_answer order' costs' (Order Q m c f) (room, e, q, z) = record {
+    told_answer order' costs' (Ok (Order Q m c f)) (room, e, q, z) = record {
       refused = seventeen false (le-ltb (length costs) (prefixes_by p w * p.profile.s) (omega (arith, room, in_all)));
       tells = (z, counted e q);
     }

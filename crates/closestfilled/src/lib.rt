@@ -26,7 +26,7 @@ pub fn answer(
     order: &mut [u8],
     costs: &mut [u32],
     termed: bool,
-) -> Closest
+) -> Result<Closest, Refusal>
     requires table { Table (rules_of (profile_of shape masks.now moves.now) termed) codes.now work.now }
     requires prefixes_value { prefixes ≡ record_count (rules_of (profile_of shape masks.now moves.now) termed) codes.now }
     requires codes_value { map (event_letter termed) codes.now ≡ log.now }
@@ -35,10 +35,10 @@ pub fn answer(
 {
     let s = shape.s;
     if costs.len() / s < prefixes {
-        return Closest::Refused(Refusal::ShortCosts);
+        return Err(Refusal::ShortCosts);
     }
     if !earliest::has_order(work, shape, masks, moves, codes, termed) {
-        return Closest::NoOrder { prefixes, looks };
+        return Ok(Closest::NoOrder { prefixes, looks });
     }
     let end = RECORD * prefixes;
     let found = closestorder::put_order(
@@ -53,12 +53,10 @@ pub fn answer(
         costs,
         termed,
     );
-    let swaps = found.swaps;
-    let floor = found.floor;
-    Closest::Order {
+    Ok(Closest::Order {
         prefixes,
         looks,
-        swaps,
-        floor,
-    }
+        swaps: found.swaps,
+        floor: found.floor,
+    })
 }

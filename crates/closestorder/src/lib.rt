@@ -97,10 +97,7 @@ fn put_placed(
         let swaps = put_judges(
             t, shape, masks, moves, log, codes, starts, places, order, termed,
         );
-        return Found {
-            swaps: swaps,
-            floor: floor,
-        };
+        return Found { swaps, floor };
     }
     put_best(t, shape, moves, log, starts, places, fewest, order, costs);
     Found {
