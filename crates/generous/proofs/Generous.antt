@@ -9,6 +9,8 @@ use native.Mathlib.Omega.{arith}
 use lib.Dec.{T}
 use lib.ListN.{length, take, drop}
 use lib.Seq.{take_at}
+use Rattle.std.specs.Prelude.{Result, Ok, Err}
+use Rattle.profile.specs.declared.Refusal.{Refusal}
 use Rattle.profile.specs.Traces.{independent}
 use Rattle.profile.specs.Automata.{Automaton, Profile, automaton}
 use Rattle.profile.specs.Orders.{NoLater, accepted_order}
@@ -21,7 +23,7 @@ use Rattle.theory.proofs.Counting.{prefixes_nodup}
 use Rattle.theory.proofs.Demands.{Witness}
 use Rattle.verdict.specs.Verdict.{Promise, judged, verdict_number}
 use Rattle.verdict.specs.declared.Judged.{Judged}
-use Rattle.verdict.specs.declared.Judged.TheVariants.{NoOrder, Order, Refused}
+use Rattle.verdict.specs.declared.Judged.TheVariants.{NoOrder, Order}
 use Rattle.verdict.proofs.Promises.{told_looks, told_prefixes}
 use Rattle.generous.specs.Generous.{HasVerdict, HoldsEveryBit, with_masks}
 use Rattle.generous.proofs.Nested.{looks_grow, prefixes_more}
@@ -55,32 +57,32 @@ zero_one e = let q = some-injective 0 1 e in omega arith
 
 module _ (r : Rules) (w order order' table table' : List ℕ) where
   -- the order told is the definition's; where there is one, the verdict is 1
-  told_order : (j : Judged) → judged r w order order' table table' j → verdict_number j ≡ some 1 → order_by r w ≡ some (take (length w) order')
-  told_order (Refused x) h e = absurd (none-ne-some 1 e)
-  told_order (NoOrder P n) h e = absurd (zero_one e)
-  told_order (Order P n) h e = h.1 ∙ ap some (sym (ap (take (length w)) h.2 ∙ take_at h.0 (drop (length w) order) (length w) (order_by_length r w h.1)))
+  told_order : (j : Result Judged Refusal) → judged r w order order' table table' j → verdict_number j ≡ some 1 → order_by r w ≡ some (take (length w) order')
+  told_order (Err x) h e = absurd (none-ne-some 1 e)
+  told_order (Ok (NoOrder P n)) h e = absurd (zero_one e)
+  told_order (Ok (Order P n)) h e = h.1 ∙ ap some (sym (ap (take (length w)) h.2 ∙ take_at h.0 (drop (length w) order) (length w) (order_by_length r w h.1)))
 
-  told_one : (j : Judged) → judged r w order order' table table' j → HasVerdict j → {u : List ℕ} → order_by r w ≡ some u → verdict_number j ≡ some 1
-  told_one (Refused x) h v e = absurd (v refl)
-  told_one (NoOrder P n) h v e = absurd (none-ne-some _ (sym h.0 ∙ e))
-  told_one (Order P n) h v e = refl
+  told_one : (j : Result Judged Refusal) → judged r w order order' table table' j → HasVerdict j → {u : List ℕ} → order_by r w ≡ some u → verdict_number j ≡ some 1
+  told_one (Err x) h v e = absurd (v refl)
+  told_one (Ok (NoOrder P n)) h v e = absurd (none-ne-some _ (sym h.0 ∙ e))
+  told_one (Ok (Order P n)) h v e = refl
 
   -- so are P and looks
-  told_count : (j : Judged) → judged r w order order' table table' j → (P : ℕ) → told_prefixes j ≡ some P → P ≡ prefixes_by r w
-  told_count (Refused x) h P e = absurd (none-ne-some P e)
-  told_count (NoOrder Q n) h P e = sym (some-injective Q P e) ∙ h.2.prefixes
-  told_count (Order Q n) h P e = sym (some-injective Q P e) ∙ h.3.prefixes
+  told_count : (j : Result Judged Refusal) → judged r w order order' table table' j → (P : ℕ) → told_prefixes j ≡ some P → P ≡ prefixes_by r w
+  told_count (Err x) h P e = absurd (none-ne-some P e)
+  told_count (Ok (NoOrder Q n)) h P e = sym (some-injective Q P e) ∙ h.2.prefixes
+  told_count (Ok (Order Q n)) h P e = sym (some-injective Q P e) ∙ h.3.prefixes
 
-  told_pairs : (j : Judged) → judged r w order order' table table' j → (n : ℕ) → told_looks j ≡ some n → n ≡ looks_by r w
-  told_pairs (Refused x) h n e = absurd (none-ne-some n e)
-  told_pairs (NoOrder Q m) h n e = sym (some-injective m n e) ∙ h.2.looks
-  told_pairs (Order Q m) h n e = sym (some-injective m n e) ∙ h.3.looks
+  told_pairs : (j : Result Judged Refusal) → judged r w order order' table table' j → (n : ℕ) → told_looks j ≡ some n → n ≡ looks_by r w
+  told_pairs (Err x) h n e = absurd (none-ne-some n e)
+  told_pairs (Ok (NoOrder Q m)) h n e = sym (some-injective m n e) ∙ h.2.looks
+  told_pairs (Ok (Order Q m)) h n e = sym (some-injective m n e) ∙ h.3.looks
 
 -- ---- what two calls tell that differ in the relation on events alone, of which one allows all that the other does
 
 -- i is told with the relation `may`, j with `may'`; buffers are whatever each was lent
 module _ (p : Profile) (more : List ℕ) (may may' : ℕ → ℕ → Bool) (sub : (a b : ℕ) → T (may a b) → T (may' a b)) (letter : ℕ → ℕ) (w : List ℕ)
-    (order₁ order₁' table₁ table₁' order₂ order₂' table₂ table₂' : List ℕ) (i j : Judged) where
+    (order₁ order₁' table₁ table₁' order₂ order₂' table₂ table₂' : List ℕ) (i j : Result Judged Refusal) where
   abbrev few : Rules
   few = record { profile = p; may = may; letter = letter }
 
@@ -121,7 +123,7 @@ module _ (p : Profile) (more : List ℕ) (may may' : ℕ → ℕ → Bool) (sub 
 -- "if one profile's masks hold every bit of another's, all else being equal, and both runs get a verdict": p's masks and `more`, on the log w, whatever
 -- buffers each was lent
 module _ (p : Profile) (more : List ℕ) (holds : HoldsEveryBit more p.masks) (w order₁ order₁' table₁ table₁' order₂ order₂' table₂ table₂' : List ℕ)
-    (i j : Judged) (g : Promise p w order₁ order₁' table₁ table₁' i) (h : Promise (with_masks p more) w order₂ order₂' table₂ table₂' j)
+    (i j : Result Judged Refusal) (g : Promise p w order₁ order₁' table₁ table₁' i) (h : Promise (with_masks p more) w order₂ order₂' table₂ table₂' j)
     (first : HasVerdict i) (second : HasVerdict j) where
   -- "then verdict 1 stays 1"
   pub verdict_stays : verdict_number i ≡ some 1 → verdict_number j ≡ some 1

@@ -4,6 +4,8 @@ use mathlib.Core.List.{List}
 use mathlib.Core.Option.{some}
 use Prim.Native.Nat.{ℕ, ◌≤◌}
 use lib.ListN.{length, take}
+use Rattle.std.specs.Prelude.{Result}
+use Rattle.profile.specs.declared.Refusal.{Refusal}
 use Rattle.profile.specs.Automata.{Profile}
 use Rattle.profile.specs.Orders.{NoLater}
 use Rattle.verdict.specs.Verdict.{verdict_number}
@@ -17,7 +19,7 @@ use Rattle.generous.proofs.Pairs.{in_terms}
 use Rattle.generous.proofs.Generous.{looks_no_fewer_by, order_no_later_by, prefixes_no_fewer_by, verdict_stays_by}
 
 module _ (p : Profile) (more : List ℕ) (holds : HoldsEveryBit more p.masks) (w days terms order₁ order₁' table₁ table₁' order₂ order₂' table₂ table₂' : List ℕ)
-    (i j : Judged) (g : Promise p w days terms order₁ order₁' table₁ table₁' i) (h : Promise (with_masks p more) w days terms order₂ order₂' table₂ table₂' j)
+    (i j : Result Judged Refusal) (g : Promise p w days terms order₁ order₁' table₁ table₁' i) (h : Promise (with_masks p more) w days terms order₂ order₂' table₂ table₂' j)
     (first : HasVerdict i) (second : HasVerdict j) where
   -- "then verdict 1 stays 1"
   pub verdict_stays : verdict_number i ≡ some 1 → verdict_number j ≡ some 1

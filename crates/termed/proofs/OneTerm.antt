@@ -7,6 +7,7 @@ use Prim.Native.Nat.{ℕ, ◌/◌, ◌%◌, ◌≤◌, ◌<◌}
 use native.Mathlib.Omega.{arith}
 use lib.Dec.{T, leb, le→leb}
 use lib.ListN.{length}
+use Rattle.std.specs.Prelude.{Result}
 use Rattle.profile.specs.Automata.{Profile}
 use Rattle.profile.specs.Lists.{Mem}
 use Rattle.profile.specs.Rules.{plain, prefixes_by}
@@ -65,7 +66,7 @@ module _ (p : Profile) (w days terms : List ℕ) (dated : bad_day w days ≡ fal
         regroup = simp append_assoc
 
   -- what the judge with these terms promises is what the judge without terms promises: refusal, verdict, order, P, looks and table
-  pub one_term_promise : (order order' table table' : List ℕ) (j : Judged)
+  pub one_term_promise : (order order' table table' : List ℕ) (j : Result Judged Refusal)
       → Promise p w days terms order order' table table' j ↔ Plain.Promise p w order order' table table' j
   one_term_promise order order' table table' j =
       let r = with_terms p terms in
@@ -97,6 +98,6 @@ in_every_day n h =
         let e : n / 100 % 100 ≡ 12 = omega (arith, g.month.1) in
         omega (arith, g.year.1, e, subst (λ m. n % 100 ≤ month_days (n / 10000) m) e g.day.1)
 
-pub every_day_promise : (p : Profile) (w days : List ℕ) → bad_day w days ≡ false → (order order' table table' : List ℕ) (j : Judged)
+pub every_day_promise : (p : Profile) (w days : List ℕ) → bad_day w days ≡ false → (order order' table table' : List ℕ) (j : Result Judged Refusal)
     → Promise p w days every_day order order' table table' j ↔ Plain.Promise p w order order' table table' j
 every_day_promise p w days dated = one_term_promise p w days every_day dated refl 0 (omega arith) (λ d m. in_every_day d (((days_good w days).0 dated).1 d m))

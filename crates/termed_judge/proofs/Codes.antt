@@ -8,6 +8,7 @@ use native.Mathlib.Omega.{arith}
 use lib.Dec.{T, ltb, ltb→lt, lt→ltb}
 use lib.ListN.{length, drop, length-map, take}
 use lib.Seq.{take_at}
+use Rattle.std.specs.Prelude.{Result, Ok, Err}
 use Rattle.profile.specs.Automata.{Profile}
 use Rattle.profile.specs.Limits.{most_letters}
 use Rattle.profile.specs.Lists.{all}
@@ -23,7 +24,7 @@ use Rattle.term_checks.specs.Admission.{dated_admission}
 use Rattle.term_checks.proofs.Admission.{DatedAdmitted, dated_admitted, refused_early, refused_late}
 use Rattle.verdict.specs.Verdict.{judged}
 use Rattle.verdict.specs.declared.Judged.{Judged}
-use Rattle.verdict.specs.declared.Judged.TheVariants.{NoOrder, Order, Refused}
+use Rattle.verdict.specs.declared.Judged.TheVariants.{NoOrder, Order}
 use Rattle.termed.specs.Termed.{Promise}
 use Rattle.termed_judge.specs.CodedCalls.{Answered, CodedCall}
 
@@ -79,7 +80,7 @@ module _ (p : Profile) (w days terms : List ℕ) {n : ℕ} (a : DatedAdmitted p 
 
 module _ (p : Profile) (w days terms order table : List ℕ) where
   -- refused before the table
-  pub told_early : (r : Refusal) → lowest (dated_admission p w days terms (length order)) ≡ some r → Promise p w days terms order order table table (Refused r)
+  pub told_early : (r : Refusal) → lowest (dated_admission p w days terms (length order)) ≡ some r → Promise p w days terms order order table table (Err r)
   told_early r e = record { refused = refused_early p w days terms (length order) (length table) e; told = (refl, λ ne. refl, record { long = refl; rest = refl }) }
 
   module _ (e : lowest (dated_admission p w days terms (length order)) ≡ none) (order' table' : List ℕ) where
@@ -90,9 +91,9 @@ module _ (p : Profile) (w days terms order table : List ℕ) where
     E = events w days
 
     -- the answer for codes is the answer for days
-    answer : (r : Judged) → judged (rules_of p true) (map (code_of terms) E) order order' table table' r → judged (with_terms p terms) E order order' table table' r
-    answer (Refused r) h = h
-    answer (NoOrder P n) h = (
+    answer : (r : Result Judged Refusal) → judged (rules_of p true) (map (code_of terms) E) order order' table table' r → judged (with_terms p terms) E order order' table table' r
+    answer (Err r) h = h
+    answer (Ok (NoOrder P n)) h = (
       sym (coded_order p terms E few) ∙ h.0,
       h.1,
       record {
@@ -101,7 +102,7 @@ module _ (p : Profile) (w days terms order table : List ℕ) where
         table = h.2.table ∙ coded_table p terms E few table;
       },
     )
-    answer (Order P n) h = (
+    answer (Ok (Order P n)) h = (
       h.0,
       sym (coded_order p terms E few) ∙ h.1,
       h.2 ∙ ap (λ m. h.0 ++ drop m order) (length-map E (code_of terms)),
@@ -112,7 +113,7 @@ module _ (p : Profile) (w days terms order table : List ℕ) where
       },
     )
 
-    pub told_late : (r : Judged) → Answered (rules_of p true) (map (code_of terms) E) order order' table table' r → Promise p w days terms order order' table table' r
+    pub told_late : (r : Result Judged Refusal) → Answered (rules_of p true) (map (code_of terms) E) order order' table table' r → Promise p w days terms order order' table table' r
     told_late r h = record {
       refused = h.refused ∙ ap (λ P. lowest ((full_table P (length table), FullTable) ∷ [])) (coded_prefixes p terms E few) ∙ refused_late p w days terms (length order) (length table) e;
       told = answer r h.told;

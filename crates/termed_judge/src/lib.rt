@@ -9,8 +9,8 @@ ghost use Rattle.termed.specs.Termed.{Promise};
 ghost use Rattle.termed_judge.specs.CodedCalls.{Answered, CodedCall};
 
 use profile::limits::{LONGEST, MOST_LETTERS, MOST_PLACES, Place};
-use profile::Shape;
-use table::Built;
+use profile::{Refusal, Shape};
+use table::Filled;
 use verdict::Judged;
 
 // Fills the table with the records of events that are codes; the log has their letters.
@@ -21,7 +21,7 @@ pub fn fill_coded(
     moves: &[u32],
     log: &[u8],
     codes: &[u8],
-) -> Built
+) -> Result<Filled, Refusal>
     requires { CodedCall (profile_of shape masks.now moves.now) log.now codes.now }
     ensures { Fills (rules_of (profile_of shape masks.now moves.now) true) codes.now table.old table.new result }
 {
@@ -46,21 +46,16 @@ fn judge_coded(
     codes: &[u8],
     order: &mut [u8],
     work: &mut [u32],
-) -> Judged
+) -> Result<Judged, Refusal>
     requires coded_call { CodedCall (profile_of shape masks.now moves.now) log.now codes.now }
     requires codes_in_bounds { length codes.now ≤ length order.old }
     ensures { Answered (rules_of (profile_of shape masks.now moves.now) true) codes.now order.old order.new work.old work.new result }
 {
-    let built = fill_coded(work, shape, masks, moves, log, codes);
-    match built {
-        Built::Refused(r) => Judged::Refused(r),
-        Built::Filled { prefixes, looks } => {
-            if verdict::put_verdict(work, prefixes, shape, masks, moves, codes, order, true) {
-                Judged::Order { prefixes, looks }
-            } else {
-                Judged::NoOrder { prefixes, looks }
-            }
-        }
+    let Filled { prefixes, looks } = fill_coded(work, shape, masks, moves, log, codes)?;
+    if verdict::put_verdict(work, prefixes, shape, masks, moves, codes, order, true) {
+        Ok(Judged::Order { prefixes, looks })
+    } else {
+        Ok(Judged::NoOrder { prefixes, looks })
     }
 }
 
@@ -74,13 +69,10 @@ pub fn judge(
     terms: &[u32],
     order: &mut [u8],
     work: &mut [u32],
-) -> Judged
+) -> Result<Judged, Refusal>
     ensures { Promise (profile_of shape masks.now moves.now) log.now days.now terms.now order.old order.new work.old work.new result }
 {
-    let refused_by = term_checks::check_call(shape, masks, moves, log, days, terms, order.len());
-    if let Err(r) = checked {
-        return Judged::Refused(r);
-    }
+    term_checks::check_call(shape, masks, moves, log, days, terms, order.len())?;
     let mut codes = [0u8; LONGEST];
     dates::code_events(log, days, terms, &mut codes);
     let n = log.len();

@@ -1,7 +1,7 @@
 -- `termed_judge::judge_coded` meets its contract: what is told of the order and the table follows from what filling the table gives.
-use borrow.Author.Rules.{rules}
 use mathlib.Core.Path.{sym, ◌∙◌, subst}
 use mathlib.Core.Bool.{true}
+use Rattle.std.proofs.lemmas.Result.{err_from_is_err_and}
 use Rattle.profile.specs.Automata.{profile_of}
 use Rattle.terms.specs.Coded.{rules_of}
 use Rattle.table.specs.Table.{Fills}
@@ -10,42 +10,39 @@ use Rattle.termed_judge.proofs.judge_coded.Goals as goal
 
 pub put_verdict-requires : goal.put_verdict-requires
 put_verdict-requires c =
-    let s = c in
-    let a = s.args in
-    let b = c.fill_coded-built in
+    let a = c.args in
+    let b = c.fill_coded in
     let p = rules_of (profile_of a.shape a.masks.now a.moves.now) true in
-    let h = subst (Fills p a.codes.now a.work.now b.new.table) c.in-Filled.is b.ensures in
+    let h = subst (Fills p a.codes.now a.work.now b.new.table) c.in_ok-prefixes.was b.ensures in
     record {
-      table = ready p a.codes.now a.order.now a.work.now b.new.table c.in-Filled.prefixes c.in-Filled.looks h s.requires.coded_call.profile s.requires.coded_call.events b.auto.table;
+      table = ready p a.codes.now a.order.now a.work.now b.new.table _ h c.requires.coded_call.profile c.requires.coded_call.events b.auto.table;
       records_value = h.table.0;
-      log_in_bounds = s.requires.codes_in_bounds;
+      log_in_bounds = c.requires.codes_in_bounds;
     }
 
-pub returns-in-Refused : goal.returns-in-Refused
-returns-in-Refused c =
-    let s = c in
-    let a = s.args in
-    let b = c.fill_coded-built in
+pub returns-in_err-prefixes : goal.returns-in_err-prefixes
+returns-in_err-prefixes c =
+    let a = c.args in
+    let b = c.fill_coded in
     let p = rules_of (profile_of a.shape a.masks.now a.moves.now) true in
-    let h = subst (Fills p a.codes.now a.work.now b.new.table) c.in-Refused.is b.ensures in
-    told_refused p a.codes.now a.order.now a.work.now b.new.table c.in-Refused.r h
+    let h = subst (Fills p a.codes.now a.work.now b.new.table) c.in_err-prefixes.was b.ensures in
+    let e = err_from_is_err_and c.from_residual.result c.from_residual.ensures.1 in
+    rw (e.1, e.2) (told_refused p a.codes.now a.order.now a.work.now b.new.table _ h)
 
 pub returns-then-put_verdict : goal.returns-then-put_verdict
 returns-then-put_verdict c =
-    let s = c in
-    let a = s.args in
-    let b = c.fill_coded-built in
+    let a = c.args in
+    let b = c.fill_coded in
     let p = rules_of (profile_of a.shape a.masks.now a.moves.now) true in
-    let h = subst (Fills p a.codes.now a.work.now b.new.table) c.in-Filled.is b.ensures in
+    let h = subst (Fills p a.codes.now a.work.now b.new.table) c.in_ok-prefixes.was b.ensures in
     let v = c.put_verdict in
-    told_some p a.codes.now a.order.now a.work.now b.new.table c.in-Filled.prefixes c.in-Filled.looks h v.new.order (sym v.ensures.value ∙ c.if-put_verdict.true) v.ensures.order_after
+    told_some p a.codes.now a.order.now a.work.now b.new.table _ h v.new.order (sym v.ensures.value ∙ c.if-put_verdict.true) v.ensures.order_after
 
 pub returns-else-put_verdict : goal.returns-else-put_verdict
 returns-else-put_verdict c =
-    let s = c in
-    let a = s.args in
-    let b = c.fill_coded-built in
+    let a = c.args in
+    let b = c.fill_coded in
     let p = rules_of (profile_of a.shape a.masks.now a.moves.now) true in
-    let h = subst (Fills p a.codes.now a.work.now b.new.table) c.in-Filled.is b.ensures in
+    let h = subst (Fills p a.codes.now a.work.now b.new.table) c.in_ok-prefixes.was b.ensures in
     let v = c.put_verdict in
-    told_none p a.codes.now a.order.now a.work.now b.new.table c.in-Filled.prefixes c.in-Filled.looks h v.new.order (sym v.ensures.value ∙ c.if-put_verdict.false) v.ensures.order_after
+    told_none p a.codes.now a.order.now a.work.now b.new.table _ h v.new.order (sym v.ensures.value ∙ c.if-put_verdict.false) v.ensures.order_after
