@@ -9,9 +9,6 @@ use Rattle.rows.specs.Rows.{by_letter, led}
 use Rattle.theory.proofs.Fronts.{front_put}
 use Rattle.rows.proofs.by_letter.Goals as goal
 
-pub loop-i-init : goal.loop-i-init
-loop-i-init c = c.requires.1
-
 pub loop-i-preserved : goal.loop-i-preserved
 loop-i-preserved c =
     let a = c.args in
