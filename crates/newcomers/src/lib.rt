@@ -44,12 +44,10 @@ fn joins(
     ensures { result ≡ joins_at? (independent_by masks.now) k last.now a (counts_at t.now j) }
 {
     let own = counts::numbers(records::counts_at(t, j));
-    let mut b = 0;
-    while b < k {
+    for b in 0..k {
         if !allows(masks, &own, last, a, b) {
             return false;
         }
-        b += 1;
     }
     true
 }
@@ -70,10 +68,8 @@ pub fn number_joining(t: &[u32], n: usize, masks: &[u16], k: usize, a: usize) ->
 {
     let last = counts::numbers(records::counts_at(t, n - 1));
     let mut number = 0;
-    let mut j = 0;
-    while j < n {
+    for j in 0..n {
         number += one_if(joins(t, j, masks, k, a, &last));
-        j += 1;
     }
     number
 }
@@ -91,9 +87,7 @@ fn search_back(t: &[u32], from: usize, i: usize, b: usize, c: Counts) -> usize
     requires { record_length layout * i ≤ length t.now }
     ensures { Scanned (gives? t.now b (words c)) from i result }
 {
-    let mut j = i;
-    while from < j {
-        j -= 1;
+    for j in (from..i).rev() {
         if gives(t, j, b, c) {
             return j + 1;
         }
@@ -106,12 +100,10 @@ fn search_on(t: &[u32], from: usize, i: usize, b: usize, c: Counts) -> usize
     requires { record_length layout * i ≤ length t.now }
     ensures { Scanned (gives? t.now b (words c)) from i result }
 {
-    let mut j = from;
-    while j < i {
+    for j in from..i {
         if gives(t, j, b, c) {
             return j + 1;
         }
-        j += 1;
     }
     0
 }
@@ -182,11 +174,9 @@ fn move_places(
     requires { (k ≤ most_letters) × (most_letters ≤ length places.old) × (r < i) × (record_length layout * i ≤ length t.now) }
     ensures { Moved t.now first i r a k (words c) places.old places.new }
 {
-    let mut b = 0;
-    while b < k {
+    for b in 0..k {
         let to = place(t, first, i, r, a, b, c, places[b]);
         places[b] = to;
-        b += 1;
     }
 }
 
@@ -207,10 +197,8 @@ fn forward_from(t: &[u32], k: usize, s: usize, moves: &[u32], places: &[usize]) 
     ensures { result ≡ led_from k s moves.now t.now places.now }
 {
     let mut out = 0u32;
-    let mut b = 0;
-    while b < k {
+    for b in 0..k {
         out = out | led(t, k, s, moves, places[b], b);
-        b += 1;
     }
     out
 }
@@ -280,10 +268,8 @@ pub fn put_newcomers(t: &mut [u32], n: usize, shape: Shape, masks: &[u16], moves
     let last = counts::numbers(records::counts_at(t, n - 1));
     let mut places = [0usize; MOST_LETTERS];
     let mut i = n;
-    let mut r = 0;
-    while r < n {
+    for r in 0..n {
         let at = Newcomer { first: n, i, r };
         i = put_if_joins(t, at, shape, masks, moves, a, &last, &mut places);
-        r += 1;
     }
 }

@@ -1,18 +1,10 @@
 -- `newcomers::forward_from` meets its contract.
-use mathlib.Core.Path.{◌≡◌, refl, ◌∙◌, ap}
-use Prim.Native.Nat.{◌-◌, ◌≤◌}
-use native.Mathlib.Omega.{arith}
-use lib.Bits.{bit_or}
+use mathlib.Core.Path.{◌≡◌}
 use lib.ListN.{get_or}
 use Rattle.profile.specs.Automata.{union}
 use Rattle.profile.specs.Lists.{below}
 use Rattle.newcomers.specs.Newcomers.{led_at}
-use Rattle.newcomers.proofs.Loops.{union_more}
-use borrow.Author.Rules.{rules}
 use Rattle.newcomers.proofs.forward_from.Given as goal
 
 abbrev pub invariant-loop-b : goal.invariant-loop-b
-invariant-loop-b l = (l.b ≤ l.k) × (l.out ≡ union (λ x. led_at l.k l.s l.moves l.t (get_or l.places x 0) x) (below l.b))
-
-abbrev pub decreases-loop-b : goal.decreases-loop-b
-decreases-loop-b l = l.k - l.b
+invariant-loop-b l = l.out ≡ union (λ x. led_at l.k l.s l.moves l.t (get_or l.places x 0) x) (below l.b)

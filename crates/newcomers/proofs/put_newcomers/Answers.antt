@@ -1,13 +1,13 @@
-use mathlib.Core.Path.{◌≡◌, refl, sym, ◌∙◌, ap, subst}
-use Prim.Native.Nat.{◌-◌, ◌+◌, ◌*◌, ◌≤◌}
+-- `newcomers::put_newcomers` meets its contract.
+use mathlib.Core.Path.{refl, sym, ◌∙◌, ap}
+use Prim.Native.Nat.{◌+◌, ◌*◌, ◌≤◌}
 use native.Mathlib.Omega.{arith}
 use lib.ListN.{length}
 use Rattle.profile.specs.Automata.{profile_of}
 use Rattle.profile.specs.Traces.{independent}
 use Rattle.records.specs.Records.{counts_at}
-use Rattle.newcomers.specs.Newcomers.{Tried, begin, joins_at?}
+use Rattle.newcomers.specs.Newcomers.{begin, joins_at?}
 use Rattle.newcomers.proofs.Trials.{joined, joined_upto, place_for, standing, try_again}
-use borrow.Author.Rules.{rules}
 use Rattle.newcomers.proofs.put_newcomers.Goals as goal
 
 pub loop-r-init : goal.loop-r-init
@@ -31,16 +31,3 @@ loop-r-preserved c =
     let a = c.args in
     let l = c.loop-r in
     try_again (profile_of a.shape a.masks.now a.moves.now) a.n a.a a.t.now c.requires.3 (c.numbers-last.ensures ∙ c.counts_at.ensures) l.invariant.1 c.loop-r-test.true c.put_if_joins-i.ensures
-
-pub shape_of-t : goal.shape_of-t
-shape_of-t c =
-    let a = c.args in
-    (standing (profile_of a.shape a.masks.now a.moves.now) a.n a.a a.t.now c.requires.3 c.loop-r.invariant.1).long
-
-pub returns : goal.returns
-returns c =
-    let a = c.args in
-    let l = c.loop-r in
-    let s = standing (profile_of a.shape a.masks.now a.moves.now) a.n a.a a.t.now c.requires.3 l.invariant.1 in
-    let e : l.r ≡ a.n = omega (arith, s.tried, c.loop-r-test.false) in
-    record { behind = l.i; places = l.places; tried = subst (λ r. Tried (profile_of a.shape a.masks.now a.moves.now) a.n a.a a.t.now r l.i l.t l.places) e l.invariant.1 }

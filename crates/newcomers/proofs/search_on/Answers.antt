@@ -1,28 +1,23 @@
-use borrow.Author.Rules.{rules}
+-- `newcomers::search_on` meets its contract.
 use mathlib.Core.Path.{sym, ◌∙◌}
-use Prim.Native.Nat.{ℕ, ◌-◌, ◌<◌, ◌≤◌}
 use native.Mathlib.Omega.{arith}
-use lib.Dec.{T}
 use Rattle.counts.specs.Counts.{words}
 use Rattle.newcomers.specs.Newcomers.{absent, gives?}
 use Rattle.newcomers.proofs.Loops.{found_at, on_more}
 use Rattle.newcomers.proofs.search_on.Goals as goal
 
-pub loop-j-init : goal.loop-j-init
-loop-j-init c = (omega arith, λ x l u t. absurd (omega (arith, l, u)))
-
 pub returns-then-gives : goal.returns-then-gives
 returns-then-gives c =
     let l = c.loop-j in
-    found_at l.j l.invariant.0 c.loop-j-test.true (sym c.gives.ensures ∙ c.if-gives.true)
+    found_at l.j (omega arith) c.loop-j-test.true (sym c.gives.ensures ∙ c.if-gives.true)
 
 pub loop-j-preserved : goal.loop-j-preserved
 loop-j-preserved c =
     let a = c.args in
     let l = c.loop-j in
-    (omega (arith, l.invariant.0), on_more (gives? a.t.now a.b (words a.c)) l.j (sym c.gives.ensures ∙ c.if-gives.false) l.invariant.1)
+    on_more (gives? a.t.now a.b (words a.c)) l.j (sym c.gives.ensures ∙ c.if-gives.false) l.invariant
 
 pub returns : goal.returns
 returns c =
     let l = c.loop-j in
-    absent (λ x le lt t. l.invariant.1 x le (omega (arith, lt, c.loop-j-test.false)) t)
+    absent (λ x le lt t. l.invariant x le (omega (arith, lt, c.loop-j-test.false)) t)
