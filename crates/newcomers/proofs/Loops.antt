@@ -6,6 +6,7 @@ use mathlib.Core.List.{List, [], ◌∷◌}
 use Prim.Native.Nat.{ℕ, ◌+◌, ◌-◌, ◌<◌, ◌≤◌}
 use native.Mathlib.Omega.{arith}
 use native.Mathlib.Numerals.{add-one}
+use mir.Val.{bool_byte}
 use lib.Dec.{T, eqb, eqb→eq, not_T}
 use lib.ListN.{length, length-append}
 use Rattle.profile.specs.Lists.{all, below, filter}
@@ -23,6 +24,15 @@ module _ (p : ℕ → Bool) (k : ℕ) where
 
   pub all_no : (x : ℕ) → x < k → p x ≡ false → false ≡ all p (below k)
   all_no x lt e = t_eq false (all p (below k)) (λ t. absurd t) (λ t. absurd (subst T e (all_at p t (below_of k x lt))))
+
+-- a test as a number
+pub byte_cond : (b : Bool) → bool_byte b ≡ cond b 1 0
+byte_cond true = refl
+byte_cond false = refl
+
+pub cond_most : (b : Bool) → cond b 1 0 ≤ 1
+cond_most true = omega arith
+cond_most false = omega arith
 
 -- one more record is looked at
 pub joining_more : (p : ℕ → Bool) (j : ℕ) (b : Bool) → p j ≡ b → length (filter p (below j)) + cond b 1 0 ≡ length (filter p (below (j + 1)))

@@ -1,7 +1,7 @@
 // The records that one event brings to the table of the running judge: Paper 7, "records stand in order of arrival".
 #![tactic(auto)]
 
-ghost use Rattle.std.specs.Prelude.{◌≡◌, cond, true, [], ◌+◌, ◌*◌, ◌≤◌, ◌<◌, length};
+ghost use Rattle.std.specs.Prelude.{◌≡◌, true, [], ◌+◌, ◌*◌, ◌≤◌, ◌<◌, length};
 ghost use Rattle.profile.specs.Limits.{most_letters, most_states};
 ghost use Rattle.profile.specs.Automata.{profile_of};
 ghost use Rattle.profile.specs.Tables.{layout, record_length};
@@ -52,14 +52,6 @@ fn joins(
     true
 }
 
-// 1 for true, 0 for false.
-fn one_if(b: bool) -> usize
-    ensures value { result ≡ cond b 1 0 }
-    ensures upper_bound { result ≤ 1 }
-{
-    if b { 1 } else { 0 }
-}
-
 // How many of the n records an event of letter a can be added to.
 pub fn number_joining(t: &[u32], n: usize, masks: &[u16], k: usize, a: usize) -> usize
     requires { (k ≤ most_letters) × (1 ≤ n) × (record_length layout * n ≤ length t.now) }
@@ -69,7 +61,7 @@ pub fn number_joining(t: &[u32], n: usize, masks: &[u16], k: usize, a: usize) ->
     let last = counts::numbers(records::counts_at(t, n - 1));
     let mut number = 0;
     for j in 0..n {
-        number += one_if(joins(t, j, masks, k, a, &last));
+        number += usize::from(joins(t, j, masks, k, a, &last));
     }
     number
 }
