@@ -1,7 +1,5 @@
-use borrow.Author.Count.{below_more, below_none}
 use mathlib.Core.Path.{◌≡◌, sym, ◌∙◌}
 use mathlib.Core.Bool.{false}
-use native.Mathlib.Omega.{arith}
 use lib.ListN.{get_or}
 use Rattle.profile.specs.Refusals.{bit_from}
 use Rattle.checks.proofs.Loops.{any_none_below, any_some_below}
@@ -13,12 +11,6 @@ inside : (c : Else-set_from)
     → let b = c in bit_from b.args.k (get_or b.args.masks.now b.loop-i.i 0) ≡ false
 inside c = sym c.set_from.ensures ∙ c.if-set_from.false
 
-pub loop-i-init : goal.loop-i-init
-loop-i-init c = below_none _
-
-pub overflow_cast-mask : goal.overflow_cast-mask
-overflow_cast-mask c = omega (arith, c.type_inv.masks c.loop-i.i)
-
 pub returns-then-set_from : goal.returns-then-set_from
 returns-then-set_from c =
     let b = c in
@@ -29,12 +21,6 @@ returns-then-independent c =
     let b = c in
     let e = sym c.independent.ensures ∙ c.if-independent.true in
     sym (any_some_below _ _ b.loop-i.i b.loop-i-test.true (rw (inside (goal.at.returns-then-independent c).Else-set_from, e)))
-
-pub loop-i-preserved : goal.loop-i-preserved
-loop-i-preserved c =
-    let b = c in
-    let e = sym c.independent.ensures ∙ c.if-independent.false in
-    below_more _ _ b.loop-i.invariant (rw (inside (goal.at.loop-i-preserved c).Else-set_from, e))
 
 pub returns : goal.returns
 returns c = sym (any_none_below _ _ _ c.loop-i-test.false c.loop-i.invariant)

@@ -1,4 +1,4 @@
-use mathlib.Core.Path.{◌≡◌, refl, ◌∙◌, ap, ap₂}
+use mathlib.Core.Path.{◌≡◌, ◌∙◌, ap, ap₂}
 use mathlib.Core.List.{◌++◌, map, append-nil}
 use native.Mathlib.Omega.{arith}
 use lib.ListN.{drop, replicate, set}
@@ -8,9 +8,6 @@ use Rattle.profile.specs.Traces.{independent}
 use Rattle.theory.proofs.Fronts.{front_put}
 use Rattle.events.specs.Events.{all_keepers, keepers}
 use Rattle.events.proofs.all_keepers.Goals as goal
-
-pub loop-x-init : goal.loop-x-init
-loop-x-init c = refl
 
 pub loop-x-preserved : goal.loop-x-preserved
 loop-x-preserved c =

@@ -1,10 +1,8 @@
-use borrow.Author.Tests.{le-ltb}
 use mathlib.Core.Path.{◌≡◌, sym, ◌∙◌, ap, subst}
 use mathlib.Core.Bool.{◌&&◌}
-use Prim.Native.Nat.{◌-◌, ◌≤◌, ◌<◌}
+use Prim.Native.Nat.{◌≤◌, ◌<◌}
 use native.Mathlib.Omega.{arith}
-use lib.Bits.{and_le_r}
-use lib.Count.{trailing_le, count_trailing_zeros}
+use lib.Count.{count_trailing_zeros}
 use lib.Dec.{not_T, ltb, lt→ltb}
 use Rattle.profile.specs.Lists.{all, below}
 use Rattle.profile.specs.Prefixes.{at}
@@ -14,12 +12,6 @@ use Rattle.events.specs.Events.{keepers, lets_by?}
 use Rattle.events.proofs.Keepers.{Left, keepers_own, left_first, left_next, left_none, left_stops}
 use Rattle.events.proofs.comes_next.Goals as goal
 
-pub returns-then-n-own : goal.returns-then-n-own
-returns-then-n-own c =
-    let a = c.args in
-    let h : a.n ≤ at a.next.now a.x = omega (arith, c.place_at-own.ensures) in
-    rw (le-ltb (at a.next.now a.x) a.n h)
-
 pub loop-rest-init : goal.loop-rest-init
 loop-rest-init c =
     let s = c in
@@ -27,9 +19,6 @@ loop-rest-init c =
     let may = independent a.masks.now in
     let e : at a.keepers.now a.x ≡ keepers may a.k a.x = ap (λ l. at l a.x) s.requires.keepers_value ∙ keepers_own may a.k a.x (omega arith) in
     subst (Left may a.k a.x (at a.next.now)) (sym e) (left_first may a.k a.x (at a.next.now) s.requires.k_le_most_letters.0)
-
-pub overflow_cast-y : goal.overflow_cast-y
-overflow_cast-y c = omega (arith, trailing_le 32 c.loop-rest.rest)
 
 pub returns-then-place_at-own : goal.returns-then-place_at-own
 returns-then-place_at-own c =
@@ -40,9 +29,6 @@ returns-then-place_at-own c =
     let h : at a.next.now (count_trailing_zeros 32 l.rest) ≤ at a.next.now a.x = omega (arith, c.place_at.ensures, c.place_at-own.ensures) in
     sym (is_false (q && all p (below a.k)) (not_T (q && all p (below a.k)) (λ t.
     left_stops (independent a.masks.now) a.k a.x (at a.next.now) l.rest (omega arith) l.invariant h (snd_of q (all p (below a.k)) t))))
-
-pub loop-rest-smaller : goal.loop-rest-smaller
-loop-rest-smaller c = let n = c.loop-rest.rest in omega (arith, and_le_r n (n - 1))
 
 pub loop-rest-preserved : goal.loop-rest-preserved
 loop-rest-preserved c =

@@ -1,4 +1,4 @@
-use mathlib.Core.Path.{◌≡◌, refl, sym, ◌∙◌, ap, ap₂, subst}
+use mathlib.Core.Path.{◌≡◌, sym, ◌∙◌, ap, ap₂, subst}
 use mathlib.Core.Bool.{not}
 use mathlib.Core.List.{List, [], ◌∷◌, ◌++◌}
 use Prim.Native.Nat.{ℕ, ◌*◌, ◌%◌, ◌^◌}
@@ -19,9 +19,6 @@ use Rattle.letters.specs.Letters.{letters_by, next_by}
 use Rattle.letters.proofs.Additions.{below_no, below_yes, letters_first}
 use Rattle.letters.proofs.addable.Goals as goal
 use Rattle.letters.proofs.addable.Goals.{else-comes_next, then-comes_next}
-
-pub loop-x-init : goal.loop-x-init
-loop-x-init c = (omega arith, omega arith, refl, refl)
 
 pub loop-x-preserved : goal.loop-x-preserved
 loop-x-preserved c =

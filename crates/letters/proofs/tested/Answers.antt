@@ -6,9 +6,6 @@ use Rattle.counts.specs.Counts.{words}
 use Rattle.letters.proofs.Tests.{tested_all}
 use Rattle.letters.proofs.tested.Goals as goal
 
-pub returns-then-set-le-FEW : goal.returns-then-set-le-FEW
-returns-then-set-le-FEW c = c.tested_few.ensures
-
 pub returns : goal.returns
 returns c =
     let a = c.args in

@@ -1,23 +1,12 @@
 use Prim.Native.Nat.{◌-◌, ◌<◌}
 use mathlib.Core.Path.{◌≡◌, sym, ◌∙◌, ap}
 use native.Mathlib.Omega.{arith}
-use lib.Bits.{bit_and, bit_or, and_le_r, or_zero_l}
-use lib.Count.{trailing_le}
+use lib.Bits.{bit_and, bit_or, and_le_r}
 use Rattle.profile.specs.Traces.{independent}
 use Rattle.parents.proofs.Unions.{over_left, over_none, over_taken}
 use Rattle.letters.specs.Letters.{letter_by, tested_by}
-use borrow.Author.Rules.{rules}
 use Rattle.letters.proofs.tested_few.Goals as goal
 use Rattle.letters.proofs.tested_few.Goals.{else-x-k, then-x-k}
-
-pub loop-rest-init : goal.loop-rest-init
-loop-rest-init c = (search rules, or_zero_l _)
-
-pub overflow_cast-x : goal.overflow_cast-x
-overflow_cast-x c = omega (arith, trailing_le 32 c.loop-rest.rest)
-
-pub loop-rest-smaller : goal.loop-rest-smaller
-loop-rest-smaller c = let n = c.loop-rest.rest in omega (arith, and_le_r n (n - 1))
 
 pub loop-rest-preserved : goal.loop-rest-preserved
 loop-rest-preserved c =

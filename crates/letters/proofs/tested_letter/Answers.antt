@@ -1,11 +1,10 @@
 use borrow.Author.Tests.{le-ltb}
 use mathlib.Core.Path.{◌≡◌, sym, ◌∙◌, ap, subst}
 use mathlib.Core.Bool.{◌&&◌, cond}
-use Prim.Native.Nat.{◌-◌, ◌^◌, ◌≤◌, ◌<◌}
+use Prim.Native.Nat.{◌^◌, ◌≤◌, ◌<◌}
 use native.Mathlib.Nat.{one-mul}
 use native.Mathlib.Omega.{arith}
-use lib.Bits.{and_le_r}
-use lib.Count.{trailing_le, count_trailing_zeros}
+use lib.Count.{count_trailing_zeros}
 use lib.Dec.{not_T, ltb, lt→ltb}
 use lib.Pow.{shl_exact}
 use Rattle.profile.specs.Lists.{all, below}
@@ -36,9 +35,6 @@ loop-rest-init c =
     let e : at a.keepers.now a.x ≡ keepers may a.k a.x = ap (λ l. at l a.x) s.requires.keepers_value ∙ keepers_own may a.k a.x (omega arith) in
     subst (Left may a.k a.x (at next)) (sym e) (left_first may a.k a.x (at next) s.requires.k_le_most_letters.0)
 
-pub overflow_cast-y : goal.overflow_cast-y
-overflow_cast-y c = omega (arith, trailing_le 32 c.loop-rest.rest)
-
 pub place_of-requires : goal.place_of-requires
 place_of-requires c =
     let l = c.loop-rest in
@@ -58,9 +54,6 @@ returns-then-place_of-own c =
     let h : at next y ≤ at next a.x = omega (arith, c.place_of.ensures, c.place_of-own.ensures, own, his) in
     sym (ap (λ b. cond b (2 ^ a.x) 0) (is_false (q && all p (below a.k)) (not_T (q && all p (below a.k)) (λ t.
     left_stops (independent a.masks.now) a.k a.x (at next) l.rest (omega arith) l.invariant h (snd_of q (all p (below a.k)) t)))))
-
-pub loop-rest-smaller : goal.loop-rest-smaller
-loop-rest-smaller c = let n = c.loop-rest.rest in omega (arith, and_le_r n (n - 1))
 
 pub loop-rest-preserved : goal.loop-rest-preserved
 loop-rest-preserved c =
