@@ -4,7 +4,6 @@
 
 use profile::limits::{LONGEST_INPUT, PROGRAM_NUMBERS, PROGRAM_TEXT};
 use std::process::ExitCode;
-use streams::Input;
 
 // Prints what is printed for a whole input, and tells whether all of it is written.
 fn answer(rt: &(impl Print + Eprint), input: &[u8]) -> bool {
@@ -16,14 +15,13 @@ fn answer(rt: &(impl Print + Eprint), input: &[u8]) -> bool {
 
 fn main(rt: HostRuntime) -> ExitCode {
     let mut bytes = [0u8; LONGEST_INPUT + 1];
-    let input = streams::read_input(&mut rt.stdin(), &mut bytes);
-    match input {
-        Input::Bytes(n) => {
+    match streams::read_input(&mut rt.stdin(), &mut bytes) {
+        Ok(n) => {
             if answer(&rt, &bytes[0..n]) {
                 return ExitCode::SUCCESS;
             }
         }
-        Input::Failed(why) => streams::tell(&rt, "judge: standard input", why),
+        Err(why) => streams::tell(&rt, "judge: standard input", why),
     }
     ExitCode::FAILURE
 }

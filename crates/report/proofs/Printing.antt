@@ -12,16 +12,15 @@ use lib.Seq.{take_at}
 use Rattle.profile.specs.Limits.{longest_input, program_text}
 use Rattle.profile.specs.Automata.{Profile}
 use Rattle.profile.specs.Rules.{order_by, plain, prefixes_by}
-use Rattle.profile.specs.Refusals.{judge_refusal, longest, lowest}
+use Rattle.profile.specs.Refusals.{judge_refusal, longest, lowest, refused_by}
 use Rattle.profile.specs.declared.Shape.{Shape}
 use Rattle.profile.specs.declared.Refusal.{Refusal}
 use Rattle.profile.specs.declared.Refusal.TheVariants.{ShortBuffer}
 use Rattle.theory.proofs.Refusals.{lowest_none}
 use Rattle.logfile.specs.Files.{file_log, file_refusals, log_part_of, read_refusal, read_refusals, reading, short_buffers, unless}
-use Rattle.logfile.specs.declared.Reading.{Reading}
-use Rattle.logfile.specs.declared.Reading.TheVariants.{Refused as ReadRefused, Told}
+use Rattle.std.specs.Prelude.{Result, Ok, Err}
 use Rattle.verdict.specs.Verdict.{Promise}
-use Rattle.verdict.specs.declared.Judged.TheVariants.{NoOrder, Order, Refused}
+use Rattle.verdict.specs.declared.Judged.TheVariants.{NoOrder, Order}
 use Rattle.verdict.proofs.Judging.{admitted, order_length}
 use Rattle.report.specs.Report.{Put, Responds, decimal, file_table, file_text, judged_table, judged_text, number_line, order_line, printed_with, refusal_line, response, table_after, table_left, too_long_line, unless_refused, verdict_lines, verdict_text, whether}
 use Rattle.report.proofs.Decimal.{decimal_short}
@@ -43,13 +42,13 @@ module _ (p : Profile) (w order order' table table' : List ℕ) (places : length
   refusal_as : {q : Option Refusal} → q ≡ judge_refusal p w (length order) (length table) → judged_text p w (length table) ≡ told q
   refusal_as e = ap told (sym (e ∙ as_placed))
 
-  pub text_refused : (r : Refusal) → Promise p w order order' table table' (Refused r) → judged_text p w (length table) ≡ refusal_line r
+  pub text_refused : (r : Refusal) → Promise p w order order' table table' (Err r) → judged_text p w (length table) ≡ refusal_line r
   text_refused r h = refusal_as h.refused
 
-  pub text_none : (P n : ℕ) → Promise p w order order' table table' (NoOrder P n) → judged_text p w (length table) ≡ verdict_lines 0 P
+  pub text_none : (P n : ℕ) → Promise p w order order' table table' (Ok (NoOrder P n)) → judged_text p w (length table) ≡ verdict_lines 0 P
   text_none P n h = refusal_as h.refused ∙ ap₂ verdict_text (sym h.told.2.prefixes) h.told.0
 
-  pub text_some : (P n : ℕ) → Promise p w order order' table table' (Order P n) → judged_text p w (length table) ≡ verdict_lines 1 P ++ order_line (take (length w - 0) (drop 0 order'))
+  pub text_some : (P n : ℕ) → Promise p w order order' table table' (Ok (Order P n)) → judged_text p w (length table) ≡ verdict_lines 1 P ++ order_line (take (length w - 0) (drop 0 order'))
   text_some P n h =
       let z : length w - 0 ≡ length w = omega arith in
       let v = h.told.0 in
@@ -58,35 +57,31 @@ module _ (p : Profile) (w order order' table table' : List ℕ) (places : length
       ∙ ap (λ l. verdict_lines 1 P ++ order_line l) (sym (ap₂ take z h.told.2 ∙ take_at v (drop (length w) order) (length w) e))
 
   -- the order has place
-  pub order_room : (P n : ℕ) → Promise p w order order' table table' (Order P n) → length w ≤ longest
+  pub order_room : (P n : ℕ) → Promise p w order order' table table' (Ok (Order P n)) → length w ≤ longest
   order_room P n h = omega (arith, (admitted p w order table (sym h.refused)).room)
 
   -- what becomes of the table
-  pub table_refused : (r : Refusal) → Promise p w order order' table table' (Refused r) → judged_table p w table table'
+  pub table_refused : (r : Refusal) → Promise p w order order' table table' (Err r) → judged_table p w table table'
   table_refused r h = subst (λ q. table_left q p w table table') (h.refused ∙ as_placed) h.told.1
 
-  pub table_none : (P n : ℕ) → Promise p w order order' table table' (NoOrder P n) → judged_table p w table table'
+  pub table_none : (P n : ℕ) → Promise p w order order' table table' (Ok (NoOrder P n)) → judged_table p w table table'
   table_none P n h = subst (λ q. table_left q p w table table') (h.refused ∙ as_placed) h.told.2.table
 
-  pub table_some : (P n : ℕ) → Promise p w order order' table table' (Order P n) → judged_table p w table table'
+  pub table_some : (P n : ℕ) → Promise p w order order' table table' (Ok (Order P n)) → judged_table p w table table'
   table_some P n h = subst (λ q. table_left q p w table table') (h.refused ∙ as_placed) h.told.3.table
 
 -- ---- the reader, with 16 places for masks and 512 for moves
 
--- the refusal that an answer gives, and the numbers that it tells, or else h
-abbrev pub read_by : Reading → Option Refusal
-read_by (ReadRefused r) = some r
-read_by (Told g n) = none
+-- the numbers that an answer tells, or else h
+abbrev pub shape_by : Shape → Result (Shape × ℕ) Refusal → Shape
+shape_by h (Err r) = h
+shape_by h (Ok (g, n)) = g
 
-abbrev pub shape_by : Shape → Reading → Shape
-shape_by h (ReadRefused r) = h
-shape_by h (Told g n) = g
+pub refusal_read : (q : Option Refusal) (h : Shape) (n : ℕ) {r : Result (Shape × ℕ) Refusal} → reading q h n ≡ r → q ≡ refused_by r
+refusal_read none h n e = ap refused_by e
+refusal_read (some r) h n e = ap refused_by e
 
-pub refusal_read : (q : Option Refusal) (h : Shape) (n : ℕ) {r : Reading} → reading q h n ≡ r → q ≡ read_by r
-refusal_read none h n e = ap read_by e
-refusal_read (some r) h n e = ap read_by e
-
-pub shape_read : (q : Option Refusal) (h : Shape) (n : ℕ) {r : Reading} → reading q h n ≡ r → h ≡ shape_by h r
+pub shape_read : (q : Option Refusal) (h : Shape) (n : ℕ) {r : Result (Shape × ℕ) Refusal} → reading q h n ≡ r → h ≡ shape_by h r
 shape_read none h n e = ap (shape_by h) e
 shape_read (some r) h n e = ap (shape_by h) e
 

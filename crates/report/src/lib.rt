@@ -7,7 +7,6 @@ ghost use Rattle.profile.specs.Lists.{flat_map};
 ghost use Rattle.profile.specs.Automata.{profile_of};
 ghost use Rattle.report.specs.Report.{Put, Responds, decimal, file_table, file_text, judged_table, judged_text, number_line, order_line, refusal_line, spaced, verdict_lines};
 
-use logfile::Reading;
 use profile::limits::{LONGEST, LONGEST_INPUT, MOST_LETTERS, MOST_MOVES, PROGRAM_TEXT};
 use profile::{Refusal, Shape};
 use verdict::Judged;
@@ -17,13 +16,9 @@ fn put_bytes(out: &mut [u8], at: usize, bytes: &[u8]) -> usize
     requires { at + length bytes.now ≤ length out.old }
     ensures { Put out.old at bytes.now out.new result }
 {
-    let mut i = 0;
-    while i < bytes.len() {
-        let byte = bytes[i];
-        out[at + i] = byte;
-        i += 1;
-    }
-    at + i
+    let end = at + bytes.len();
+    out[at..end].copy_from_slice(bytes);
+    end
 }
 
 // Puts n, decimal, and tells the place behind it.
@@ -62,11 +57,8 @@ fn put_letters(out: &mut [u8], at: usize, letters: &[u8]) -> usize
     ensures upper_bound { result ≤ at + 4 * length letters.now }
 {
     let mut to = at;
-    let mut i = 0;
-    while i < letters.len() {
-        let letter = letters[i] as u64;
-        to = put_spaced(out, to, letter);
-        i += 1;
+    for letter in letters {
+        to = put_spaced(out, to, *letter as u64);
     }
     to
 }
@@ -114,11 +106,10 @@ fn put_judged(
     ensures judged_table { judged_table (profile_of shape masks.now moves.now) log.now work.old work.new }
 {
     let mut order = [0u8; LONGEST];
-    let judged = verdict::judge(shape, masks, moves, log, &mut order, work);
-    match judged {
-        Judged::Refused(r) => put_refused(out, r),
-        Judged::NoOrder { prefixes, looks: _ } => put_verdict(out, 0, prefixes as u64),
-        Judged::Order { prefixes, looks: _ } => {
+    match verdict::judge(shape, masks, moves, log, &mut order, work) {
+        Err(r) => put_refused(out, r),
+        Ok(Judged::NoOrder { prefixes, looks: _ }) => put_verdict(out, 0, prefixes as u64),
+        Ok(Judged::Order { prefixes, looks: _ }) => {
             let end = put_verdict(out, 1, prefixes as u64);
             let n = log.len();
             put_order(out, end, &order[0..n])
@@ -134,10 +125,9 @@ fn put_file(file: &[u8], out: &mut [u8], work: &mut [u32]) -> usize
 {
     let mut masks = [0u16; MOST_LETTERS];
     let mut moves = [0u32; MOST_MOVES];
-    let reading = logfile::read_file(file, &mut masks, &mut moves);
-    match reading {
-        Reading::Refused(r) => put_refused(out, r),
-        Reading::Told(shape, _) => {
+    match logfile::read_file(file, &mut masks, &mut moves) {
+        Err(r) => put_refused(out, r),
+        Ok((shape, _)) => {
             let k = shape.k;
             let s = shape.s;
             let count = s * k;

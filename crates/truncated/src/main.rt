@@ -16,12 +16,10 @@ fn main(rt: HostRuntime) -> ExitCode {
         2u8, 0, 1, 0, 2, 0, 0, 0, 0, 0, 0, 0, 0, 0, 0, 0, 1, 0, 0, 0, 1, 1, 0, 0, 2, 2, 0, 4, 24,
         0, 20, 0, 4, 0, 0, 0, 1, 0, 0, 0,
     ];
-    let mut n = 0;
-    while n <= 40 {
+    for n in 0..=40 {
         if !show(&rt, &file[0..n]) {
             return ExitCode::FAILURE;
         }
-        n += 1;
     }
     ExitCode::SUCCESS
 }

@@ -1,33 +1,21 @@
-use mathlib.Core.Path.{refl, ◌∙◌, ap}
-use Prim.Native.Nat.{◌+◌}
+-- `report::put_bytes` meets its contract.
+use mathlib.Core.Path.{refl, sym, ◌∙◌}
+use mathlib.Core.List.{append_assoc}
+use Prim.Native.Nat.{◌+◌, ◌-◌}
 use native.Mathlib.Omega.{arith}
-use lib.ListN.{get_or, set, length-set}
-use lib.Seq.{sets, take_all}
-use Rattle.logfile.proofs.Bytes.{sets_more}
+use lib.ListN.{drop, length, take}
+use lib.Seq.{sets-eq}
+use Rattle.std.proofs.lemmas.List.Edits.{paste_all}
+use Rattle.std.proofs.lemmas.Slice.{put_mid-paste}
 use Rattle.report.proofs.put_bytes.Goals as goal
-
-pub loop-i-init : goal.loop-i-init
-loop-i-init c = (omega arith, refl, refl)
-
-pub bounds-out-at : goal.bounds-out-at
-bounds-out-at c = omega arith
-
-pub loop-i-preserved : goal.loop-i-preserved
-loop-i-preserved c =
-    let l = c.loop-i in
-    let a = c.args in (
-      omega arith,
-      simp length-set l.invariant.1,
-      ap (λ t. set t (a.at + l.i) (get_or a.bytes.now l.i 0)) l.invariant.2 ∙ sets_more a.out.now a.bytes.now a.at l.i (omega arith),
-    )
-
-pub overflow_add-result : goal.overflow_add-result
-overflow_add-result c = omega arith
 
 pub returns : goal.returns
 returns c =
-    let a = c.args in record {
-      put = c.loop-i.invariant.2 ∙ ap (sets a.out.now a.at) (take_all c.loop-i.i a.bytes.now c.loop-i-test.false);
+    let a = c.args in
+    let n = length a.bytes.now in record {
+      put = put_mid-paste a.at (a.at + n - a.at) a.out.now c.copy_from_slice.new.self a.bytes.now n c.copy_from_slice.ensures.after (omega arith) refl
+          ∙ paste_all a.out.now a.at a.bytes.now n refl ∙ sym (append_assoc (take a.at a.out.now) a.bytes.now (drop (a.at + n) a.out.now))
+          ∙ sym (sets-eq a.bytes.now a.out.now a.at c.requires);
       behind = omega arith;
       room = omega arith;
     }

@@ -14,63 +14,63 @@ pub slice_bounds-put_order-end : goal.slice_bounds-put_order-end
 slice_bounds-put_order-end c =
     let a = c.args in
     let p = profile_of a.shape a.masks.now a.moves.now in
-    let j = c.judge-judged in
-    let h = subst (Promise p a.log.now (replicate longest 0) j.new.order a.work.now j.new.work) c.in-Order.is j.ensures in
-    omega (arith, order_room p a.log.now (replicate longest 0) j.new.order a.work.now j.new.work refl c.in-Order.prefixes c.in-Order.looks h, j.auto.order)
+    let j = c.judge in
+    let h = rw c.in-Ok-Order.field-0-is at c.in-Ok-Order.ensures in
+    omega (arith, order_room p a.log.now (replicate longest 0) j.new.order a.work.now j.new.work refl c.in-Ok-Order.prefixes c.in-Ok-Order.field-0-1 h, j.auto.order)
 
 pub put_order-requires : goal.put_order-requires
 put_order-requires c =
     let a = c.args in
     let p = profile_of a.shape a.masks.now a.moves.now in
-    let j = c.judge-judged in
-    let h = subst (Promise p a.log.now (replicate longest 0) j.new.order a.work.now j.new.work) c.in-Order.is j.ensures in
+    let j = c.judge in
+    let h = rw c.in-Ok-Order.field-0-is at c.in-Ok-Order.ensures in
     let v = c.put_verdict-end.ensures in
-    omega (arith, order_room p a.log.now (replicate longest 0) j.new.order a.work.now j.new.work refl c.in-Order.prefixes c.in-Order.looks h, length-take (length a.log.now - 0) j.new.order, v.upper_bound, put_kept v.put, c.requires)
+    omega (arith, order_room p a.log.now (replicate longest 0) j.new.order a.work.now j.new.work refl c.in-Ok-Order.prefixes c.in-Ok-Order.field-0-1 h, length-take (length a.log.now - 0) j.new.order, v.upper_bound, put_kept v.put, c.requires)
 
-pub returns-in-Refused-clause-put : goal.returns-in-Refused-clause-put
-returns-in-Refused-clause-put c =
+pub returns-in-Err-clause-put : goal.returns-in-Err-clause-put
+returns-in-Err-clause-put c =
     let a = c.args in
     let p = profile_of a.shape a.masks.now a.moves.now in
-    let j = c.judge-judged in
-    let h = subst (Promise p a.log.now (replicate longest 0) j.new.order a.work.now j.new.work) c.in-Refused.is j.ensures in
-    put_as (sym (text_refused p a.log.now (replicate longest 0) j.new.order a.work.now j.new.work refl c.in-Refused.r h)) c.put_refused.ensures
+    let j = c.judge in
+    let h = subst (Promise p a.log.now (replicate longest 0) j.new.order a.work.now j.new.work) c.in-Err.is j.ensures in
+    put_as (sym (text_refused p a.log.now (replicate longest 0) j.new.order a.work.now j.new.work refl c.in-Err.r h)) c.put_refused.ensures
 
-pub returns-in-Refused-clause-judged_table : goal.returns-in-Refused-clause-judged_table
-returns-in-Refused-clause-judged_table c =
+pub returns-in-Err-clause-judged_table : goal.returns-in-Err-clause-judged_table
+returns-in-Err-clause-judged_table c =
     let a = c.args in
     let p = profile_of a.shape a.masks.now a.moves.now in
-    let j = c.judge-judged in
-    let h = subst (Promise p a.log.now (replicate longest 0) j.new.order a.work.now j.new.work) c.in-Refused.is j.ensures in
-    table_refused p a.log.now (replicate longest 0) j.new.order a.work.now j.new.work refl c.in-Refused.r h
+    let j = c.judge in
+    let h = subst (Promise p a.log.now (replicate longest 0) j.new.order a.work.now j.new.work) c.in-Err.is j.ensures in
+    table_refused p a.log.now (replicate longest 0) j.new.order a.work.now j.new.work refl c.in-Err.r h
 
-pub returns-in-NoOrder-clause-put : goal.returns-in-NoOrder-clause-put
-returns-in-NoOrder-clause-put c =
+pub returns-in-Ok-NoOrder-clause-put : goal.returns-in-Ok-NoOrder-clause-put
+returns-in-Ok-NoOrder-clause-put c =
     let a = c.args in
     let p = profile_of a.shape a.masks.now a.moves.now in
-    let j = c.judge-judged in
-    let h = subst (Promise p a.log.now (replicate longest 0) j.new.order a.work.now j.new.work) c.in-NoOrder.is j.ensures in
-    put_as (sym (text_none p a.log.now (replicate longest 0) j.new.order a.work.now j.new.work refl c.in-NoOrder.prefixes c.in-NoOrder.looks h)) c.put_verdict.ensures.put
+    let j = c.judge in
+    let h = rw c.in-Ok-NoOrder.field-0-is at c.in-Ok-NoOrder.ensures in
+    put_as (sym (text_none p a.log.now (replicate longest 0) j.new.order a.work.now j.new.work refl c.in-Ok-NoOrder.prefixes c.in-Ok-NoOrder.field-0-1 h)) c.put_verdict.ensures.put
 
-pub returns-in-NoOrder-clause-judged_table : goal.returns-in-NoOrder-clause-judged_table
-returns-in-NoOrder-clause-judged_table c =
+pub returns-in-Ok-NoOrder-clause-judged_table : goal.returns-in-Ok-NoOrder-clause-judged_table
+returns-in-Ok-NoOrder-clause-judged_table c =
     let a = c.args in
     let p = profile_of a.shape a.masks.now a.moves.now in
-    let j = c.judge-judged in
-    let h = subst (Promise p a.log.now (replicate longest 0) j.new.order a.work.now j.new.work) c.in-NoOrder.is j.ensures in
-    table_none p a.log.now (replicate longest 0) j.new.order a.work.now j.new.work refl c.in-NoOrder.prefixes c.in-NoOrder.looks h
+    let j = c.judge in
+    let h = rw c.in-Ok-NoOrder.field-0-is at c.in-Ok-NoOrder.ensures in
+    table_none p a.log.now (replicate longest 0) j.new.order a.work.now j.new.work refl c.in-Ok-NoOrder.prefixes c.in-Ok-NoOrder.field-0-1 h
 
-pub returns-in-Order-clause-put : goal.returns-in-Order-clause-put
-returns-in-Order-clause-put c =
+pub returns-in-Ok-Order-clause-put : goal.returns-in-Ok-Order-clause-put
+returns-in-Ok-Order-clause-put c =
     let a = c.args in
     let p = profile_of a.shape a.masks.now a.moves.now in
-    let j = c.judge-judged in
-    let h = subst (Promise p a.log.now (replicate longest 0) j.new.order a.work.now j.new.work) c.in-Order.is j.ensures in
-    put_as (sym (text_some p a.log.now (replicate longest 0) j.new.order a.work.now j.new.work refl c.in-Order.prefixes c.in-Order.looks h)) (put_then c.put_verdict-end.ensures.put c.put_order.ensures)
+    let j = c.judge in
+    let h = rw c.in-Ok-Order.field-0-is at c.in-Ok-Order.ensures in
+    put_as (sym (text_some p a.log.now (replicate longest 0) j.new.order a.work.now j.new.work refl c.in-Ok-Order.prefixes c.in-Ok-Order.field-0-1 h)) (put_then c.put_verdict-end.ensures.put c.put_order.ensures)
 
-pub returns-in-Order-clause-judged_table : goal.returns-in-Order-clause-judged_table
-returns-in-Order-clause-judged_table c =
+pub returns-in-Ok-Order-clause-judged_table : goal.returns-in-Ok-Order-clause-judged_table
+returns-in-Ok-Order-clause-judged_table c =
     let a = c.args in
     let p = profile_of a.shape a.masks.now a.moves.now in
-    let j = c.judge-judged in
-    let h = subst (Promise p a.log.now (replicate longest 0) j.new.order a.work.now j.new.work) c.in-Order.is j.ensures in
-    table_some p a.log.now (replicate longest 0) j.new.order a.work.now j.new.work refl c.in-Order.prefixes c.in-Order.looks h
+    let j = c.judge in
+    let h = rw c.in-Ok-Order.field-0-is at c.in-Ok-Order.ensures in
+    table_some p a.log.now (replicate longest 0) j.new.order a.work.now j.new.work refl c.in-Ok-Order.prefixes c.in-Ok-Order.field-0-1 h
