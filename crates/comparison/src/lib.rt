@@ -24,6 +24,7 @@ fn is_kept(a: u8, x: usize, y: usize) -> bool
 }
 
 // The first place from `from` on with the letter x or y; the log's end where there is none.
+// Kept: not an Option, as `agree` would test two of them, and the log's end is a place from which nothing is left, which its invariant says anyway.
 fn next_kept(log: &[u8], from: usize, x: usize, y: usize) -> usize
     ensures { result ≡ from + first_place (λ a. eqb a x || eqb a y) (drop from log.now) }
 {

@@ -70,6 +70,7 @@ fn in_term(terms: &[u32], d: u32, i: usize) -> bool
 }
 
 // The term that a day is in, counted from 0; the number of terms where it is in none.
+// Kept: not an Option, as the code of an event in no term has that number, and `code_events` may be called for such events.
 fn term_of(terms: &[u32], d: u32) -> usize
     ensures { result ≡ term_by terms.now d }
 {

@@ -14,6 +14,7 @@ use profile::Refusal;
 use profile::limits::{MOST_LETTERS, MOST_PLACES, Place};
 
 // The smallest letter that can come next; k where there is none.
+// Kept: not an Option, as `put_letters` calls it while events are left, when some letter can come next, and would have a None to rule out.
 fn least_next(
     masks: &[u16],
     keepers: &[u32; MOST_LETTERS],

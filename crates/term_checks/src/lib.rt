@@ -20,19 +20,9 @@ pub fn check_call(
 ) -> Result<(), Refusal>
     ensures { refused_by result ≡ lowest (dated_admission (profile_of shape masks.now moves.now) log.now days.now terms.now n) }
 {
-    let profile = checks::check_profile(shape, masks, moves);
-    if let Err(r) = profile {
-        return Err(r);
-    }
-    let k = shape.k;
-    let letters = logcheck::check_log(k, log);
-    if let Err(r) = letters {
-        return Err(r);
-    }
-    let dated = dates::check_terms(log, days, terms);
-    if let Err(r) = dated {
-        return Err(r);
-    }
+    checks::check_profile(shape, masks, moves)?;
+    logcheck::check_log(shape.k, log)?;
+    dates::check_terms(log, days, terms)?;
     if n < log.len() {
         return Err(Refusal::ShortBuffer);
     }

@@ -16,8 +16,8 @@ use Rattle.profile.specs.Refusals.{full_table, lowest}
 use Rattle.profile.specs.declared.Refusal.{Refusal}
 use Rattle.profile.specs.declared.Refusal.TheVariants.{FullTable}
 use Rattle.profile.proofs.Lists.{all_at, all_of, both}
-use Rattle.terms.specs.Terms.{day_of, events, letter_of, most_terms, term_count, term_of, with_terms}
-use Rattle.terms.specs.Coded.{Coding, code, code_letter, code_of, code_term, rules_of}
+use Rattle.terms.specs.Terms.{day_of, events, letter_of, most_terms, term_count, with_terms}
+use Rattle.terms.specs.Coded.{Coding, code_letter, code_of, code_term, rules_of}
 use Rattle.terms.proofs.Logs.{coded_events, coded_looks, coded_order, coded_prefixes, coded_table, dated_events, days_short, events_length, events_letters, letter_of_code, term_of_code, term_small}
 use Rattle.turns.specs.Turns.{past_terms}
 use Rattle.term_checks.specs.Admission.{dated_admission}

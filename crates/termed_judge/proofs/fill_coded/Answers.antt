@@ -1,5 +1,4 @@
 -- `termed_judge::fill_coded` meets its contract: the letters that can be added are found by the places and turns of the events.
-use borrow.Author.Rules.{rules}
 use mathlib.Core.Path.{ap}
 use native.Mathlib.Omega.{arith}
 use lib.ListN.{length, length-map}
