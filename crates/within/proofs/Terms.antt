@@ -9,19 +9,19 @@ use mathlib.Core.Option.{Option, none, some, none-ne-some, some-injective}
 use Prim.Native.Nat.{ℕ, ◌*◌, ◌≤◌}
 use lib.Dec.{T, eqb}
 use lib.ListN.{length}
+use Rattle.std.specs.Prelude.{Result, Ok, Err}
 use Rattle.profile.specs.Automata.{Profile}
 use Rattle.profile.specs.Limits.{record_numbers, usable_numbers}
 use Rattle.profile.specs.Lists.{all}
-use Rattle.profile.specs.Refusals.{full_table, log_refusals, lowest, profile_refusals, short_buffer}
+use Rattle.profile.specs.Refusals.{full_table, log_refusals, lowest, profile_refusals, refused_by, short_buffer}
 use Rattle.profile.specs.Rules.{prefixes_by}
 use Rattle.profile.specs.Traces.{independent}
 use Rattle.profile.specs.declared.Refusal.{Refusal}
 use Rattle.profile.specs.declared.Refusal.TheVariants.{BadDay, BadTerm, FullTable, NoTerm, ShortBuffer}
 use Rattle.profile.proofs.Lists.{snd_of}
 use Rattle.theory.proofs.Refusals.{lowest_first, lowest_none}
-use Rattle.verdict.specs.Verdict.{refused_by}
 use Rattle.verdict.specs.declared.Judged.{Judged}
-use Rattle.verdict.specs.declared.Judged.TheVariants.{NoOrder, Order, Refused}
+use Rattle.verdict.specs.declared.Judged.TheVariants.{NoOrder, Order}
 use Rattle.verdict.proofs.Promises.{told_prefixes}
 use Rattle.terms.specs.Terms.{bad_day, bad_term, dated_refusal, dated_refusals, day_of, events, letter_of, may_in, no_term, term_of, with_terms}
 use Rattle.terms.proofs.Logs.{days_short, events_letters}
@@ -68,7 +68,7 @@ module _ (p : Profile) (w days terms : List ℕ) (n m : ℕ) where
           absurd (not_full (early (bad_day w days)) tt (q ∙ ap some (h r (sym e ∙ a))))
 
 module _ (p : Profile) (w days terms groups : List ℕ) (n : ℕ) (told : told_ceiling (bounding p.k p.masks w groups) ≡ some n)
-    (order order' table table' : List ℕ) (j : Judged) (h : Promise p w days terms order order' table table' j) where
+    (order order' table table' : List ℕ) (j : Result Judged Refusal) (h : Promise p w days terms order order' table table' j) where
   -- the letters of the events, where there is a verdict or the call is refused by 10
   letters : ((r : Refusal) → refused_by j ≡ some r → r ≡ FullTable) → map letter_of (events w days) ≡ w
   letters f = letters_at p w days terms (length order) (length table) (refused_by j) (sym h.refused) f
@@ -77,13 +77,13 @@ module _ (p : Profile) (w days terms groups : List ℕ) (n : ℕ) (told : told_c
   pub within_judged : (P : ℕ) → told_prefixes j ≡ some P → P ≤ n
   within_judged P e = within_by (with_terms p terms) p.masks w groups n told (in_terms p.masks terms) (events w days) (letters (verdict j e)) order order' table table' j h.told P e
     where
-      verdict : (i : Judged) → told_prefixes i ≡ some P → (r : Refusal) → refused_by i ≡ some r → r ≡ FullTable
-      verdict (Refused x) e r q = absurd (none-ne-some P e)
-      verdict (NoOrder Q m) e r q = absurd (none-ne-some r q)
-      verdict (Order Q m) e r q = absurd (none-ne-some r q)
+      verdict : (i : Result Judged Refusal) → told_prefixes i ≡ some P → (r : Refusal) → refused_by i ≡ some r → r ≡ FullTable
+      verdict (Err x) e r q = absurd (none-ne-some P e)
+      verdict (Ok (NoOrder Q m)) e r q = absurd (none-ne-some r q)
+      verdict (Ok (Order Q m)) e r q = absurd (none-ne-some r q)
 
   -- with a table of n records, as long as the usable numbers hold them, 10 is not given
-  pub table_suffices : record_numbers * n ≤ length table → record_numbers * n ≤ usable_numbers → j ≢ Refused FullTable
+  pub table_suffices : record_numbers * n ≤ length table → record_numbers * n ≤ usable_numbers → j ≢ Err FullTable
   unfolding passed?
   table_suffices a b e =
       let l = letters (λ r q. some-injective r FullTable (sym q ∙ ap refused_by e)) in

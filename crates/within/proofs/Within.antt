@@ -6,16 +6,17 @@ use mathlib.Core.Bool.{Bool, true, false, not, ◌||◌}
 use mathlib.Core.Logic.{◌≢◌}
 use mathlib.Core.List.Memᴰ
 use mathlib.Core.List.{List, [], ◌∷◌, ◌++◌, map}
-use mathlib.Core.Option.{Option, some, none-ne-some, some-injective}
+use mathlib.Core.Option.{some, none-ne-some, some-injective}
 use Prim.Native.Nat.{ℕ, ◌*◌, ◌≤◌}
 use native.Mathlib.Omega.{arith}
 use borrow.Author.Tests.{le-ltb}
 use lib.Dec.{T, eqb}
 use lib.ListN.{length}
+use Rattle.std.specs.Prelude.{Result, Ok, Err}
 use Rattle.profile.specs.Automata.{Profile}
 use Rattle.profile.specs.Limits.{record_numbers, usable_numbers}
 use Rattle.profile.specs.Lists.{Mem, all}
-use Rattle.profile.specs.Refusals.{admission_refusals, full_table, judge_refusals, lowest, refusal_number}
+use Rattle.profile.specs.Refusals.{admission_refusals, full_table, judge_refusals, lowest, refusal_number, refused_by}
 use Rattle.profile.specs.Rules.{Rules, plain, prefixes_by}
 use Rattle.profile.specs.Tables.{capacity, layout}
 use Rattle.profile.specs.Traces.{independent}
@@ -23,9 +24,9 @@ use Rattle.profile.specs.declared.Refusal.{Refusal}
 use Rattle.profile.specs.declared.Refusal.TheVariants.{FullTable}
 use Rattle.profile.proofs.Lists.{all_at}
 use Rattle.theory.proofs.Refusals.{lowest_at}
-use Rattle.verdict.specs.Verdict.{Promise, judged, refused_by}
+use Rattle.verdict.specs.Verdict.{Promise, judged}
 use Rattle.verdict.specs.declared.Judged.{Judged}
-use Rattle.verdict.specs.declared.Judged.TheVariants.{NoOrder, Order, Refused}
+use Rattle.verdict.specs.declared.Judged.TheVariants.{NoOrder, Order}
 use Rattle.verdict.proofs.Promises.{told_prefixes}
 use Rattle.ceiling.specs.Ceiling.{bounding, told_ceiling}
 use Rattle.ceiling.proofs.Demands.{within, within_ceiling}
@@ -50,11 +51,11 @@ pub place_for : (P n m : ℕ) → P ≤ n → record_numbers * n ≤ m → recor
 place_for P n m h a b = le-ltb (capacity layout m) P (omega arith)
 
 -- what is told with P, where P of the events is at most n
-pub told_within : (r : Rules) (v : List ℕ) (n : ℕ) → prefixes_by r v ≤ n → (order order' table table' : List ℕ) (j : Judged)
+pub told_within : (r : Rules) (v : List ℕ) (n : ℕ) → prefixes_by r v ≤ n → (order order' table table' : List ℕ) (j : Result Judged Refusal)
     → judged r v order order' table table' j → (P : ℕ) → told_prefixes j ≡ some P → P ≤ n
-told_within r v n b order order' table table' (Refused x) h P e = absurd (none-ne-some P e)
-told_within r v n b order order' table table' (NoOrder Q m) h P e = omega (arith, some-injective Q P e, h.2.prefixes, b)
-told_within r v n b order order' table table' (Order Q m) h P e = omega (arith, some-injective Q P e, h.3.prefixes, b)
+told_within r v n b order order' table table' (Err x) h P e = absurd (none-ne-some P e)
+told_within r v n b order order' table table' (Ok (NoOrder Q m)) h P e = omega (arith, some-injective Q P e, h.2.prefixes, b)
+told_within r v n b order order' table table' (Ok (Order Q m)) h P e = omega (arith, some-injective Q P e, h.3.prefixes, b)
 
 -- ---- any rules that exchange no more than the masks let
 
@@ -64,19 +65,19 @@ module _ (r : Rules) (masks w groups : List ℕ) (n : ℕ) (told : told_ceiling 
   prefixes_within = within_ceiling r.profile.k masks w groups n told r.may r.letter sub v events
 
   -- "P never exceeds it"
-  pub within_by : (order order' table table' : List ℕ) (j : Judged) → judged r v order order' table table' j → (P : ℕ) → told_prefixes j ≡ some P → P ≤ n
+  pub within_by : (order order' table table' : List ℕ) (j : Result Judged Refusal) → judged r v order order' table table' j → (P : ℕ) → told_prefixes j ≡ some P → P ≤ n
   within_by = told_within r v n (within_ceiling r.profile.k masks w groups n told r.may r.letter sub v events)
 
 -- ---- the judge
 
 module _ (p : Profile) (w groups : List ℕ) (n : ℕ) (told : told_ceiling (bounding p.k p.masks w groups) ≡ some n)
-    (order order' table table' : List ℕ) (j : Judged) (h : Promise p w order order' table table' j) where
+    (order order' table table' : List ℕ) (j : Result Judged Refusal) (h : Promise p w order order' table table' j) where
   -- "P never exceeds it": the P that the judge tells, whatever it was lent
   pub within_judged : (P : ℕ) → told_prefixes j ≡ some P → P ≤ n
   within_judged = told_within (plain p) w n (within p.k p.masks w groups n told) order order' table table' j h.told
 
   -- "How large a table to buy": with a table of n records, as long as the usable numbers hold them, 10 is not given
-  pub table_suffices : record_numbers * n ≤ length table → record_numbers * n ≤ usable_numbers → j ≢ Refused FullTable
+  pub table_suffices : record_numbers * n ≤ length table → record_numbers * n ≤ usable_numbers → j ≢ Err FullTable
   unfolding passed?
   table_suffices a b e =
       let f = place_for (prefixes_by (plain p) w) n (length table) (within p.k p.masks w groups n told) a b in
