@@ -1,6 +1,7 @@
 -- What the judge's promise says where 10 alone may apply, with the usable part of the table lent to it.
 use mathlib.Core.Path.{◌≡◌, refl, sym, ◌∙◌, ap, ap₂}
 use mathlib.Core.Bool.{Bool, true, false, cond}
+use Rattle.std.specs.Prelude.{Result, Ok, Err, is_err}
 use mathlib.Core.List.{List, [], ◌∷◌, ◌++◌, append_assoc, map}
 use mathlib.Core.Option.{Option, none, some, none-ne-some, some-injective}
 use Prim.Native.Nat.{ℕ, zero, suc, ◌*◌, ◌≤◌}
@@ -23,15 +24,10 @@ use Rattle.table.specs.Table.{Spared}
 use Rattle.table.proofs.Filling.{spared_part}
 use Rattle.verdict.specs.Verdict.{Promise}
 use Rattle.verdict.specs.declared.Judged.{Judged}
-use Rattle.verdict.specs.declared.Judged.TheVariants.{NoOrder, Order, Refused}
+use Rattle.verdict.specs.declared.Judged.TheVariants.{NoOrder, Order}
 use Rattle.verdict.proofs.Judging.{order_length}
 use Rattle.views.specs.Views.{buffer_refusals}
 use Rattle.cleared.specs.Cleared.{Clean, answer, cleared, order_as, order_left, table_as, table_left, told_as, usable}
-
--- all zeros
-pub map_zero : (n a : ℕ) → map {B = ℕ} (λ (x : ℕ). 0) (range a n) ≡ replicate n 0
-map_zero zero a = refl
-map_zero (suc n) a = ap (◌∷◌ 0) (map_zero n (suc a))
 
 -- a table whose usable part is cleared has the other numbers as they were
 pub cleared_spared : (t : List ℕ) → Spared t (cleared t)
@@ -106,36 +102,49 @@ module _ (p : Profile) (u : List ℕ) (clean : Clean p u) (t : List ℕ) (z : �
   abbrev may : ℕ → ℕ → Bool
   may = independent p.masks
 
-  abbrev Told : Judged → List ℕ → Type 0
+  abbrev Told : Result Judged Refusal → List ℕ → Type 0
   Told r after = (r ≡ answer p M u (length order) (length t)) × ((order' ≡ order_left p M u (length t) order) × (after ≡ table_left p M u (length order) t))
 
   -- the answer and the buffers by the refusal and the order
-  by_both : {o : Option Refusal} {v : Option (List ℕ)} → lowest (buffer_refusals p u (length order) (length t)) ≡ o → accepted_order may (λ a. a) M u ≡ v → (r : Judged) (after : List ℕ)
+  by_both : {o : Option Refusal} {v : Option (List ℕ)} → lowest (buffer_refusals p u (length order) (length t)) ≡ o → accepted_order may (λ a. a) M u ≡ v → (r : Result Judged Refusal) (after : List ℕ)
       → r ≡ told_as o v (prefix_count may (λ a. a) p.k u) (looks may (λ a. a) p.k u) → order' ≡ order_as o v order → after ≡ table_as o (table_of layout may (λ a. a) M p.k u t) t → Told r after
   by_both {o} {v} f g r after a b c = (
     a ∙ sym (ap₂ (λ x y. told_as x y (prefix_count may (λ a. a) p.k u) (looks may (λ a. a) p.k u)) f g),
     (b ∙ sym (ap₂ (λ x y. order_as x y order) f g), c ∙ sym (ap (λ x. table_as x (table_of layout may (λ a. a) M p.k u t) t) f)),
   )
 
-  pub told_full : (r : Refusal) → Promise p u order order' (take z t) T (Refused r) → (C : List ℕ) → C ≡ replicate (length (take z (T ++ drop z t))) 0 → Told (Refused r) (C ++ drop z (T ++ drop z t))
+  pub told_full : (r : Refusal) → Promise p u order order' (take z t) T (Err r) → (C : List ℕ) → C ≡ replicate (length (take z (T ++ drop z t))) 0 → Told (Err r) (C ++ drop z (T ++ drop z t))
   told_full r h C c =
       let f = refusal_is p M u clean t z e order order' T fits kept h.refused in
       let l = kept ∙ part_length p M u clean t z e in
-      by_both f refl (Refused r) (C ++ drop z (T ++ drop z t)) refl h.told.0
+      by_both f refl (Err r) (C ++ drop z (T ++ drop z t)) refl h.told.0
       (ap₂ (λ x y. x ++ y) (c ∙ ap (λ n. replicate n 0) (ap length (take_at T (drop z t) z l) ∙ l ∙ e)) (drop_at T (drop z t) z l ∙ ap (λ n. drop n t) e)
       ∙ sym (ap (λ x. cond (eqb (refusal_number x) 10) (cleared t) t) (ten_only p M u clean (length order) (length t) fits f)))
 
-  pub told_none : (P n : ℕ) → Promise p u order order' (take z t) T (NoOrder P n) → Told (NoOrder P n) (T ++ drop z t)
+  pub told_none : (P n : ℕ) → Promise p u order order' (take z t) T (Ok (NoOrder P n)) → Told (Ok (NoOrder P n)) (T ++ drop z t)
   told_none P n h =
       let f = refusal_is p M u clean t z e order order' T fits kept h.refused in
       let g = h.told.2 in
-      by_both f h.told.0 (NoOrder P n) (T ++ drop z t) (ap₂ (λ a b. NoOrder a b) g.prefixes g.looks) h.told.1
+      by_both f h.told.0 (Ok (NoOrder P n)) (T ++ drop z t) (ap₂ (λ a b. Ok (NoOrder a b)) g.prefixes g.looks) h.told.1
       (part_table p M u clean t z e T (ten_not p M u clean (length order) (length t) fits f) g.table)
 
-  pub told_some : (P n : ℕ) → Promise p u order order' (take z t) T (Order P n) → Told (Order P n) (T ++ drop z t)
+  pub told_some : (P n : ℕ) → Promise p u order order' (take z t) T (Ok (Order P n)) → Told (Ok (Order P n)) (T ++ drop z t)
   told_some P n h =
       let f = refusal_is p M u clean t z e order order' T fits kept h.refused in
       let v = h.told.0 in
       let g = h.told.3 in
-      by_both f h.told.1 (Order P n) (T ++ drop z t) (ap₂ (λ a b. Order a b) g.prefixes g.looks) (h.told.2 ∙ ap (λ k. v ++ drop k order) (sym (order_length p u h.told.1)))
+      by_both f h.told.1 (Ok (Order P n)) (T ++ drop z t) (ap₂ (λ a b. Ok (Order a b)) g.prefixes g.looks) (h.told.2 ∙ ap (λ k. v ++ drop k order) (sym (order_length p u h.told.1)))
       (part_table p M u clean t z e T (ten_not p M u clean (length order) (length t) fits f) g.table)
+
+  -- ---- the answer with the table that is left
+
+  -- of a refusal the usable part is cleared
+  pub told_err : (r : Result Judged Refusal) → is_err r ≡ true → Promise p u order order' (take z t) T r → (C : List ℕ) → C ≡ replicate (length (take z (T ++ drop z t))) 0 → Told r (C ++ drop z (T ++ drop z t))
+  told_err (Err r) e h C c = told_full r h C c
+  told_err (Ok j) e h C c = absurd (cc)
+
+  -- of a verdict it stays
+  pub told_ok : (r : Result Judged Refusal) → is_err r ≡ false → Promise p u order order' (take z t) T r → Told r (T ++ drop z t)
+  told_ok (Err r) e h = absurd (cc)
+  told_ok (Ok (NoOrder P n)) e h = told_none P n h
+  told_ok (Ok (Order P n)) e h = told_some P n h

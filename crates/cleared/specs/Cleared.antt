@@ -1,5 +1,5 @@
 -- The answer, the order buffer and the table by the refusal and the order, the table cleared after 10.
-use Rattle.std.specs.Prelude.{◌≡◌, cond, List, ◌++◌, ℕ, eqb, drop, length, replicate}
+use Rattle.std.specs.Prelude.{Result, Ok, Err, ◌≡◌, cond, List, ◌++◌, ℕ, eqb, drop, length, replicate}
 use Rattle.std.proofs.Math.Option.{Option, none, some}
 use Rattle.profile.specs.Traces.{independent}
 use Rattle.profile.specs.Automata.{Automaton, Profile}
@@ -10,7 +10,7 @@ use Rattle.profile.specs.Refusals.{log_refusals, lowest, profile_refusals, refus
 use Rattle.profile.specs.declared.Refusal.{Refusal}
 pub use Rattle.table.specs.Table.{usable}
 use Rattle.verdict.specs.declared.Judged.{Judged}
-use Rattle.verdict.specs.declared.Judged.TheVariants.{NoOrder, Order, Refused}
+use Rattle.verdict.specs.declared.Judged.TheVariants.{NoOrder, Order}
 use Rattle.views.specs.Views.{buffer_refusals}
 
 -- "only after 10 is the work table's content free": a view leaves 0 in its usable part, so that nothing of the log can be read there
@@ -18,10 +18,10 @@ abbrev pub cleared : List ℕ → List ℕ
 cleared t = replicate (usable (length t)) 0 ++ drop (usable (length t)) t
 
 -- the answer: P and n are the counts
-abbrev pub told_as : Option Refusal → Option (List ℕ) → ℕ → ℕ → Judged
-told_as (some r) o P n = Refused r
-told_as none none P n = NoOrder P n
-told_as none (some v) P n = Order P n
+abbrev pub told_as : Option Refusal → Option (List ℕ) → ℕ → ℕ → Result Judged Refusal
+told_as (some r) o P n = Err r
+told_as none none P n = Ok (NoOrder P n)
+told_as none (some v) P n = Ok (Order P n)
 
 -- the order buffer: "Verdict 1 comes with the order in the first bytes …; its other bytes stay. Verdict 0 … leaves that buffer unchanged"
 abbrev pub order_as : Option Refusal → Option (List ℕ) → List ℕ → List ℕ
@@ -41,7 +41,7 @@ pub record Clean (p : Profile) (u : List ℕ) : Type 0 where
 
 -- of a list of letters u and an automaton M, where 9 and 10 alone may apply: n places for the order and m numbers of table
 module _ (p : Profile) (M : Automaton) (u : List ℕ) where
-  abbrev pub answer : ℕ → ℕ → Judged
+  abbrev pub answer : ℕ → ℕ → Result Judged Refusal
   answer n m = told_as (lowest (buffer_refusals p u n m)) (accepted_order (independent p.masks) (λ a. a) M u)
       (prefix_count (independent p.masks) (λ a. a) p.k u) (looks (independent p.masks) (λ a. a) p.k u)
 

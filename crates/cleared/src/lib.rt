@@ -1,12 +1,12 @@
 // The judge on the usable part of the table; after 10 nothing is left in it.
 #![tactic(auto)]
 
-ghost use Rattle.std.specs.Prelude.{◌≡◌, ◌≤◌, length, replicate};
+ghost use Rattle.std.specs.Prelude.{◌≡◌, ◌≤◌, length};
 ghost use Rattle.profile.specs.Automata.{automaton, profile_of};
 ghost use Rattle.cleared.specs.Cleared.{Clean, answer, order_left, table_left, usable as usable_of};
 
-use profile::Shape;
 use profile::limits::RECORD_NUMBERS;
+use profile::{Refusal, Shape};
 use verdict::Judged;
 
 // The numbers of the table that have place for records.
@@ -14,17 +14,6 @@ fn usable(table: &[u32]) -> usize
     ensures { (result ≡ usable_of (length table.now)) × (result ≤ length table.now) }
 {
     RECORD_NUMBERS * records::capacity(table)
-}
-
-// Puts 0 everywhere.
-fn clear(part: &mut [u32])
-    ensures { part.new ≡ replicate (length part.old) 0 }
-{
-    let mut i = 0;
-    while i < part.len() {
-        part[i] = 0;
-        i += 1;
-    }
 }
 
 // The judge, where 10 alone may apply; after 10 nothing is left in the table.
@@ -35,7 +24,7 @@ pub fn judge_cleared(
     log: &[u8],
     order: &mut [u8],
     work: &mut [u32],
-) -> Judged
+) -> Result<Judged, Refusal>
     requires clean { Clean (profile_of shape masks.now moves.now) log.now }
     requires log_in_bounds { length log.now ≤ length order.old }
     ensures value { result ≡ answer (profile_of shape masks.now moves.now) (automaton (profile_of shape masks.now moves.now)) log.now (length order.old) (length work.old) }
@@ -44,12 +33,8 @@ pub fn judge_cleared(
 {
     let room = usable(work);
     let told = verdict::judge(shape, masks, moves, log, order, &mut work[0..room]);
-    match told {
-        Judged::Refused(r) => {
-            clear(&mut work[0..room]);
-            Judged::Refused(r)
-        }
-        Judged::NoOrder { prefixes, looks } => Judged::NoOrder { prefixes, looks },
-        Judged::Order { prefixes, looks } => Judged::Order { prefixes, looks },
+    if told.is_err() {
+        work[0..room].fill(0);
     }
+    told
 }

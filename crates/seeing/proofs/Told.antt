@@ -1,6 +1,7 @@
 -- What an answer says of its refusal and of P.
 use mathlib.Core.Path.{◌≡◌, refl, sym, ◌∙◌, ap, ap₂}
 use mathlib.Core.List.{List}
+use Rattle.std.specs.Prelude.{Result}
 use mathlib.Core.Option.{Option, none, some, some-injective}
 use Prim.Native.Nat.{ℕ, ◌*◌, ◌≤◌}
 use native.Mathlib.Omega.{arith}
@@ -12,7 +13,7 @@ use Rattle.profile.specs.Prefixes.{looks, prefix_count}
 use Rattle.profile.specs.Tables.{layout, record_length, table_of}
 use Rattle.profile.specs.Refusals.{lowest}
 use Rattle.profile.specs.declared.Refusal.{Refusal}
-use Rattle.verdict.specs.Verdict.{refused_by}
+use Rattle.profile.specs.Refusals.{refused_by}
 use Rattle.verdict.specs.declared.Judged.{Judged}
 use Rattle.verdict.proofs.Promises.{told_prefixes}
 use Rattle.views.specs.Views.{buffer_refusals}
@@ -30,7 +31,7 @@ pub prefixes_told : (v : Option (List ℕ)) (P n : ℕ) → told_prefixes (told_
 prefixes_told none P n = refl
 prefixes_told (some v) P n = refl
 
-module _ (q : Profile) (u order t R : List ℕ) (clean : Clean q u) (fits : length u ≤ length order) (j : Judged) (e : j ≡ answer q (automaton q) u (length order) (length t)) where
+module _ (q : Profile) (u order t R : List ℕ) (clean : Clean q u) (fits : length u ≤ length order) (j : Result Judged Refusal) (e : j ≡ answer q (automaton q) u (length order) (length t)) where
   abbrev v : Option (List ℕ)
   v = accepted_order (independent q.masks) (λ a. a) (automaton q) u
 

@@ -1,15 +1,27 @@
 // The answer for a visible part: the judge with a profile whose moves have the hidden letters in them, then hidden letters behind each forward set.
 #![tactic(auto)]
 
-ghost use Rattle.std.specs.Prelude.{◌≡◌, ◌≤◌, length};
+ghost use Rattle.std.specs.Prelude.{Ok, ◌≡◌, ◌≤◌, length};
+ghost use Rattle.std.proofs.Math.Option.{some};
 ghost use Rattle.profile.specs.Automata.{automaton, profile_of};
+ghost use Rattle.verdict.proofs.Promises.{told_prefixes};
 ghost use Rattle.views.specs.Views.{view as view_of};
 ghost use Rattle.cleared.specs.Cleared.{Clean, answer, order_left, table_left};
 ghost use Rattle.seeing.specs.Seeing.{hulled_left};
 
-use profile::Shape;
 use profile::limits::{MOST_MOVES, MOST_STATES};
+use profile::{Refusal, Shape};
 use verdict::Judged;
+
+// P of a verdict.
+fn prefixes_of(judged: Judged) -> usize
+    ensures { told_prefixes (Ok judged) ≡ some result }
+{
+    match judged {
+        Judged::NoOrder { prefixes, looks: _ } => prefixes,
+        Judged::Order { prefixes, looks: _ } => prefixes,
+    }
+}
 
 // The answer for a visible part, by a profile that has the hidden letters in its moves; `reach` has what hidden letters reach from each state.
 fn view_late(
@@ -20,7 +32,7 @@ fn view_late(
     reach: &[u32],
     order: &mut [u8],
     work: &mut [u32],
-) -> Judged
+) -> Result<Judged, Refusal>
     requires clean { Clean (profile_of shape masks.now moves.now) log.now }
     requires log_in_bounds { length log.now ≤ length order.old }
     ensures value { result ≡ answer (profile_of shape masks.now moves.now) (automaton (profile_of shape masks.now moves.now)) log.now (length order.old) (length work.old) }
@@ -28,18 +40,10 @@ fn view_late(
     ensures work_after { work.new ≡ hulled_left (profile_of shape masks.now moves.now) reach.now log.now (length order.old) work.old }
 {
     let s = shape.s;
-    let told = cleared::judge_cleared(shape, masks, moves, log, order, work);
-    match told {
-        Judged::Refused(r) => Judged::Refused(r),
-        Judged::NoOrder { prefixes, looks } => {
-            hulls::put_hulls(work, prefixes, s, reach);
-            Judged::NoOrder { prefixes, looks }
-        }
-        Judged::Order { prefixes, looks } => {
-            hulls::put_hulls(work, prefixes, s, reach);
-            Judged::Order { prefixes, looks }
-        }
-    }
+    let judged = cleared::judge_cleared(shape, masks, moves, log, order, work)?;
+    let prefixes = prefixes_of(judged);
+    hulls::put_hulls(work, prefixes, s, reach);
+    Ok(judged)
 }
 
 // The answer for a visible part.
@@ -51,7 +55,7 @@ pub fn view_seen(
     log: &[u8],
     order: &mut [u8],
     work: &mut [u32],
-) -> Judged
+) -> Result<Judged, Refusal>
     requires clean { Clean (profile_of shape masks.now moves.now) log.now }
     requires log_in_bounds { length log.now ≤ length order.old }
     ensures value { result ≡ answer (profile_of shape masks.now moves.now) (view_of (profile_of shape masks.now moves.now) visible) log.now (length order.old) (length work.old) }

@@ -26,7 +26,7 @@ use Rattle.theory.proofs.Refusals.{GoodProfile, log_at, lowest_append, lowest_fi
 use Rattle.theory.proofs.Tables.{Holds, holds_counts}
 use Rattle.verdict.specs.Verdict.{refused_by, verdict_number}
 use Rattle.verdict.specs.declared.Judged.{Judged}
-use Rattle.verdict.specs.declared.Judged.TheVariants.{Refused}
+use Rattle.std.specs.Prelude.{Result, Err}
 use Rattle.views.specs.Views.{Shown, buffer_refusals, entry_refusals, seen, view, view_looks, view_order, view_prefixes, view_refusal}
 use Rattle.views.proofs.Refused.{entry_log, entry_profile}
 use Rattle.views.proofs.Said.{filter_keeps, view_earliest, view_none}
@@ -59,7 +59,7 @@ module _ (p : Profile) (visible : ℕ) (v w order table : List ℕ) (first : low
       ∙ ap (λ u. lowest ((profile_refusals p ++ ((bit_from p.k visible, ViewBit) ∷ [])) ++ buffer_refusals p u (length order) (length table))) same
       ∙ sym (by_seen p visible w (length order) (length table) second)
 
-  pub secret : (i j : Judged) (order₁ order₂ table₁ table₂ : List ℕ) → Viewed p visible v order order₁ table table₁ i → Viewed p visible w order order₂ table table₂ j
+  pub secret : (i j : Result Judged Refusal) (order₁ order₂ table₁ table₂ : List ℕ) → Viewed p visible v order order₁ table table₁ i → Viewed p visible w order order₂ table table₂ j
       → (i ≡ j) × (order₁ ≡ order₂) × (table₁ ≡ table₂)
   secret i j order₁ order₂ table₁ table₂ g h = (
     g.told
@@ -75,20 +75,20 @@ module _ (p : Profile) (visible : ℕ) (v w order table : List ℕ) (first : low
 zero_one : ◌≡◌ {A = Option ℕ} (some 0) (some 1) → ⊥
 zero_one e = let q = some-injective 0 1 e in omega arith
 
-module _ (p : Profile) (visible : ℕ) (w order order' table table' : List ℕ) (j : Judged) (call : Viewed p visible w order order' table table' j) where
+module _ (p : Profile) (visible : ℕ) (w order order' table table' : List ℕ) (j : Result Judged Refusal) (call : Viewed p visible w order order' table table' j) where
   refusal_told : refused_by j ≡ view_refusal p visible w (length order) (length table)
   refusal_told = ap refused_by call.told ∙ refused_told (view_refusal p visible w (length order) (length table)) (view_order p visible w)
       (view_prefixes p visible w) (view_looks p visible w)
 
   -- a call is refused by r exactly when r is the lowest that applies
-  pub refused_exactly : (r : Refusal) → (j ≡ Refused r) ↔ (view_refusal p visible w (length order) (length table) ≡ some r)
+  pub refused_exactly : (r : Refusal) → (j ≡ Err r) ↔ (view_refusal p visible w (length order) (length table) ≡ some r)
   refused_exactly r = (
     λ e. sym refusal_told ∙ ap refused_by e,
     λ e. call.told ∙ ap (λ o. told_as o (view_order p visible w) (view_prefixes p visible w) (view_looks p visible w)) e,
   )
 
   -- "Refusals leave every buffer unchanged; only after 10 is the work table's content free": then its usable part is 0
-  pub refused_unchanged : (r : Refusal) → j ≡ Refused r → (order' ≡ order) × (table' ≡ cond (eqb (refusal_number r) 10) (cleared table) table)
+  pub refused_unchanged : (r : Refusal) → j ≡ Err r → (order' ≡ order) × (table' ≡ cond (eqb (refusal_number r) 10) (cleared table) table)
   refused_unchanged r e =
       let q = (refused_exactly r).0 e in (
         call.order_is ∙ ap (λ o. order_as o (view_order p visible w) order) q,
@@ -179,11 +179,11 @@ module _ (p : Profile) (visible : ℕ) (w order order' table table' : List ℕ) 
 
 -- "demand 3 is read of visible parts …, with one mask for both logs": logs whose visible parts are reachable from each other get the same verdict, the same
 -- order if there is one, the same P and the same looks, whatever buffers each was lent; and "leave equal count fields, record by record" (Paper 5)
-module _ (p : Profile) (visible : ℕ) (v w order₁ order₁' table₁ table₁' order₂ order₂' table₂ table₂' : List ℕ) (i j : Judged)
+module _ (p : Profile) (visible : ℕ) (v w order₁ order₁' table₁ table₁' order₂ order₂' table₂ table₂' : List ℕ) (i j : Result Judged Refusal)
     (g : Viewed p visible v order₁ order₁' table₁ table₁' i) (h : Viewed p visible w order₂ order₂' table₂ table₂' j)
     (first : view_refusal p visible v (length order₁) (length table₁) ≡ none) (second : view_refusal p visible w (length order₂) (length table₂) ≡ none)
     (same : Same (independent p.masks) (seen visible v) (seen visible w)) where
-  low : (u o t o' t' : List ℕ) (k : Judged) → Viewed p visible u o o' t t' k → view_refusal p visible u (length o) (length t) ≡ none → T (letters_below (λ a. a) p.k (seen visible u))
+  low : (u o t o' t' : List ℕ) (k : Result Judged Refusal) → Viewed p visible u o o' t t' k → view_refusal p visible u (length o) (length t) ≡ none → T (letters_below (λ a. a) p.k (seen visible u))
   low u o t o' t' k c e = filter_keeps (λ a. ltb a p.k) (bit visible) u (call_letters p visible u o o' t t' k c e)
 
   own : (a b : ℕ) → T (independent p.masks a b) → a ≢ b

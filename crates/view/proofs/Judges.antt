@@ -20,6 +20,7 @@ use Rattle.theory.proofs.Refusals.{GoodProfile, log_at, lowest_first}
 use Rattle.table.specs.Table.{Spared}
 use Rattle.verdict.specs.Verdict.{Promise, verdict_number}
 use Rattle.verdict.specs.declared.Judged.{Judged}
+use Rattle.std.specs.Prelude.{Result}
 use Rattle.verdict.proofs.Promises.{told_prefixes}
 use Rattle.verdict.proofs.Judging.{order_length}
 use Rattle.views.specs.Views.{buffer_refusals, entry_refusals, seen, view, view_looks, view_order, view_prefixes, view_refusal}
@@ -66,7 +67,7 @@ module _ (p : Profile) (visible : ℕ) (whole : (x : ℕ) → x < p.k → T (bit
       go none e = ap (λ u. lowest (log_refusals p.k w ++ buffer_refusals p u n m)) (seen_whole p.k visible whole w (log_at p.k w e).letters)
       go (some r) e = lowest_first (log_refusals p.k w) (buffer_refusals p (seen visible w) n m) e ∙ sym (lowest_first (log_refusals p.k w) (buffer_refusals p w n m) e)
 
-  module _ (order order' table table' : List ℕ) (j : Judged) (call : Viewed p visible w order order' table table' j) where
+  module _ (order order' table table' : List ℕ) (j : Result Judged Refusal) (call : Viewed p visible w order order' table table' j) where
     abbrev may : ℕ → ℕ → Bool
     may = independent p.masks
 
@@ -137,7 +138,7 @@ module _ (p : Profile) (visible : ℕ) (whole : (x : ℕ) → x < p.k → T (bit
         go (some r) e = all_refused r e
 
 -- no letter is visible: P is 1, and verdict 1 exactly when some list of letters leads from the start to a final state
-module _ (p : Profile) (w order order' table table' : List ℕ) (j : Judged) (call : Viewed p 0 w order order' table table' j)
+module _ (p : Profile) (w order order' table table' : List ℕ) (j : Result Judged Refusal) (call : Viewed p 0 w order order' table table' j)
     (unrefused : view_refusal p 0 w (length order) (length table) ≡ none) where
   pub none_told : told_prefixes j ≡ some 1
   none_told = ap told_prefixes (call_told p 0 w order order' table table' j call unrefused) ∙ prefixes_told (view_order p 0 w) (view_prefixes p 0 w) (view_looks p 0 w) ∙ ap some (none_prefixes p w)

@@ -20,7 +20,7 @@ use Rattle.profile.specs.declared.Refusal.TheVariants.{FullTable, ShortBuffer}
 use Rattle.profile.proofs.Lists.{all_at, is_false}
 use Rattle.theory.proofs.Refusals.{GoodLog, log_at, lowest_at, lowest_first, profile_at}
 use Rattle.verdict.specs.declared.Judged.{Judged}
-use Rattle.verdict.specs.declared.Judged.TheVariants.{Refused}
+use Rattle.std.specs.Prelude.{Result, Err}
 use Rattle.views.specs.Views.{buffer_refusals, entry_refusals, seen, view, view_refusal}
 use Rattle.views.proofs.Refused.{entry_log, entry_profile, seen_passes, view_buffers}
 use Rattle.cleared.specs.Cleared.{Clean, answer, cleared, order_as, order_left, table_as, table_left, told_as}
@@ -37,7 +37,7 @@ module _ (p : Profile) (visible : ℕ) (w : List ℕ) where
 
   module _ (order t : List ℕ) where
     -- a refusal that is not 10
-    refused_as : {r : Refusal} → view_refusal p visible w (length order) (length t) ≡ some r → eqb (refusal_number r) 10 ≡ false → Viewed p visible w order order t t (Refused r)
+    refused_as : {r : Refusal} → view_refusal p visible w (length order) (length t) ≡ some r → eqb (refusal_number r) 10 ≡ false → Viewed p visible w order order t t (Err r)
     refused_as {r} e h =
         let v = accepted_order (independent p.masks) (λ a. a) (view p visible) (seen visible w) in
         let P = prefix_count (independent p.masks) (λ a. a) p.k (seen visible w) in
@@ -48,16 +48,16 @@ module _ (p : Profile) (visible : ℕ) (w : List ℕ) where
           table_is = sym (ap (λ o. table_as o F t) e ∙ ap (λ b. cond b (cleared t) t) h);
         }
 
-    pub told_entry : {r : Refusal} → lowest (entry_refusals p visible w) ≡ some r → Viewed p visible w order order t t (Refused r)
+    pub told_entry : {r : Refusal} → lowest (entry_refusals p visible w) ≡ some r → Viewed p visible w order order t t (Err r)
     told_entry e = refused_as (lowest_first (entry_refusals p visible w) (buffer_refusals p (seen visible w) (length order) (length t)) e) (entry_not_ten e)
 
     module _ (clean : lowest (entry_refusals p visible w) ≡ none) where
-      pub told_short : length order < length (seen visible w) → Viewed p visible w order order t t (Refused ShortBuffer)
+      pub told_short : length order < length (seen visible w) → Viewed p visible w order order t t (Err ShortBuffer)
       told_short h = refused_as
           (view_buffers p visible w clean (length order) (length t)
           ∙ ap (λ b. lowest ((b, ShortBuffer) ∷ (full_table (prefix_count (independent p.masks) (λ a. a) p.k (seen visible w)) (length t), FullTable) ∷ [])) (lt-ltb (length order) (length (seen visible w)) h)) refl
 
-      pub told_seen : (u : List ℕ) → u ≡ seen visible w → (j : Judged) (order' t' : List ℕ)
+      pub told_seen : (u : List ℕ) → u ≡ seen visible w → (j : Result Judged Refusal) (order' t' : List ℕ)
           → j ≡ answer p (view p visible) u (length order) (length t) → order' ≡ order_left p (view p visible) u (length t) order → t' ≡ table_left p (view p visible) u (length order) t → Viewed p visible w order order' t t' j
       told_seen u e j order' t' a b c =
           let v = accepted_order (independent p.masks) (λ a. a) (view p visible) (seen visible w) in

@@ -17,18 +17,15 @@ pub fn view(
     log: &[u8],
     order: &mut [u8],
     work: &mut [u32],
-) -> Judged
+) -> Result<Judged, Refusal>
     ensures { Viewed (profile_of shape masks.now moves.now) visible log.now order.old order.new work.old work.new result }
 {
-    let entry = visible::check_entry(shape, visible, masks, moves, log);
-    if let Err(r) = entry {
-        return Judged::Refused(r);
-    }
+    visible::check_entry(shape, visible, masks, moves, log)?;
     let k = shape.k;
     let mut part = [0u8; LONGEST];
     let n = visible::put_seen(visible, k, log, &mut part);
     if order.len() < n {
-        return Judged::Refused(Refusal::ShortBuffer);
+        return Err(Refusal::ShortBuffer);
     }
     seeing::view_seen(shape, visible, masks, moves, &part[0..n], order, work)
 }
