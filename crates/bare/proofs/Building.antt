@@ -26,7 +26,8 @@ use Rattle.theory.proofs.Prefixes.{front_none, prefix_of_front}
 use Rattle.grammars.proofs.Places.{place_of}
 use Rattle.table.specs.Table.{build_refusals}
 use Rattle.table.specs.Table.{Promise as Filling}
-use Rattle.table.specs.declared.Built.TheVariants.{Filled, Refused}
+use Rattle.table.specs.declared.Filled.{Filled}
+use Rattle.std.specs.Prelude.{Ok, Err}
 use Rattle.bare.specs.Bare.{BuiltIs, prefixes_of}
 use Rattle.bare.proofs.Silent.{bare_is, silent}
 
@@ -63,34 +64,34 @@ module _ (k : ℕ) (masks moves w : List ℕ) (none_moves : (i : ℕ) → get_or
       let m = place_of (independent masks) d k w (log_at k w log).letters (prefix_of_front (independent masks) (λ a. a) d (front_none (independent masks) w)) in
       omega (arith, m.1)
 
-  pub built_full : (before after : List ℕ) (r : Refusal) → Filling (silent k masks moves none_moves) w before after (Refused r) → BuiltIs k masks w before after (Refused r)
+  pub built_full : (before after : List ℕ) (r : Refusal) → Filling (silent k masks moves none_moves) w before after (Err r) → BuiltIs k masks w before after (Err r)
   built_full before after r f = let g = go (full_table P (length before)) refl (f.refused ∙ behind (length before)) in (g.0, g.1, f.table.1)
     where
       go : (b : Bool) → full_table P (length before) ≡ b → some r ≡ lowest ((full_table P (length before), FullTable) ∷ []) → (r ≡ FullTable) × (capacity layout (length before) < P)
       go true e q = (let z : lowest ((full_table P (length before), FullTable) ∷ []) ≡ some FullTable = rw (e, lowest) in some-injective _ _ (q ∙ z), ltb→lt (capacity layout (length before)) P (subst T (sym e) tt))
       go false e q = let z : lowest ((full_table P (length before), FullTable) ∷ []) ≡ none = rw (e, lowest) in absurd (some-ne-none _ (q ∙ z))
 
-  pub fits : (before after : List ℕ) (Q n : ℕ) → Filling (silent k masks moves none_moves) w before after (Filled Q n) → P ≤ capacity layout (length before)
-  fits before after Q n f = go (full_table P (length before)) refl (f.refused ∙ behind (length before))
+  pub fits : (before after : List ℕ) (t : Filled) → Filling (silent k masks moves none_moves) w before after (Ok t) → P ≤ capacity layout (length before)
+  fits before after t f = go (full_table P (length before)) refl (f.refused ∙ behind (length before))
     where
       go : (b : Bool) → full_table P (length before) ≡ b → none ≡ lowest ((full_table P (length before), FullTable) ∷ []) → P ≤ capacity layout (length before)
       go true e q = let z : lowest ((full_table P (length before), FullTable) ∷ []) ≡ some FullTable = rw (e, lowest) in absurd (none-ne-some _ (q ∙ z))
       go false e q = ltb-false (capacity layout (length before)) P e
 
-  pub built_filled : (before after : List ℕ) (Q n : ℕ) → Filling (silent k masks moves none_moves) w before after (Filled Q n) → BuiltIs k masks w before (set after count_numbers 0) (Filled Q n)
-  built_filled before after Q n f = (
+  pub built_filled : (before after : List ℕ) (t : Filled) → Filling (silent k masks moves none_moves) w before after (Ok t) → BuiltIs k masks w before (set after count_numbers 0) (Ok t)
+  built_filled before after t f = (
     record {
       prefixes = f.table.0;
       looks = f.table.1;
       table = ap (λ t. set t count_numbers 0) f.table.2 ∙ bare_is k masks moves none_moves w (log_at k w log).letters before some_prefix;
     },
-    omega (arith, f.table.0, fits before after Q n f),
+    omega (arith, f.table.0, fits before after t f),
   )
 
   -- there is a record to be put
-  pub room : (before after : List ℕ) (Q n : ℕ) → Filling (silent k masks moves none_moves) w before after (Filled Q n) → record_numbers ≤ length before
-  room before after Q n f =
-      let a = fits before after Q n f in
+  pub room : (before after : List ℕ) (t : Filled) → Filling (silent k masks moves none_moves) w before after (Ok t) → record_numbers ≤ length before
+  room before after t f =
+      let a = fits before after t f in
       let b = by_total_length (independent masks) (λ a. a) k w (log_at k w log).letters in
       let c : 1 ≤ capacity layout (length before) = omega (arith, some_prefix) in
       omega arith

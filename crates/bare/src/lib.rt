@@ -6,12 +6,12 @@ ghost use Rattle.std.proofs.Math.Option.{none};
 ghost use Rattle.profile.specs.Refusals.{log_refusals, lowest, relation_refusals};
 ghost use Rattle.bare.specs.Bare.{BuiltIs};
 
-use profile::Shape;
 use profile::limits::{COUNT_NUMBERS, MOST_LETTERS};
-use table::Built;
+use profile::{Refusal, Shape};
+use table::Filled;
 
 // The table of prefixes with forward and backward 0: that of a profile with one state, no moves and no final state, and 0 for the start.
-pub fn build(k: usize, masks: &[u16], log: &[u8], work: &mut [u32]) -> Built
+pub fn build(k: usize, masks: &[u16], log: &[u8], work: &mut [u32]) -> Result<Filled, Refusal>
     requires { (lowest (relation_refusals k masks.now) ≡ none) × (lowest (log_refusals k log.now) ≡ none) }
     ensures { BuiltIs k masks.now log.now work.old work.new result }
 {
@@ -22,12 +22,7 @@ pub fn build(k: usize, masks: &[u16], log: &[u8], work: &mut [u32]) -> Built
         start: 0,
         finals: 0,
     };
-    let built = table::build(shape, masks, &moves[0..k], log, work);
-    match built {
-        Built::Refused(r) => Built::Refused(r),
-        Built::Filled { prefixes, looks } => {
-            work[COUNT_NUMBERS] = 0;
-            Built::Filled { prefixes, looks }
-        }
-    }
+    let filled = table::build(shape, masks, &moves[0..k], log, work)?;
+    work[COUNT_NUMBERS] = 0;
+    Ok(filled)
 }

@@ -21,7 +21,8 @@ use Rattle.theory.proofs.Refusals.{log_at, lowest_append, lowest_first, lowest_n
 use Rattle.table.specs.Table.{Spared}
 use Rattle.table.proofs.Filling.{spared_front}
 use Rattle.grammars.specs.Grammars.{bad_rules}
-use Rattle.verdict.specs.declared.Judged.TheVariants.{NoOrder, Order, Refused}
+use Rattle.verdict.specs.declared.Judged.TheVariants.{NoOrder, Order}
+use Rattle.std.specs.Prelude.{Ok, Err}
 use Rattle.bare.specs.Bare.{Counted, bare_record, prefixes_of}
 use Rattle.grammar_judge.specs.GrammarJudge.{Promise, VerdictIs, admission, grammar_refusal, short_sets}
 
@@ -51,7 +52,7 @@ module _ (k : ℕ) (masks : List ℕ) (names : ℕ) (rules w order table sets : 
       (a.0, (none_both (log_refusals k w) ((short_buffer (length order) w, ShortBuffer) ∷ []) b.1).0)
 
   abbrev Same : Refusal → Type 0
-  Same r = Promise k masks names rules w order order table table sets sets (Refused r)
+  Same r = Promise k masks names rules w order order table table sets sets (Err r)
 
   same : (r : Refusal) → grammar_refusal k masks names rules w (length order) (length table) (length sets) ≡ some r → Same r
   same r e = record { refused = sym e; told = (refl, refl, λ x y. refl, record { long = refl; rest = refl }) }
@@ -80,7 +81,7 @@ module _ (k : ℕ) (masks : List ℕ) (names : ℕ) (rules w order table sets : 
           admitted = lowest_append (admission k masks names rules w (length order)) ends
               (behind_rules ∙ lowest_append (log_refusals k w) ((short_buffer (length order) w, ShortBuffer) ∷ []) log ∙ rw (le-ltb (length order) (length w) long, lowest))
 
-          pub answer_full : (table' : List ℕ) → Spared table table' → capacity layout (length table) < P → Promise k masks names rules w order order table table' sets sets (Refused FullTable)
+          pub answer_full : (table' : List ℕ) → Spared table table' → capacity layout (length table) < P → Promise k masks names rules w order order table table' sets sets (Err FullTable)
           answer_full table' s h = record { refused = sym (admitted ∙ rw (lt-ltb (capacity layout (length table)) P h, lowest)); told = (refl, refl, λ x y. absurd (x refl), s) }
 
           module _ (fits : P ≤ capacity layout (length table)) where
@@ -92,7 +93,7 @@ module _ (k : ℕ) (masks : List ℕ) (names : ℕ) (rules w order table sets : 
                 ∙ ap (λ n. record_length layout * n) (by_total_length (independent masks) (λ a. a) k w (log_at k w log).letters)
 
             -- after 22 the table holds the prefixes
-            pub answer_sets : (table' : List ℕ) {Q n : ℕ} → Counted k masks w table table' Q n → length sets < P * P → Promise k masks names rules w order order table table' sets sets (Refused ShortSets)
+            pub answer_sets : (table' : List ℕ) {Q n : ℕ} → Counted k masks w table table' Q n → length sets < P * P → Promise k masks names rules w order order table table' sets sets (Err ShortSets)
             answer_sets table' c h = record {
               refused = sym (admitted ∙ rw (le-ltb (capacity layout (length table)) P fits, lt-ltb (length sets) (P * P) h, lowest));
               told = (refl, refl, (λ x y. absurd (y refl)), subst (Spared table) (sym c.table) (spared_front records table (record_length layout * P) many (omega (arith, fits))));
@@ -102,8 +103,8 @@ module _ (k : ℕ) (masks : List ℕ) (names : ℕ) (rules w order table sets : 
               unrefused : grammar_refusal k masks names rules w (length order) (length table) (length sets) ≡ none
               unrefused = admitted ∙ rw (le-ltb (capacity layout (length table)) P fits, le-ltb (length sets) (P * P) room, lowest)
 
-              pub answer_order : VerdictIs masks rules w order order' true → Promise k masks names rules w order order' table table' sets sets' (Order Q n)
+              pub answer_order : VerdictIs masks rules w order order' true → Promise k masks names rules w order order' table table' sets sets' (Ok (Order Q n))
               answer_order v = record { refused = sym unrefused; told = (v.0, v.1, v.2, c) }
 
-              pub answer_none : VerdictIs masks rules w order order' false → Promise k masks names rules w order order' table table' sets sets' (NoOrder Q n)
+              pub answer_none : VerdictIs masks rules w order order' false → Promise k masks names rules w order order' table table' sets sets' (Ok (NoOrder Q n))
               answer_none v = record { refused = sym unrefused; told = (v.0, v.1, c) }

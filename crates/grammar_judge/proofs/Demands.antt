@@ -24,7 +24,8 @@ use Rattle.grammars.specs.Grammars.{Derivable, grammar_of}
 use Rattle.grammars.proofs.Verdicts.{derivable_grows, derivable_reach, empty_none, prefixes_grow}
 use Rattle.table.specs.Table.{Spared}
 use Rattle.verdict.specs.declared.Judged.{Judged}
-use Rattle.verdict.specs.declared.Judged.TheVariants.{NoOrder, Order, Refused}
+use Rattle.verdict.specs.declared.Judged.TheVariants.{NoOrder, Order}
+use Rattle.std.specs.Prelude.{Result, Ok, Err}
 use Rattle.verdict.specs.Verdict.{refused_by, verdict_number}
 use Rattle.verdict.proofs.Promises.{told_looks, told_prefixes}
 use Rattle.bare.specs.Bare.{Counted}
@@ -39,14 +40,14 @@ zero_one e = let q = some-injective 0 1 e in omega arith
 
 module _ (k : ℕ) (masks : List ℕ) (names : ℕ) (rules w order order' table table' sets sets' : List ℕ) where
   -- a call is refused by r exactly when r is the first that applies of 2, 4, 21, 7, 8, 9, 10 and 22
-  pub refused_exactly : (j : Judged) → Promise k masks names rules w order order' table table' sets sets' j → (r : Refusal)
-      → (j ≡ Refused r) ↔ (grammar_refusal k masks names rules w (length order) (length table) (length sets) ≡ some r)
-  refused_exactly (Refused q) h r = ((λ e. sym h.refused ∙ ap refused_by e), λ e. ap Refused (some-injective q r (h.refused ∙ e)))
-  refused_exactly (NoOrder P n) h r = ((λ e. sym h.refused ∙ ap refused_by e), λ e. absurd (none-ne-some r (h.refused ∙ e)))
-  refused_exactly (Order P n) h r = ((λ e. sym h.refused ∙ ap refused_by e), λ e. absurd (none-ne-some r (h.refused ∙ e)))
+  pub refused_exactly : (j : Result Judged Refusal) → Promise k masks names rules w order order' table table' sets sets' j → (r : Refusal)
+      → (j ≡ Err r) ↔ (grammar_refusal k masks names rules w (length order) (length table) (length sets) ≡ some r)
+  refused_exactly (Err q) h r = ((λ e. sym h.refused ∙ ap refused_by e), λ e. ap Err (some-injective q r (h.refused ∙ e)))
+  refused_exactly (Ok (NoOrder P n)) h r = ((λ e. sym h.refused ∙ ap refused_by e), λ e. absurd (none-ne-some r (h.refused ∙ e)))
+  refused_exactly (Ok (Order P n)) h r = ((λ e. sym h.refused ∙ ap refused_by e), λ e. absurd (none-ne-some r (h.refused ∙ e)))
 
   -- "Refusals leave every buffer unchanged", and "22 …, after 10 and with the work table free as there"
-  pub refused_unchanged : (r : Refusal) → Promise k masks names rules w order order' table table' sets sets' (Refused r)
+  pub refused_unchanged : (r : Refusal) → Promise k masks names rules w order order' table table' sets sets' (Err r)
       → (order' ≡ order) × (sets' ≡ sets) × (r ≢ FullTable → r ≢ ShortSets → table' ≡ table) × Spared table table'
   refused_unchanged r h = h.told
 
@@ -55,31 +56,31 @@ module _ (k : ℕ) (masks : List ℕ) (names : ℕ) (rules w order order' table 
 module _ (k : ℕ) (masks : List ℕ) (names : ℕ) (rules w order order' table table' sets sets' : List ℕ)
     (unrefused : grammar_refusal k masks names rules w (length order) (length table) (length sets) ≡ none) where
   -- there is a verdict, 0 or 1
-  pub verdict_cases : (j : Judged) → Promise k masks names rules w order order' table table' sets sets' j → (verdict_number j ≡ some 0) ⊎ (verdict_number j ≡ some 1)
-  verdict_cases (Refused r) h = absurd (some-ne-none r (h.refused ∙ unrefused))
-  verdict_cases (NoOrder P n) h = inl refl
-  verdict_cases (Order P n) h = inr refl
+  pub verdict_cases : (j : Result Judged Refusal) → Promise k masks names rules w order order' table table' sets sets' j → (verdict_number j ≡ some 0) ⊎ (verdict_number j ≡ some 1)
+  verdict_cases (Err r) h = absurd (some-ne-none r (h.refused ∙ unrefused))
+  verdict_cases (Ok (NoOrder P n)) h = inl refl
+  verdict_cases (Ok (Order P n)) h = inr refl
 
   -- "The verdict is 1 exactly when some reachable log can be derived from name 0"
-  pub verdict_exactly : (j : Judged) → Promise k masks names rules w order order' table table' sets sets' j
+  pub verdict_exactly : (j : Result Judged Refusal) → Promise k masks names rules w order order' table table' sets sets' j
       → (verdict_number j ≡ some 1) ↔ ((v : List ℕ) × Derivable (grammar_of rules) (independent masks) w v)
-  verdict_exactly (Refused r) h = absurd (some-ne-none r (h.refused ∙ unrefused))
-  verdict_exactly (NoOrder P n) h = ((λ e. absurd (zero_one e)), λ v. absurd (h.told.0 v.0 v.1))
-  verdict_exactly (Order P n) h = ((λ e. (h.told.0, h.told.1)), λ v. refl)
+  verdict_exactly (Err r) h = absurd (some-ne-none r (h.refused ∙ unrefused))
+  verdict_exactly (Ok (NoOrder P n)) h = ((λ e. absurd (zero_one e)), λ v. absurd (h.told.0 v.0 v.1))
+  verdict_exactly (Ok (Order P n)) h = ((λ e. (h.told.0, h.told.1)), λ v. refl)
 
   -- and 0 exactly when none can
-  pub no_order_exactly : (j : Judged) → Promise k masks names rules w order order' table table' sets sets' j
+  pub no_order_exactly : (j : Result Judged Refusal) → Promise k masks names rules w order order' table table' sets sets' j
       → (verdict_number j ≡ some 0) ↔ ((v : List ℕ) → Derivable (grammar_of rules) (independent masks) w v → ⊥)
-  no_order_exactly (Refused r) h = absurd (some-ne-none r (h.refused ∙ unrefused))
-  no_order_exactly (NoOrder P n) h = ((λ e. h.told.0), λ f. refl)
-  no_order_exactly (Order P n) h = ((λ e. absurd (zero_one (sym e))), λ f. absurd (f h.told.0 h.told.1))
+  no_order_exactly (Err r) h = absurd (some-ne-none r (h.refused ∙ unrefused))
+  no_order_exactly (Ok (NoOrder P n)) h = ((λ e. h.told.0), λ f. refl)
+  no_order_exactly (Ok (Order P n)) h = ((λ e. absurd (zero_one (sym e))), λ f. absurd (f h.told.0 h.told.1))
 
   -- "and such a log is returned": the bytes written, as many as the log has, are one; the others stay
-  pub order_exactly : (j : Judged) → Promise k masks names rules w order order' table table' sets sets' j → verdict_number j ≡ some 1
+  pub order_exactly : (j : Result Judged Refusal) → Promise k masks names rules w order order' table table' sets sets' j → verdict_number j ≡ some 1
       → Derivable (grammar_of rules) (independent masks) w (take (length w) order') × (drop (length w) order' ≡ drop (length w) order)
-  order_exactly (Refused r) h e = absurd (none-ne-some 1 e)
-  order_exactly (NoOrder P n) h e = absurd (zero_one e)
-  order_exactly (Order P n) h e =
+  order_exactly (Err r) h e = absurd (none-ne-some 1 e)
+  order_exactly (Ok (NoOrder P n)) h e = absurd (zero_one e)
+  order_exactly (Ok (Order P n)) h e =
       let v = h.told.0 in
       let l : length w ≡ length v + 0 = takes_length (independent masks) (order_of_reach (independent masks) h.told.1.reached) in
       let m : length v ≡ length w = omega arith in (
@@ -90,7 +91,7 @@ module _ (k : ℕ) (masks : List ℕ) (names : ℕ) (rules w order order' table 
 -- "An empty log gets 0"
 pub empty_log : (k : ℕ) (masks : List ℕ) (names : ℕ) (rules order order' table table' sets sets' : List ℕ)
     → grammar_refusal k masks names rules [] (length order) (length table) (length sets) ≡ none
-    → (j : Judged) → Promise k masks names rules [] order order' table table' sets sets' j → verdict_number j ≡ some 0
+    → (j : Result Judged Refusal) → Promise k masks names rules [] order order' table table' sets sets' j → verdict_number j ≡ some 0
 empty_log k masks names rules order order' table table' sets sets' unrefused j h =
     (no_order_exactly k masks names rules [] order order' table table' sets sets' unrefused j h).1 (λ v d. empty_none d)
 
@@ -99,24 +100,24 @@ empty_log k masks names rules order order' table table' sets sets' unrefused j h
 -- P and looks of a call that is not refused
 told_counts : (k : ℕ) (masks : List ℕ) (names : ℕ) (rules w : List ℕ) {order order' table table' sets sets' : List ℕ}
     → grammar_refusal k masks names rules w (length order) (length table) (length sets) ≡ none
-    → (j : Judged) → Promise k masks names rules w order order' table table' sets sets' j
+    → (j : Result Judged Refusal) → Promise k masks names rules w order order' table table' sets sets' j
     → (P n : ℕ) × (told_prefixes j ≡ some P) × (told_looks j ≡ some n) × Counted k masks w table table' P n
-told_counts k masks names rules w u (Refused r) h = absurd (some-ne-none r (h.refused ∙ u))
-told_counts k masks names rules w u (NoOrder P n) h = (P, n, refl, refl, h.told.2)
-told_counts k masks names rules w u (Order P n) h = (P, n, refl, refl, h.told.3)
+told_counts k masks names rules w u (Err r) h = absurd (some-ne-none r (h.refused ∙ u))
+told_counts k masks names rules w u (Ok (NoOrder P n)) h = (P, n, refl, refl, h.told.2)
+told_counts k masks names rules w u (Ok (Order P n)) h = (P, n, refl, refl, h.told.3)
 
 -- "the judge's statement keeps … the equal verdicts and P": two logs reachable from each other, whatever buffers each call was lent; looks too (Paper 2)
 module _ (k : ℕ) (masks : List ℕ) (names : ℕ) (rules v w : List ℕ) (order₁ order₁' table₁ table₁' sets₁ sets₁' order₂ order₂' table₂ table₂' sets₂ sets₂' : List ℕ)
     (first : grammar_refusal k masks names rules v (length order₁) (length table₁) (length sets₁) ≡ none)
     (second : grammar_refusal k masks names rules w (length order₂) (length table₂) (length sets₂) ≡ none) where
   -- Paper 4: where v is reachable from w, verdict 1 for v gives verdict 1 for w
-  pub judged_reach : (i j : Judged) → Promise k masks names rules v order₁ order₁' table₁ table₁' sets₁ sets₁' i
+  pub judged_reach : (i j : Result Judged Refusal) → Promise k masks names rules v order₁ order₁' table₁ table₁' sets₁ sets₁' i
       → Promise k masks names rules w order₂ order₂' table₂ table₂' sets₂ sets₂' j → Reachable (independent masks) w v → verdict_number i ≡ some 1 → verdict_number j ≡ some 1
   judged_reach i j g h r e =
       let x = (verdict_exactly k masks names rules v order₁ order₁' table₁ table₁' sets₁ sets₁' first i g).0 e in
       (verdict_exactly k masks names rules w order₂ order₂' table₂ table₂' sets₂ sets₂' second j h).1 (x.0, derivable_reach r x.1)
 
-  pub judged_same : (i j : Judged) → Promise k masks names rules v order₁ order₁' table₁ table₁' sets₁ sets₁' i
+  pub judged_same : (i j : Result Judged Refusal) → Promise k masks names rules v order₁ order₁' table₁ table₁' sets₁ sets₁' i
       → Promise k masks names rules w order₂ order₂' table₂ table₂' sets₂ sets₂' j → Same (independent masks) v w
       → (verdict_number i ≡ verdict_number j) × (told_prefixes i ≡ told_prefixes j) × (told_looks i ≡ told_looks j)
   judged_same i j g h s =
@@ -149,13 +150,13 @@ module _ (k : ℕ) (masks masks' : List ℕ) (names : ℕ) (rules w : List ℕ) 
     (more : (a b : ℕ) → T (independent masks a b) → T (independent masks' a b))
     (first : grammar_refusal k masks names rules w (length order₁) (length table₁) (length sets₁) ≡ none)
     (second : grammar_refusal k masks' names rules w (length order₂) (length table₂) (length sets₂) ≡ none) where
-  pub judged_grows : (i j : Judged) → Promise k masks names rules w order₁ order₁' table₁ table₁' sets₁ sets₁' i
+  pub judged_grows : (i j : Result Judged Refusal) → Promise k masks names rules w order₁ order₁' table₁ table₁' sets₁ sets₁' i
       → Promise k masks' names rules w order₂ order₂' table₂ table₂' sets₂ sets₂' j → verdict_number i ≡ some 1 → verdict_number j ≡ some 1
   judged_grows i j g h e =
       let x = (verdict_exactly k masks names rules w order₁ order₁' table₁ table₁' sets₁ sets₁' first i g).0 e in
       (verdict_exactly k masks' names rules w order₂ order₂' table₂ table₂' sets₂ sets₂' second j h).1 (x.0, derivable_grows (independent masks) (independent masks') more x.1)
 
-  pub counted_grows : (i j : Judged) → Promise k masks names rules w order₁ order₁' table₁ table₁' sets₁ sets₁' i
+  pub counted_grows : (i j : Result Judged Refusal) → Promise k masks names rules w order₁ order₁' table₁ table₁' sets₁ sets₁' i
       → Promise k masks' names rules w order₂ order₂' table₂ table₂' sets₂ sets₂' j → (P Q : ℕ) → told_prefixes i ≡ some P → told_prefixes j ≡ some Q → P ≤ Q
   counted_grows i j g h P Q a b =
       let x = told_counts k masks names rules w first i g in

@@ -6,7 +6,7 @@ ghost use Rattle.pairs.specs.Pairs.{Setting};
 ghost use Rattle.grammar_judge.specs.GrammarJudge.{Promise, VerdictIs};
 
 use profile::Refusal;
-use table::Built;
+use table::Filled;
 use verdict::Judged;
 
 // The verdict by the second table, with the order.
@@ -56,35 +56,24 @@ pub fn judge(
     order: &mut [u8],
     work: &mut [u32],
     sets: &mut [u16],
-) -> Judged
+) -> Result<Judged, Refusal>
     ensures { Promise k masks.now names rules.now log.now order.old order.new work.old work.new sets.old sets.new result }
 {
-    let relation = checks::check_relation(k, masks);
-    if let Err(r) = relation {
-        return Judged::Refused(r);
-    }
+    checks::check_relation(k, masks)?;
     if rules::bad_rules(k, names, rules) {
-        return Judged::Refused(Refusal::BadRule);
+        return Err(Refusal::BadRule);
     }
-    let letters = logcheck::check_log(k, log);
-    if let Err(r) = letters {
-        return Judged::Refused(r);
-    }
+    logcheck::check_log(k, log)?;
     if order.len() < log.len() {
-        return Judged::Refused(Refusal::ShortBuffer);
+        return Err(Refusal::ShortBuffer);
     }
-    let built = bare::build(k, masks, log, work);
-    match built {
-        Built::Refused(r) => Judged::Refused(r),
-        Built::Filled { prefixes, looks } => {
-            if sets.len() < prefixes * prefixes {
-                return Judged::Refused(Refusal::ShortSets);
-            }
-            if put_verdict(work, k, masks, rules, log, sets, prefixes, order) {
-                Judged::Order { prefixes, looks }
-            } else {
-                Judged::NoOrder { prefixes, looks }
-            }
-        }
+    let Filled { prefixes, looks } = bare::build(k, masks, log, work)?;
+    if sets.len() < prefixes * prefixes {
+        return Err(Refusal::ShortSets);
+    }
+    if put_verdict(work, k, masks, rules, log, sets, prefixes, order) {
+        Ok(Judged::Order { prefixes, looks })
+    } else {
+        Ok(Judged::NoOrder { prefixes, looks })
     }
 }

@@ -5,97 +5,101 @@ use Rattle.grammar_judge.proofs.Answers.{answer_full, answer_log, answer_none, a
 use Prim.Native.Nat.{◌*◌, ◌≤◌, ◌<◌}
 use lib.ListN.{length}
 use Rattle.profile.specs.Tables.{capacity, layout}
-use Rattle.verdict.specs.declared.Judged.TheVariants.{Refused}
+use Rattle.std.specs.Prelude.{Err}
+use Rattle.std.proofs.lemmas.Result.{err_from_is_err_and}
 use Rattle.bare.specs.Bare.{BuiltIs}
 use Rattle.grammar_judge.specs.GrammarJudge.{Promise, VerdictIs}
 use Rattle.grammar_judge.proofs.Settings.{fits_of, setting_of, square_fits}
 use Rattle.grammar_judge.proofs.judge.Goals as goal
 
-pub returns-in-Err : goal.returns-in-Err
-returns-in-Err c =
+pub returns-in_err-check_relation : goal.returns-in_err-check_relation
+returns-in_err-check_relation c =
     let a = c.args in
-    answer_relation a.k a.masks.now a.names a.rules.now a.log.now a.order.now a.work.now a.sets.now c.in-Err.r (sym c.check_relation-relation.ensures ∙ ap refused_by c.in-Err.is)
+    let e = err_from_is_err_and c.from_residual.result c.from_residual.ensures.1 in
+    rw (e.1, e.2) (answer_relation a.k a.masks.now a.names a.rules.now a.log.now a.order.now a.work.now a.sets.now _ (sym c.check_relation.ensures ∙ ap refused_by c.in_err-check_relation.was))
 
 pub returns-then-bad_rules : goal.returns-then-bad_rules
 returns-then-bad_rules c =
     let a = c.args in
-    answer_rules a.k a.masks.now a.names a.rules.now a.log.now a.order.now a.work.now a.sets.now (sym c.check_relation-relation.ensures ∙ ap refused_by c.in_default.is) (sym c.bad_rules.ensures ∙ c.if-bad_rules.true)
+    answer_rules a.k a.masks.now a.names a.rules.now a.log.now a.order.now a.work.now a.sets.now (sym c.check_relation.ensures ∙ ap refused_by c.in_ok-check_relation.was) (sym c.bad_rules.ensures ∙ c.if-bad_rules.true)
 
-pub returns-in-Err-letters : goal.returns-in-Err-letters
-returns-in-Err-letters c =
+pub returns-in_err-check_log : goal.returns-in_err-check_log
+returns-in_err-check_log c =
     let a = c.args in
-    let good = sym c.check_relation-relation.ensures ∙ ap refused_by c.in_default.is in
+    let good = sym c.check_relation.ensures ∙ ap refused_by c.in_ok-check_relation.was in
     let right = sym c.bad_rules.ensures ∙ c.if-bad_rules.false in
-    answer_log a.k a.masks.now a.names a.rules.now a.log.now a.order.now a.work.now a.sets.now good right c.in-Err-letters.r (sym c.check_log-letters.ensures ∙ ap refused_by c.in-Err-letters.is)
+    let e = err_from_is_err_and c.from_residual-in_err-check_log.result c.from_residual-in_err-check_log.ensures.1 in
+    rw (e.1, e.2) (answer_log a.k a.masks.now a.names a.rules.now a.log.now a.order.now a.work.now a.sets.now good right _ (sym c.check_log.ensures ∙ ap refused_by c.in_err-check_log.was))
 
 pub returns-then-order-log : goal.returns-then-order-log
 returns-then-order-log c =
     let a = c.args in
-    let good = sym c.check_relation-relation.ensures ∙ ap refused_by c.in_default.is in
+    let good = sym c.check_relation.ensures ∙ ap refused_by c.in_ok-check_relation.was in
     let right = sym c.bad_rules.ensures ∙ c.if-bad_rules.false in
-    let log = sym c.check_log-letters.ensures ∙ ap refused_by c.in_default-letters.is in
+    let log = sym c.check_log.ensures ∙ ap refused_by c.in_ok-check_log.was in
     answer_short a.k a.masks.now a.names a.rules.now a.log.now a.order.now a.work.now a.sets.now good right log c.if-order-log.true
 
 pub overflow_mul-prefixes : goal.overflow_mul-prefixes
 overflow_mul-prefixes c =
     let a = c.args in
-    let u = subst (BuiltIs a.k a.masks.now a.log.now a.work.now _) c.in-Filled.is c.build-built.ensures in
-    let q = square_fits (length a.work.now) c.in-Filled.prefixes u.1 in fits_of (c.in-Filled.prefixes * c.in-Filled.prefixes) q
+    let u = subst (BuiltIs a.k a.masks.now a.log.now a.work.now _) c.in_ok-prefixes.was c.build.ensures in
+    let q = square_fits (length a.work.now) c.in_ok-prefixes.field-0.prefixes u.1 in fits_of (c.in_ok-prefixes.field-0.prefixes * c.in_ok-prefixes.field-0.prefixes) q
 
 pub returns-then-sets-prefixes : goal.returns-then-sets-prefixes
 returns-then-sets-prefixes c =
     let a = c.args in
-    let good = sym c.check_relation-relation.ensures ∙ ap refused_by c.in_default.is in
+    let good = sym c.check_relation.ensures ∙ ap refused_by c.in_ok-check_relation.was in
     let right = sym c.bad_rules.ensures ∙ c.if-bad_rules.false in
-    let log = sym c.check_log-letters.ensures ∙ ap refused_by c.in_default-letters.is in
+    let log = sym c.check_log.ensures ∙ ap refused_by c.in_ok-check_log.was in
     let long = c.if-order-log.false in
-    let u = subst (BuiltIs a.k a.masks.now a.log.now a.work.now _) c.in-Filled.is c.build-built.ensures in
+    let u = subst (BuiltIs a.k a.masks.now a.log.now a.work.now _) c.in_ok-prefixes.was c.build.ensures in
     let e₂ = u.0.prefixes in answer_sets a.k a.masks.now a.names a.rules.now a.log.now a.order.now a.work.now a.sets.now good right log long (subst (λ n. n ≤ capacity layout (length a.work.now)) e₂ u.1) _ u.0 (subst (λ n. length a.sets.now < n * n) e₂ c.if-sets-prefixes.true)
 
 pub put_verdict-requires : goal.put_verdict-requires
 put_verdict-requires c =
     let a = c.args in
-    let good = sym c.check_relation-relation.ensures ∙ ap refused_by c.in_default.is in
+    let good = sym c.check_relation.ensures ∙ ap refused_by c.in_ok-check_relation.was in
     let right = sym c.bad_rules.ensures ∙ c.if-bad_rules.false in
-    let log = sym c.check_log-letters.ensures ∙ ap refused_by c.in_default-letters.is in
+    let log = sym c.check_log.ensures ∙ ap refused_by c.in_ok-check_log.was in
     let long = c.if-order-log.false in
-    let u = subst (BuiltIs a.k a.masks.now a.log.now a.work.now _) c.in-Filled.is c.build-built.ensures in
-    (setting_of a.k a.masks.now a.log.now a.work.now _ c.in-Filled.prefixes c.in-Filled.looks good log u.0 u.1, c.if-sets-prefixes.false, long)
+    let u = subst (BuiltIs a.k a.masks.now a.log.now a.work.now _) c.in_ok-prefixes.was c.build.ensures in
+    (setting_of a.k a.masks.now a.log.now a.work.now _ c.in_ok-prefixes.field-0.prefixes c.in_ok-prefixes.field-0.looks good log u.0 u.1, c.if-sets-prefixes.false, long)
 
-pub returns-in-Refused : goal.returns-in-Refused
-returns-in-Refused c =
+pub returns-in_err-prefixes : goal.returns-in_err-prefixes
+returns-in_err-prefixes c =
     let a = c.args in
-    let good = sym c.check_relation-relation.ensures ∙ ap refused_by c.in_default.is in
+    let good = sym c.check_relation.ensures ∙ ap refused_by c.in_ok-check_relation.was in
     let right = sym c.bad_rules.ensures ∙ c.if-bad_rules.false in
-    let log = sym c.check_log-letters.ensures ∙ ap refused_by c.in_default-letters.is in
+    let log = sym c.check_log.ensures ∙ ap refused_by c.in_ok-check_log.was in
     let long = c.if-order-log.false in
-    let u = subst (BuiltIs a.k a.masks.now a.log.now a.work.now _) c.in-Refused.is c.build-built.ensures in
-    subst (λ r. Promise a.k a.masks.now a.names a.rules.now a.log.now a.order.now a.order.now a.work.now c.build-built.new.work a.sets.now a.sets.now (Refused r)) (sym u.0) (answer_full a.k a.masks.now a.names a.rules.now a.log.now a.order.now a.work.now a.sets.now good right log long c.build-built.new.work u.2 u.1)
+    let u = subst (BuiltIs a.k a.masks.now a.log.now a.work.now _) c.in_err-prefixes.was c.build.ensures in
+    let e = err_from_is_err_and c.from_residual-in_err-prefixes.result c.from_residual-in_err-prefixes.ensures.1 in
+    rw (e.1, e.2) (subst (λ r. Promise a.k a.masks.now a.names a.rules.now a.log.now a.order.now a.order.now a.work.now c.build.new.work a.sets.now a.sets.now (Err r)) (sym u.0) (answer_full a.k a.masks.now a.names a.rules.now a.log.now a.order.now a.work.now a.sets.now good right log long c.build.new.work u.2 u.1))
 
 pub returns-then-put_verdict : goal.returns-then-put_verdict
 returns-then-put_verdict c =
     let a = c.args in
-    let good = sym c.check_relation-relation.ensures ∙ ap refused_by c.in_default.is in
+    let good = sym c.check_relation.ensures ∙ ap refused_by c.in_ok-check_relation.was in
     let right = sym c.bad_rules.ensures ∙ c.if-bad_rules.false in
-    let log = sym c.check_log-letters.ensures ∙ ap refused_by c.in_default-letters.is in
+    let log = sym c.check_log.ensures ∙ ap refused_by c.in_ok-check_log.was in
     let long = c.if-order-log.false in
-    let u = subst (BuiltIs a.k a.masks.now a.log.now a.work.now _) c.in-Filled.is c.build-built.ensures in
+    let u = subst (BuiltIs a.k a.masks.now a.log.now a.work.now _) c.in_ok-prefixes.was c.build.ensures in
     let e₂ = u.0.prefixes in
-    answer_order a.k a.masks.now a.names a.rules.now a.log.now a.order.now a.work.now a.sets.now good right log long (subst (λ n. n ≤ capacity layout (length a.work.now)) e₂ u.1) (subst (λ n. n * n ≤ length a.sets.now) e₂ c.if-sets-prefixes.false) _ _ _ c.in-Filled.prefixes c.in-Filled.looks u.0
+    answer_order a.k a.masks.now a.names a.rules.now a.log.now a.order.now a.work.now a.sets.now good right log long (subst (λ n. n ≤ capacity layout (length a.work.now)) e₂ u.1) (subst (λ n. n * n ≤ length a.sets.now) e₂ c.if-sets-prefixes.false) _ _ _ c.in_ok-prefixes.field-0.prefixes c.in_ok-prefixes.field-0.looks u.0
     (subst (VerdictIs a.masks.now a.rules.now a.log.now a.order.now _) c.if-put_verdict.true c.put_verdict.ensures)
 
 pub returns-else-put_verdict : goal.returns-else-put_verdict
 returns-else-put_verdict c =
     let a = c.args in
-    let good = sym c.check_relation-relation.ensures ∙ ap refused_by c.in_default.is in
+    let good = sym c.check_relation.ensures ∙ ap refused_by c.in_ok-check_relation.was in
     let right = sym c.bad_rules.ensures ∙ c.if-bad_rules.false in
-    let log = sym c.check_log-letters.ensures ∙ ap refused_by c.in_default-letters.is in
+    let log = sym c.check_log.ensures ∙ ap refused_by c.in_ok-check_log.was in
     let long = c.if-order-log.false in
-    let u = subst (BuiltIs a.k a.masks.now a.log.now a.work.now _) c.in-Filled.is c.build-built.ensures in
+    let u = subst (BuiltIs a.k a.masks.now a.log.now a.work.now _) c.in_ok-prefixes.was c.build.ensures in
     let e₂ = u.0.prefixes in
-    answer_none a.k a.masks.now a.names a.rules.now a.log.now a.order.now a.work.now a.sets.now good right log long (subst (λ n. n ≤ capacity layout (length a.work.now)) e₂ u.1) (subst (λ n. n * n ≤ length a.sets.now) e₂ c.if-sets-prefixes.false) _ _ _ c.in-Filled.prefixes c.in-Filled.looks u.0
+    answer_none a.k a.masks.now a.names a.rules.now a.log.now a.order.now a.work.now a.sets.now good right log long (subst (λ n. n ≤ capacity layout (length a.work.now)) e₂ u.1) (subst (λ n. n * n ≤ length a.sets.now) e₂ c.if-sets-prefixes.false) _ _ _ c.in_ok-prefixes.field-0.prefixes c.in_ok-prefixes.field-0.looks u.0
     (subst (VerdictIs a.masks.now a.rules.now a.log.now a.order.now _) c.if-put_verdict.false c.put_verdict.ensures)
 
-pub build-built-requires : goal.build-built-requires
-build-built-requires c =
-    (sym c.check_relation-relation.ensures ∙ ap refused_by c.in_default.is, sym c.check_log-letters.ensures ∙ ap refused_by c.in_default-letters.is)
+pub build-requires : goal.build-requires
+build-requires c =
+    (sym c.check_relation.ensures ∙ ap refused_by c.in_ok-check_relation.was, sym c.check_log.ensures ∙ ap refused_by c.in_ok-check_log.was)
