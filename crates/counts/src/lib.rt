@@ -25,7 +25,7 @@ const PER: usize = COUNTS_PER_NUMBER;
 pub const NUMBERS: usize = COUNT_NUMBERS;
 
 // The numbers of counts of a record.
-#[derive(Clone, Copy)]
+#[derive(Clone, Copy, Debug, PartialEq, Eq)]
 pub struct Counts {
     pub w0: u32,
     pub w1: u32,
@@ -76,6 +76,7 @@ fn count_in(w: u32, a: usize) -> u32
 }
 
 // The numbers of counts in a row, for a loop over the letters.
+// Kept: `<[u32; NUMBERS]>::from(c)` would be no plainer where it is called.
 pub fn numbers(c: Counts) -> [u32; NUMBERS]
     ensures { result ≡ words c }
 {
@@ -83,6 +84,7 @@ pub fn numbers(c: Counts) -> [u32; NUMBERS]
 }
 
 // The counts whose numbers stand in a row.
+// Kept: `From` takes no `requires`, and `TryFrom` can fail where this cannot.
 pub fn from_numbers(t: &[u32]) -> Counts
     requires { length t.now ≡ layout.numbers }
     ensures { words result ≡ t.now }
@@ -131,16 +133,7 @@ pub fn same_counts(a: Counts, b: Counts) -> bool
     ensures value { result ≡ equal? (words a) (words b) }
     ensures value_2 { result ≡ every_equal? layout (words a) (words b) }
 {
-    if a.w0 != b.w0 {
-        return false;
-    }
-    (a.w1 == b.w1)
-        & (a.w2 == b.w2)
-        & (a.w3 == b.w3)
-        & (a.w4 == b.w4)
-        & (a.w5 == b.w5)
-        & (a.w6 == b.w6)
-        & (a.w7 == b.w7)
+    a == b
 }
 
 // The counts of the number w as the digits of one number, the first highest.
@@ -174,6 +167,7 @@ fn last_before(a: Counts, b: Counts) -> bool
 }
 
 // The counts a stand before the counts b: at the first letter whose counts differ a has the smaller.
+// Kept: a derived order compares the numbers, whose high half is the later letter's count.
 pub fn counts_before(a: Counts, b: Counts) -> bool
     ensures { result ≡ before? layout (words a) (words b) }
 {

@@ -50,6 +50,7 @@ pub fn counts_at(t: &[u32], j: usize) -> Counts
 }
 
 // The forward number of record j.
+// Kept: one function over the place in a record would be no plainer than this and `last_at`.
 pub fn forward_at(t: &[u32], j: usize) -> u32
     requires { record_length layout * j + record_length layout ≤ length t.now }
     ensures { result ≡ forward_at t.now j }

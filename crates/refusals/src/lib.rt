@@ -7,6 +7,7 @@ ghost use Rattle.profile.specs.Refusals.{refusal_number, refusal_place};
 use profile::Refusal;
 
 // The number of document 01.
+// Kept: `u32::from(r)` would not say which of a refusal's two numbers it gives.
 pub fn number(r: Refusal) -> u32
     ensures { result ≡ refusal_number r }
 {

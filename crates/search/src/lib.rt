@@ -8,6 +8,7 @@ ghost use Rattle.search.specs.Search.{Ordered, found_in, records_before, stands_
 use counts::Counts;
 
 // The counts a stand before b: by their totals, then by the counts, the count of letter 0 first.
+// Kept: a derived order would leave the totals out.
 pub fn stands_before(a: Counts, b: Counts) -> bool
     ensures { result ≡ stands_before? (words a) (words b) }
 {

@@ -1,5 +1,5 @@
 -- `counts::counts_before` meets its contract: the first numbers that differ decide.
-use Rattle.std.proofs.Common.{◌≡◌, not, drop, sym, ap, ◌∙◌, ap₂, arith, rules}
+use Rattle.std.proofs.Common.{◌≡◌, not, drop, sym, ap, ◌∙◌, ap₂, arith}
 use Rattle.profile.specs.Lists.{flat_map}
 use Rattle.profile.specs.Orders.{no_later?}
 use Rattle.profile.specs.Tables.{layout}

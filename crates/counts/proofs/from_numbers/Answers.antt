@@ -1,5 +1,5 @@
 -- `counts::from_numbers` meets its contract: the numbers read are the list.
-use Rattle.std.proofs.Common.{map, sym, ap, ◌∙◌, rules}
+use Rattle.std.proofs.Common.{map, sym, ap, ◌∙◌}
 use Rattle.profile.specs.Lists.{below}
 use Rattle.profile.specs.Prefixes.{at}
 use Rattle.theory.proofs.Levels.{at_below}

@@ -1,5 +1,5 @@
 -- `counts::last_before` meets its contract: the first numbers that differ decide.
-use Rattle.std.proofs.Common.{not, drop, sym, ap, ◌∙◌, arith, rules}
+use Rattle.std.proofs.Common.{not, drop, sym, ap, ◌∙◌, arith}
 use Rattle.profile.specs.Tables.{layout}
 use Rattle.counts.specs.Counts.{words}
 use Rattle.counts.proofs.Order.{no_later_differ, no_later_same}

@@ -1,5 +1,5 @@
 -- `counts::one_more` meets its contract: 1, shifted to the bits of the letter, is added to its number.
-use Rattle.std.proofs.Common.{◌≡◌, ◌+◌, ◌*◌, ◌/◌, ◌%◌, ◌^◌, get_or, set, ap, ◌∙◌, one-mul, arith, shl_exact, rules}
+use Rattle.std.proofs.Common.{◌≡◌, ◌+◌, ◌*◌, ◌/◌, ◌%◌, ◌^◌, get_or, set, ap, ◌∙◌, one-mul, arith, shl_exact}
 use Rattle.profile.specs.Tables.{layout}
 use Rattle.counts.specs.Counts.{words}
 use Rattle.counts.proofs.Choices.{changed, eight}

@@ -1,5 +1,5 @@
 -- `counts::total_of` meets its contract: the sum of the totals of the numbers.
-use Rattle.std.proofs.Common.{◌≡◌, ℕ, ◌+◌, sym, ap, ◌∙◌, arith, rules}
+use Rattle.std.proofs.Common.{◌≡◌, ℕ, ◌+◌, sym, ap, ◌∙◌, arith}
 use Rattle.profile.specs.Prefixes.{total}
 use Rattle.profile.specs.Tables.{layout}
 use Rattle.counts.specs.Counts.{word_counts, words}

@@ -1,5 +1,5 @@
 -- `counts::word_before` meets its contract: the order of the counts is the order of their ranks.
-use Rattle.std.proofs.Common.{ltb, sym, ◌∙◌, ap₂, rules}
+use Rattle.std.proofs.Common.{ltb, sym, ◌∙◌, ap₂}
 use Rattle.profile.specs.Tables.{layout}
 use Rattle.counts.proofs.Order.{before_words}
 use Rattle.counts.proofs.word_before.Goals as goal
