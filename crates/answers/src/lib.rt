@@ -8,6 +8,7 @@ use profile::Refusal;
 use verdict::Judged;
 
 // Returns the refusal's number, or 0; tells the place, the verdict, P and looks.
+// Kept: C lends the numbers that are told, so a `From` could not fill them.
 pub fn tell_judged(answer: Result<Judged, Refusal>, told: &mut [u64; 4]) -> u32
     ensures { (result ≡ judged_code answer) × (told.new ≡ judged_told answer) }
 {

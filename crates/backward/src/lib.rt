@@ -41,6 +41,7 @@ fn has_bit(n: u32, j: usize) -> bool
 }
 
 // The last record before record `from` that has the flag of letter x; 0 where none has.
+// Kept: nobody tests for 0, since a letter that can be added leads to a record, and an `Option` would have to be proved to be there at each turn.
 fn flagged_before(table: &[u32], from: usize, x: usize) -> usize
     requires { (record_length layout * from ≤ length table.now) × (x < most_letters) }
     ensures { result ≡ flag_before table.now x from }

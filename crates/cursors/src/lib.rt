@@ -16,6 +16,7 @@ fn has_letter(set: u32, x: usize) -> bool
 }
 
 // The first record from `from` on to which letter x can be added; the number of records where there is none.
+// Kept: the end is a place at which a cursor stands, as a record is, so an `Option` would be turned back into a number at each call.
 fn seek(level: &[u32], from: usize, x: usize) -> usize
     requires { (from ≤ records_in level.now) × (x < 32) }
     ensures { result ≡ seek_from level.now from x }

@@ -72,6 +72,7 @@ fn place_for(t: &[u32], at: usize, end: usize, near: usize, c: Counts) -> Sought
 }
 
 // The states that letter x leads to, where record j has the counts c and one of them is in its backward set; else none.
+// Kept: that there are none is a set of states like another, the empty one, and no mark beside the sets.
 #[tactic(auto, using(crate::proofs::Standing::stands_whole))]
 fn led_to(t: &[u32], j: usize, c: Counts, states: u32, shape: Shape, moves: &[u32], x: usize) -> u32
     requires { (shape.k ≤ most_letters) × (shape.s ≤ most_states) }

@@ -22,6 +22,7 @@ pub enum Judged {
 }
 
 // The lowest refusal of a call whose order buffer is too short: one of the profile, one of the log, or 9.
+// Kept: it gives a refusal whatever the checks say, so there is no `Ok` for a `?` to go on with.
 pub fn refusal_of_short(shape: Shape, masks: &[u16], moves: &[u32], log: &[u8]) -> Refusal
     ensures { some result
         ≡ lowest (profile_refusals (profile_of shape masks.now moves.now) ++ (log_refusals shape.k log.now ++ ((true, ShortBuffer) ∷ []))) }
