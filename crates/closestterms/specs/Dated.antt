@@ -1,5 +1,5 @@
 -- Document 02, Paper 10, for a log with terms (Paper 8): the refusals of the call, and what it promises.
-use Rattle.std.specs.Prelude.{Bool, List, [], ◌∷◌, ◌++◌, ℕ, length}
+use Rattle.std.specs.Prelude.{Result, Bool, List, [], ◌∷◌, ◌++◌, ℕ, length}
 use Rattle.std.proofs.Math.Option.{Option}
 use Rattle.profile.specs.Automata.{Profile}
 use Rattle.profile.specs.Rules.{prefixes_by}
@@ -20,6 +20,6 @@ dated_closest_refusal p w days terms n m l = lowest (dated_closest_refusals p w 
 
 -- the whole promise of a call with days and terms and a budget of B pairs, that was lent `order`, `table` and `costs` and left `order'`, `table'` and
 -- `costs'`: that of the call without terms, for the exchanges inside a term. The order is of letters
-abbrev pub Promise : Profile → (w days terms : List ℕ) → ℕ → (order order' table table' costs costs' : List ℕ) → Closest → Type 0
+abbrev pub Promise : Profile → (w days terms : List ℕ) → ℕ → (order order' table table' costs costs' : List ℕ) → Result Closest Refusal → Type 0
 Promise p w days terms B order order' table table' costs costs' r =
     PromiseBy (with_terms p terms) (events w days) B order order' table table' costs costs' (dated_closest_refusal p w days terms (length order) (length table) (length costs)) r

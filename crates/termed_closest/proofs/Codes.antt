@@ -1,4 +1,5 @@
 -- The answer for the codes of events is the answer for the events with their days.
+use Rattle.std.specs.Prelude.{Result, Ok, Err}
 use mathlib.Core.Path.{◌≡◌, refl, sym, ◌∙◌, ap, ap₂}
 use mathlib.Core.Bool.{Bool, true, ◌&&◌}
 use mathlib.Core.List.{List, [], ◌∷◌, ◌++◌, map}
@@ -21,7 +22,7 @@ use Rattle.term_checks.proofs.Admission.{dated_admitted, refused_early, refused_
 use Rattle.verdict.specs.Verdict.{Counted}
 use Rattle.closestanswer.specs.Answers.{Close, short_costs, told}
 use Rattle.closestanswer.specs.declared.Closest.{Closest}
-use Rattle.closestanswer.specs.declared.Closest.TheVariants.{NoOrder, Order, Refused}
+use Rattle.closestanswer.specs.declared.Closest.TheVariants.{NoOrder, Order}
 use Rattle.table.proofs.Filling.{spared_same}
 use Rattle.closestfilled.proofs.Answering.{refused_before}
 use Rattle.closestterms.specs.Dated.{Promise}
@@ -39,7 +40,7 @@ lowest_front J K L e = go (lowest K) refl
 module _ (p : Profile) (w days terms : List ℕ) (B : ℕ) (order table costs : List ℕ) where
   -- refused before the table
   pub told_early : (r : Refusal) → lowest (dated_admission p w days terms (length order)) ≡ some r
-      → Promise p w days terms B order order table table costs costs (Refused r)
+      → Promise p w days terms B order order table table costs costs (Err r)
   told_early r e = refused_before (with_terms p terms) (events w days) B order table costs (dated_refusals p w days terms (length order) (length table))
       (refused_early p w days terms (length order) (length table) e) table (λ ne. refl) (spared_same table)
 
@@ -72,12 +73,12 @@ module _ (p : Profile) (w days terms : List ℕ) (B : ℕ) (order table costs : 
       its_floor = sym (floor_named (may_in p.masks terms) (coded_may p.masks) letter_of code_letter (code_of terms) same_may same_letter (automaton p) E p.k p.s B) ∙ h.its_floor;
     }
 
-    answer : (r : Closest) → told (rules_of p true) (map (code_of terms) E) B order order' table table' costs costs' r → told (with_terms p terms) E B order order' table table' costs costs' r
-    answer (Refused r) h = h
-    answer (NoOrder P n) h = (sym (coded_order p terms E few) ∙ h.0, h.1, counted h.2)
-    answer (Order P n c f) h = (close h.0, counted h.1)
+    answer : (r : Result Closest Refusal) → told (rules_of p true) (map (code_of terms) E) B order order' table table' costs costs' r → told (with_terms p terms) E B order order' table table' costs costs' r
+    answer (Err r) h = h
+    answer (Ok (NoOrder P n)) h = (sym (coded_order p terms E few) ∙ h.0, h.1, counted h.2)
+    answer (Ok (Order P n c f)) h = (close h.0, counted h.1)
 
-    pub told_late : (r : Closest) → Answered (rules_of p true) (map (code_of terms) E) B order order' table table' costs costs' r
+    pub told_late : (r : Result Closest Refusal) → Answered (rules_of p true) (map (code_of terms) E) B order order' table table' costs costs' r
         → Promise p w days terms B order order' table table' costs costs' r
     told_late r h = record {
       refused = h.refused

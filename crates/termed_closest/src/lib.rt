@@ -10,8 +10,8 @@ ghost use Rattle.termed_closest.specs.CodedAnswers.{Answered};
 
 use closestanswer::Closest;
 use profile::limits::LONGEST;
-use profile::Shape;
-use table::Built;
+use profile::{Refusal, Shape};
+use table::Filled;
 
 // The closest order of events that are codes, where nothing but 10 and 17 can refuse; the log has their letters.
 fn closest_coded(
@@ -24,18 +24,17 @@ fn closest_coded(
     work: &mut [u32],
     costs: &mut [u32],
     budget: u64,
-) -> Closest
+) -> Result<Closest, Refusal>
     requires coded_call { CodedCall (profile_of shape masks.now moves.now) log.now codes.now }
     requires log_in_bounds { length log.now ≤ length order.old }
     ensures { Answered (rules_of (profile_of shape masks.now moves.now) true) codes.now budget order.old order.new work.old work.new costs.old costs.new result }
 {
-    let built = termed_judge::fill_coded(work, shape, masks, moves, log, codes);
-    match built {
-        Built::Refused(r) => Closest::Refused(r),
-        Built::Filled { prefixes, looks } => closestfilled::answer(
-            work, prefixes, looks, shape, masks, moves, log, codes, budget, order, costs, true,
-        ),
-    }
+    let Filled { prefixes, looks } = termed_judge::fill_coded(
+        work, shape, masks, moves, log, codes,
+    )?;
+    closestfilled::answer(
+        work, prefixes, looks, shape, masks, moves, log, codes, budget, order, costs, true,
+    )
 }
 
 // The order closest to what was recorded, of a log with a day for each event and with terms, with a budget of pairs of a prefix and a state; refused as the
@@ -51,13 +50,10 @@ pub fn closest(
     work: &mut [u32],
     costs: &mut [u32],
     budget: u64,
-) -> Closest
+) -> Result<Closest, Refusal>
     ensures { Promise (profile_of shape masks.now moves.now) log.now days.now terms.now budget order.old order.new work.old work.new costs.old costs.new result }
 {
-    let refused_by = term_checks::check_call(shape, masks, moves, log, days, terms, order.len());
-    if let Err(r) = checked {
-        return Closest::Refused(r);
-    }
+    term_checks::check_call(shape, masks, moves, log, days, terms, order.len())?;
     let mut codes = [0u8; LONGEST];
     dates::code_events(log, days, terms, &mut codes);
     let n = log.len();

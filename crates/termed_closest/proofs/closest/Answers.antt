@@ -5,6 +5,7 @@ use mathlib.Core.Bool.{true}
 use mathlib.Core.Option.{none}
 use native.Mathlib.Omega.{arith}
 use lib.ListN.{length}
+use Rattle.std.proofs.lemmas.Result.{err_from_is_err_and}
 use Rattle.profile.specs.Automata.{profile_of}
 use Rattle.profile.specs.Refusals.{refused_by, lowest}
 use Rattle.terms.specs.Coded.{rules_of}
@@ -15,30 +16,32 @@ use Rattle.termed_judge.proofs.Codes.{coded_call, coded_front, coding}
 use Rattle.termed_closest.specs.CodedAnswers.{Answered}
 use Rattle.termed_closest.proofs.Codes.{told_early, told_late}
 use Rattle.termed_closest.proofs.closest.Goals as goal
-use Rattle.termed_closest.proofs.closest.Goals.{In_default}
+use Rattle.termed_closest.proofs.closest.Goals.{In_ok-check_call}
 
-pub returns-in-Err : goal.returns-in-Err
-returns-in-Err c =
+pub returns-in_err-check_call : goal.returns-in_err-check_call
+returns-in_err-check_call c =
     let a = c.args in
-    told_early (profile_of a.shape a.masks.now a.moves.now) a.log.now a.days.now a.terms.now a.budget a.order.now a.work.now a.costs.now c.in-Err.r (sym c.check_call-checked.ensures ∙ ap refused_by c.in-Err.is)
+    let e = err_from_is_err_and c.from_residual.result c.from_residual.ensures.1 in
+    rw (e.1, e.2) (told_early (profile_of a.shape a.masks.now a.moves.now) a.log.now a.days.now a.terms.now a.budget a.order.now a.work.now a.costs.now _
+    (sym c.check_call.ensures ∙ ap refused_by c.in_err-check_call.was))
 
 -- nothing but 10 and 17 can refuse
-unrefused : (c : In_default) → let a = c.args in lowest (dated_admission (profile_of a.shape a.masks.now a.moves.now) a.log.now a.days.now a.terms.now (length a.order.now)) ≡ none
-unrefused c = sym c.check_call-checked.ensures ∙ ap refused_by c.in_default.is
+unrefused : (c : In_ok-check_call) → let a = c.args in lowest (dated_admission (profile_of a.shape a.masks.now a.moves.now) a.log.now a.days.now a.terms.now (length a.order.now)) ≡ none
+unrefused c = sym c.check_call.ensures ∙ ap refused_by c.in_ok-check_call.was
 
-admitted : (c : In_default) → let a = c.args in DatedAdmitted (profile_of a.shape a.masks.now a.moves.now) a.log.now a.days.now a.terms.now (length a.order.now)
+admitted : (c : In_ok-check_call) → let a = c.args in DatedAdmitted (profile_of a.shape a.masks.now a.moves.now) a.log.now a.days.now a.terms.now (length a.order.now)
 admitted c = let a = c.args in dated_admitted (profile_of a.shape a.masks.now a.moves.now) a.log.now a.days.now a.terms.now (length a.order.now) (unrefused c)
 
 pub code_events-requires : goal.code_events-requires
-code_events-requires c = let a = c.args in let x = admitted (goal.at.code_events-requires c).In_default in coding (profile_of a.shape a.masks.now a.moves.now) a.log.now a.days.now a.terms.now x 4000 x.log.short
+code_events-requires c = let a = c.args in let x = admitted (goal.at.code_events-requires c).In_ok-check_call in coding (profile_of a.shape a.masks.now a.moves.now) a.log.now a.days.now a.terms.now x 4000 x.log.short
 
 pub slice_bounds-closest_coded-end : goal.slice_bounds-closest_coded-end
-slice_bounds-closest_coded-end c = let x = admitted (goal.at.slice_bounds-closest_coded-end c).In_default in omega (arith, x.log.short, c.code_events.auto.codes)
+slice_bounds-closest_coded-end c = let x = admitted (goal.at.slice_bounds-closest_coded-end c).In_ok-check_call in omega (arith, x.log.short, c.code_events.auto.codes)
 
 pub closest_coded-requires : goal.closest_coded-requires
 closest_coded-requires c =
     let a = c.args in
-    let x = admitted (goal.at.closest_coded-requires c).In_default in
+    let x = admitted (goal.at.closest_coded-requires c).In_ok-check_call in
     let front = coded_front (profile_of a.shape a.masks.now a.moves.now) a.log.now a.days.now a.terms.now x _ _ c.code_events.ensures in
     record {
       coded_call = subst (CodedCall (profile_of a.shape a.masks.now a.moves.now) a.log.now) (sym front) (coded_call (profile_of a.shape a.masks.now a.moves.now) a.log.now a.days.now a.terms.now x);
@@ -48,7 +51,7 @@ closest_coded-requires c =
 pub returns : goal.returns
 returns c =
     let a = c.args in
-    let told = (goal.at.returns c).In_default in
+    let told = (goal.at.returns c).In_ok-check_call in
     let x = admitted told in
     let j = c.closest_coded in
     told_late (profile_of a.shape a.masks.now a.moves.now) a.log.now a.days.now a.terms.now a.budget a.order.now a.work.now a.costs.now (unrefused told) _ _ _ j.result
