@@ -6,27 +6,29 @@ ghost use Rattle.profile.specs.Automata.{profile_of};
 ghost use Rattle.closest_calls.specs.Calls.{Closing, TermClosing, closest_code, closest_told};
 
 use closestanswer::Closest;
-use profile::Shape;
+use profile::{Refusal, Shape};
 
 // Tells the place, the verdict, P, looks, the order's swaps and the floor.
-fn tell_closest(answer: Closest, told: &mut [u64; 6]) -> u32
+fn tell_closest(answer: Result<Closest, Refusal>, told: &mut [u64; 6]) -> u32
     ensures { (result ≡ closest_code answer) × (told.new ≡ closest_told answer) }
 {
     match answer {
-        Closest::Refused(r) => {
+        Err(r) => {
             *told = [refusals::place(r) as u64, 0, 0, 0, 0, 0];
             refusals::number(r)
         }
-        Closest::NoOrder { prefixes, looks } => {
+        Ok(Closest::NoOrder { prefixes, looks }) => {
             *told = [0, 0, prefixes as u64, looks, 0, 0];
             0
         }
-        Closest::Order {
-            prefixes,
-            looks,
-            swaps,
-            floor,
-        } => {
+        Ok(
+            Closest::Order {
+                prefixes,
+                looks,
+                swaps,
+                floor,
+            },
+        ) => {
             *told = [0, 1, prefixes as u64, looks, swaps as u64, floor as u64];
             0
         }
