@@ -75,6 +75,7 @@ fn gives(t: &[u32], j: usize, b: usize, c: Counts) -> bool
 }
 
 // One more than the place of a record from `from` to before i that gives c by one more of b; 0 where there is none. The search goes back from i.
+// Kept: 0 for none is no plainer as an Option: a place counts the records up to it, so it begins the next search and bounds the table as it is.
 fn search_back(t: &[u32], from: usize, i: usize, b: usize, c: Counts) -> usize
     requires { record_length layout * i ≤ length t.now }
     ensures { Scanned (gives? t.now b (words c)) from i result }
@@ -109,8 +110,9 @@ fn count(c: Counts, b: usize) -> usize
     counts::count_of(&row, b)
 }
 
-// One more than the place of c with one b less among the new records before record i, where c is to stand; 0 where there is none. `before` is the same for record i − 1. Records with one h of events after the last b of c stand
-// side by side, those without that b directly before those with it: so c begins such a run where record i − 1 has fewer b, and else continues the run of record i − 1, if that has one b less at all.
+// One more than the place of c with one b less among the new records before record i, where c is to stand; 0 where there is none. `before` is the
+// same for record i − 1. Records with one h of events after the last b of c stand side by side, those without that b directly before those with it:
+// so c begins such a run where record i − 1 has fewer b, and else continues the run of record i − 1, if that has one b less at all.
 fn place_less(t: &[u32], first: usize, i: usize, b: usize, c: Counts, before: usize) -> usize
     requires { (b < most_letters) × (1 ≤ i) × (record_length layout * i ≤ length t.now) }
     ensures { PlaceTold t.now first i b (words c) before result }

@@ -97,6 +97,7 @@ pub fn step(
     ensures { StepPromise (profile_of shape masks.now moves.now) letter held result.held table.old table.new result.answer }
 {
     let room = records::capacity(table);
+    // Kept: no `?` here, since a refused event gives back its record too.
     if let Err(r) = check_event(shape, masks, moves, letter, held, room) {
         return refuse(held, r);
     }
