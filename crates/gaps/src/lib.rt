@@ -13,6 +13,7 @@ use counts::count_of;
 use profile::limits::COUNT_NUMBERS;
 
 // The events between two prefixes: the first is not inside the second; or there is one, of this letter; or their number is another.
+// Kept: an enum of three cases, which an Option of an Option would only hide.
 #[derive(Clone, Copy)]
 pub enum Gap {
     Outside,

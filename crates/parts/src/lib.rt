@@ -36,6 +36,7 @@ fn meeting(rules: &[u16], row: &[u16], column: &[u16], from: usize, to: usize, n
             };
         }
     }
+    // Kept: not met, since two parts meet; an Option would make callers test for what cannot be.
     Split {
         at: to,
         first: 0,

@@ -11,6 +11,7 @@ pub const MOST_NAMES: usize = 16;
 pub const MOST_RULES: usize = 64;
 
 // The digits of a rule.
+// Kept: the C interface hands a rule, and its kind, as a number of 16 bits.
 pub fn kind(x: u16) -> usize
     ensures { result ≡ kind_of x }
 {
