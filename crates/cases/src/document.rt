@@ -1,7 +1,7 @@
 // The cases of document 01 by their numbers, and every length of table for Alt.
 use crate::each::compare_log;
 use profile::Shape;
-use trial::cells::{equal8, part8, part16, part32, plus, times};
+use trial::cells::{part_of, plus, times};
 use trial::shapes::alt;
 use trial::tally;
 use trial::tally::Tally;
@@ -24,7 +24,7 @@ fn order_listed(
     if verdict == 0 {
         best == count
     } else {
-        (best < count) & equal8(row(rows, best, order.len()), order)
+        (best < count) & (row(rows, best, order.len()) == order)
     }
 }
 
@@ -56,15 +56,15 @@ fn compare_case(shape: Shape, masks: &[u16], moves: &[u32], text: &[u8], t: Tall
         shape,
         masks,
         moves,
-        part8(&log, 0, n),
-        part8(&order, 0, n),
+        part_of(&log, 0, n),
+        part_of(&order, 0, n),
         text,
     );
     compare_log(
         shape,
         masks,
         moves,
-        part8(&log, 0, n),
+        part_of(&log, 0, n),
         0,
         tally::edge(t, right),
     )
@@ -80,9 +80,9 @@ fn case(line: &[u8], t: Tally) -> Tally {
     put_moves_in(line, many, &mut moves);
     compare_case(
         shape,
-        part16(&masks, shape.k),
-        part32(&moves, many),
-        part8(line, at, trial::cells::minus(line.len(), at)),
+        part_of(&masks, 0, shape.k),
+        part_of(&moves, 0, many),
+        part_of(line, at, trial::cells::minus(line.len(), at)),
         t,
     )
 }

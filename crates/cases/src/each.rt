@@ -1,6 +1,6 @@
 // What is compared of each log of a profile, and every log up to a length.
 use profile::Shape;
-use trial::cells::{part8, part16, part32, times};
+use trial::cells::{part_of, times};
 use trial::logs::{log_count, put_log_number};
 use trial::tally::Tally;
 use trial::text_rows::{digit, put_masks_in, put_moves_in, rest_at, shape_in};
@@ -22,7 +22,7 @@ pub fn compare_log(
 fn compare_number(shape: Shape, masks: &[u16], moves: &[u32], v: usize, t: Tally) -> Tally {
     let mut log = [0u8; 8];
     let n = put_log_number(shape.k, v, &mut log);
-    compare_log(shape, masks, moves, part8(&log, 0, n), v, t)
+    compare_log(shape, masks, moves, part_of(&log, 0, n), v, t)
 }
 
 // Every log of 0 to `longest` letters.
@@ -44,8 +44,8 @@ pub fn every_log(row: &[u8], t: Tally) -> Tally {
     put_moves_in(row, many, &mut moves);
     compare_numbers(
         shape,
-        part16(&masks, shape.k),
-        part32(&moves, many),
+        part_of(&masks, 0, shape.k),
+        part_of(&moves, 0, many),
         digit(row, rest_at(shape)),
         t,
     )
@@ -57,7 +57,7 @@ fn compare_two(k: usize, masks: &[u16], v: usize, w: usize, t: Tally) -> Tally {
     let mut second = [0u8; 8];
     let n = put_log_number(k, v, &mut first);
     let m = put_log_number(k, w, &mut second);
-    compare_with(k, masks, part8(&first, 0, n), part8(&second, 0, m), t)
+    compare_with(k, masks, part_of(&first, 0, n), part_of(&second, 0, m), t)
 }
 
 fn compare_with_all(k: usize, masks: &[u16], v: usize, all: usize, t: Tally) -> Tally {
@@ -81,5 +81,5 @@ pub fn pairs_of(row: &[u8], longest: usize, t: Tally) -> Tally {
     let mut masks = [0u16; 16];
     let k = digit(row, 0);
     put_masks_in(row, &mut masks);
-    compare_all(k, part16(&masks, k), log_count(k, longest), t)
+    compare_all(k, part_of(&masks, 0, k), log_count(k, longest), t)
 }

@@ -1,7 +1,7 @@
 // Random profiles, with random logs.
 use crate::each::compare_log;
 use profile::Shape;
-use trial::cells::{at8, byte, minus, part8, part16, part32, plus, put8, times};
+use trial::cells::{byte, byte_at, minus, part_of, plus, put, times};
 use trial::random::{below, put_log, put_masks, put_moves, random_shape, seed_of};
 use trial::tally::Tally;
 use trial_logs::orders::compare_with;
@@ -15,17 +15,17 @@ fn near_letter(seed: usize, k: usize, log: &[u8], i: usize) -> usize {
         return below(seed, 4, k);
     }
     if (kind < 2) & (i == a) {
-        return at8(log, b);
+        return byte_at(log, b);
     }
     if (kind < 2) & (i == b) {
-        return at8(log, a);
+        return byte_at(log, a);
     }
-    at8(log, i)
+    byte_at(log, i)
 }
 
 fn put_near(seed: usize, k: usize, log: &[u8], near: &mut [u8]) {
     for i in 0..log.len() {
-        put8(near, i, byte(near_letter(seed, k, log, i)));
+        put(near, i, byte(near_letter(seed, k, log, i)));
     }
 }
 
@@ -34,7 +34,7 @@ fn compare_near(seed: usize, k: usize, masks: &[u16], log: &[u8], t: Tally) -> T
     let mut near = [0u8; 8];
     put_near(seed, k, log, &mut near);
     let less = if below(seed, 3, 4) == 3 { 1 } else { 0 };
-    compare_with(k, masks, log, part8(&near, 0, minus(log.len(), less)), t)
+    compare_with(k, masks, log, part_of(&near, 0, minus(log.len(), less)), t)
 }
 
 // A random log of up to `longest` letters, and one near it.
@@ -49,7 +49,7 @@ fn random_log(
     let mut letters = [0u8; 8];
     let n = below(seed, 10, plus(longest, 1));
     put_log(seed, shape.k, n, &mut letters);
-    let log = part8(&letters, 0, n);
+    let log = part_of(&letters, 0, n);
     let compared = compare_log(shape, masks, moves, log, below(seed, 11, 1000), t);
     compare_near(seed, shape.k, masks, log, compared)
 }
@@ -79,8 +79,8 @@ fn random_profile(seed: usize, k: usize, s: usize, longest: usize, t: Tally) -> 
     random_logs(
         seed,
         random_shape(seed, k, s),
-        part16(&masks, k),
-        part32(&moves, times(s, k)),
+        part_of(&masks, 0, k),
+        part_of(&moves, 0, times(s, k)),
         longest,
         t,
     )

@@ -4,7 +4,7 @@
 
 use profile::Shape;
 use std::io;
-use trial::cells::{part8, part16, part32, plus, times};
+use trial::cells::{part_of, plus, times};
 use trial::logs::{log_count, put_log_number};
 use trial::random::{below, put_log, put_masks, put_moves, random_shape, seed_of};
 use trial::shapes::{alt, shape_of};
@@ -88,7 +88,7 @@ fn with_log(
         shape,
         masks,
         moves,
-        part8(&log, 0, n),
+        part_of(&log, 0, n),
         dated_for(seed, n, with_terms),
         below(seed, 15, 1000),
         t,
@@ -104,8 +104,8 @@ fn one_profile(seed: usize, with_terms: bool, t: Tally) -> Tally {
     put_moves(seed, s, k, &mut moves);
     with_log(
         random_shape(seed, k, s),
-        part16(&masks, k),
-        part32(&moves, times(s, k)),
+        part_of(&masks, 0, k),
+        part_of(&moves, 0, times(s, k)),
         seed,
         with_terms,
         t,
@@ -143,7 +143,7 @@ fn compare_two(v: usize, pairs: usize, dated: Dated, t: Tally) -> Tally {
     let all = [1u32, 1];
     let masks = [((pairs % 2) * 2) as u16, (pairs / 2 % 2) as u16];
     let n = put_log_number(2, v, &mut log);
-    let word = part8(&log, 0, n);
+    let word = part_of(&log, 0, n);
     let first = compare_log(alt(), &masks, &moves, word, dated, v, t);
     compare_log(
         shape_of(2, 1, 0, 1),

@@ -4,7 +4,7 @@
 
 use profile::Shape;
 use std::io;
-use trial::cells::{part8, part16, part32, plus, times};
+use trial::cells::{part_of, plus, times};
 use trial::random::{below, put_log, put_moves, random_shape, seed_of};
 use trial::tally;
 use trial::tally::Tally;
@@ -24,8 +24,8 @@ fn compare_one(k: usize, masks: &[u16], longer: &[u16], seed: usize, t: Tally) -
         shape,
         masks,
         longer,
-        part32(&moves, times(s, k)),
-        part8(&letters, 0, n),
+        part_of(&moves, 0, times(s, k)),
+        part_of(&letters, 0, n),
         t,
     )
 }
@@ -54,8 +54,8 @@ fn compare_code(k: usize, code: usize, many: usize, t: Tally) -> Tally {
     put_nested(code, k, true, &mut longer);
     compare_many(
         k,
-        part16(&masks, k),
-        part16(&longer, k),
+        part_of(&masks, 0, k),
+        part_of(&longer, 0, k),
         seed_of(code, k),
         many,
         t,

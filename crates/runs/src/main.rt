@@ -4,7 +4,7 @@
 
 use profile::Shape;
 use std::io;
-use trial::cells::{GUARD32, part16, part32, plus, times};
+use trial::cells::{Cell, part_of, plus, times};
 use trial::random::{below, put_masks, put_moves, random_shape, seed_of};
 use trial::tally;
 use trial::tally::Tally;
@@ -30,8 +30,8 @@ fn size_of(seed: usize) -> usize {
 }
 
 fn run_with(shape: Shape, masks: &[u16], moves: &[u32], seed: usize, t: Tally) -> Tally {
-    let mut numbers = [GUARD32; 1424];
-    let mut others = [GUARD32; 1424];
+    let mut numbers = [u32::GUARD; 1424];
+    let mut others = [u32::GUARD; 1424];
     let log = [0u8; 8];
     let run = Run {
         log: log,
@@ -63,8 +63,8 @@ fn one_run(seed: usize, t: Tally) -> Tally {
     let shape = random_shape(seed, k, s);
     run_with(
         shape,
-        part16(&masks, k),
-        part32(&moves, times(s, k)),
+        part_of(&masks, 0, k),
+        part_of(&moves, 0, times(s, k)),
         seed,
         t,
     )

@@ -1,6 +1,5 @@
 // The search in a table, and in the part of one total, against the place that the counts have in the listing.
 use crate::vectors::{box_size, change, counts_of, key_of, put_box, put_record};
-use search::Found;
 use trial::cells::{minus, plus};
 use trial::record_numbers::record_at;
 use trial::tally;
@@ -28,14 +27,6 @@ fn part_of(table: &[u32], first: usize, end: usize) -> &[u32] {
     &table[0..0]
 }
 
-// The answer is the record, or is absent with the number.
-fn told(found: Found, present: bool, number: usize) -> bool {
-    match found {
-        Found::At(i) => present & (i == number),
-        Found::Absent(i) => !present & (i == number),
-    }
-}
-
 // What is left of a place in the part from `first` to `end`.
 fn place_in(place: usize, first: usize, end: usize) -> usize {
     if place < end {
@@ -60,9 +51,9 @@ fn search_part(
     let listed = place_of(keys, prefixes, plus(key, 1)) != place;
     let present = listed & (first <= place) & (place < end);
     let found = search::find(part_of(table, first, end), counts_of(vector));
-    let right = told(found, present, place_in(place, first, end));
-    let many = if present { 1 } else { 0 };
-    let counted = tally::count_many(tally::count(t, SEARCHES), PRESENT, many);
+    let number = place_in(place, first, end);
+    let right = found == if present { Ok(number) } else { Err(number) };
+    let counted = tally::count_if(tally::count(t, SEARCHES), PRESENT, present);
     tally::expect(counted, WRONG, right)
 }
 

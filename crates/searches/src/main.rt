@@ -8,7 +8,7 @@ mod vectors;
 use crate::compare::{TABLES, search_box, search_records};
 use std::io;
 use trial::calls::{build_in, table_part};
-use trial::cells::{part8, part16, part32, plus};
+use trial::cells::{part_of, plus};
 use trial::logs::{log_count, put_log_number};
 use trial::random::{below, put_log, put_masks, seed_of};
 use trial::shapes::shape_of;
@@ -24,7 +24,7 @@ fn compare_log(k: usize, masks: &[u16], log: &[u8], t: Tally) -> Tally {
     build_in(
         shape_of(k, 1, 0, 1),
         masks,
-        part32(&moves, k),
+        part_of(&moves, 0, k),
         log,
         1400,
         &mut numbers,
@@ -42,7 +42,7 @@ fn compare_log(k: usize, masks: &[u16], log: &[u8], t: Tally) -> Tally {
 fn compare_number(k: usize, masks: &[u16], v: usize, t: Tally) -> Tally {
     let mut log = [0u8; 8];
     let n = put_log_number(k, v, &mut log);
-    compare_log(k, masks, part8(&log, 0, n), t)
+    compare_log(k, masks, part_of(&log, 0, n), t)
 }
 
 // Every log of up to five letters.
@@ -59,7 +59,7 @@ fn small_relation(seed: usize, part: usize, t: Tally) -> Tally {
     let mut masks = [0u16; 16];
     let k = plus(1, part % 3);
     put_masks(seed, k, part, &mut masks);
-    every_log(k, part16(&masks, k), t)
+    every_log(k, part_of(&masks, 0, k), t)
 }
 
 fn small_relations(seed: usize, t: Tally) -> Tally {
@@ -78,7 +78,7 @@ fn wide_log(seed: usize, t: Tally) -> Tally {
     let n = below(seed, 1, 8);
     put_masks(seed, k, plus(4, below(seed, 2, 5)), &mut masks);
     put_log(seed, k, n, &mut log);
-    compare_log(k, part16(&masks, k), part8(&log, 0, n), t)
+    compare_log(k, part_of(&masks, 0, k), part_of(&log, 0, n), t)
 }
 
 fn wide_logs(seed: usize, many: usize, t: Tally) -> Tally {

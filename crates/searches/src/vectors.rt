@@ -1,6 +1,6 @@
 // Count vectors: a count for each of the sixteen letters.
 use counts::Counts;
-use trial::cells::{at8, byte, minus, plus, put8, quotient, rest, times};
+use trial::cells::{byte, byte_at, minus, plus, put, quotient, rest, times};
 use trial::record_numbers::count_of;
 use trial_logs::place_keys::weight;
 
@@ -9,7 +9,7 @@ pub fn put_box(table: &[u32], last: usize, k: usize, v: usize, vector: &mut [u8]
     let mut left = v;
     for x in 0..k {
         let side = plus(count_of(table, last, x), 2);
-        put8(vector, x, byte(rest(left, side)));
+        put(vector, x, byte(rest(left, side)));
         left = quotient(left, side);
     }
 }
@@ -26,30 +26,30 @@ pub fn box_size(table: &[u32], last: usize, k: usize) -> usize {
 // The counts of record r.
 pub fn put_record(table: &[u32], r: usize, vector: &mut [u8]) {
     for x in 0..16 {
-        put8(vector, x, byte(count_of(table, r, x)));
+        put(vector, x, byte(count_of(table, r, x)));
     }
 }
 
 // One more of letter x, or one less, where there is one.
 pub fn change(vector: &mut [u8], x: usize, up: bool) {
-    let n = at8(vector, x);
+    let n = byte_at(vector, x);
     let next = if up { plus(n, 1) } else { minus(n, 1) };
-    put8(vector, x, byte(next));
+    put(vector, x, byte(next));
 }
 
 // The key of the vector, by which the listing orders prefixes.
 pub fn key_of(vector: &[u8]) -> usize {
     let mut key = 0;
     for x in 0..16 {
-        key = plus(key, times(at8(vector, x), weight(x)));
+        key = plus(key, times(byte_at(vector, x), weight(x)));
     }
     key
 }
 
 // Number i of the counts: "letter i in number i div 2, the even letter in the low half".
 fn number(vector: &[u8], i: usize) -> u32 {
-    let low = at8(vector, plus(i, i));
-    let high = at8(vector, plus(plus(i, i), 1));
+    let low = byte_at(vector, plus(i, i));
+    let high = byte_at(vector, plus(plus(i, i), 1));
     ((low | (high << 16)) % 4294967296) as u32
 }
 

@@ -4,7 +4,7 @@
 
 use profile::Shape;
 use std::io;
-use trial::cells::{minus, part8, part16, part32, plus, quotient, times};
+use trial::cells::{minus, part_of, plus, quotient, times};
 use trial::logs::log_count;
 use trial::random::{below, put_log, put_masks, put_moves, random_shape, seed_of};
 use trial::tally;
@@ -72,10 +72,10 @@ fn view_with(shape: Shape, masks: &[u16], moves: &[u32], seed: usize, t: Tally) 
     };
     let n = plus(most, below(seed, 16, 4));
     put_log(seed_of(seed, 17), shape.k, n, &mut letters);
-    let length = cut(view.visible, part8(&letters, 0, n), most, &mut part);
-    let log = part8(&letters, 0, length);
+    let length = cut(view.visible, part_of(&letters, 0, n), most, &mut part);
+    let log = part_of(&letters, 0, length);
     let m = put_visible(view.visible, log, &mut part);
-    compare(view, masks, moves, log, part8(&part, 0, m), seed, t)
+    compare(view, masks, moves, log, part_of(&part, 0, m), seed, t)
 }
 
 fn one_view(seed: usize, t: Tally) -> Tally {
@@ -88,8 +88,8 @@ fn one_view(seed: usize, t: Tally) -> Tally {
     let shape = random_shape(seed, k, s);
     view_with(
         shape,
-        part16(&masks, k),
-        part32(&moves, times(s, k)),
+        part_of(&masks, 0, k),
+        part_of(&moves, 0, times(s, k)),
         seed,
         t,
     )

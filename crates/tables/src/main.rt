@@ -4,7 +4,6 @@
 
 use profile::Shape;
 use std::io;
-use table::Built;
 
 fn say(rt: &impl Print, n: u64) -> io::Result<()> {
     print!(rt; "{n} ")
@@ -30,7 +29,7 @@ fn show(rt: &impl Print, shape: Shape, masks: &[u16], moves: &[u32], log: &[u8])
     let mut numbers = [7u32; 100];
     let built = table::build(shape, masks, moves, log, &mut numbers);
     match built {
-        Built::Refused(r) => {
+        Err(r) => {
             let number = refusals::number(r);
             print!(rt; "refused ")?;
             say(rt, wide(number))?;
@@ -38,9 +37,9 @@ fn show(rt: &impl Print, shape: Shape, masks: &[u16], moves: &[u32], log: &[u8])
                 return println!(rt;);
             }
         }
-        Built::Filled { prefixes, looks } => {
-            say(rt, prefixes as u64)?;
-            say(rt, looks)?;
+        Ok(filled) => {
+            say(rt, filled.prefixes as u64)?;
+            say(rt, filled.looks)?;
         }
     }
     println!(rt;)?;

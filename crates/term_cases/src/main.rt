@@ -4,7 +4,7 @@
 
 use profile::Shape;
 use std::io;
-use trial::cells::{part8, part16, part32, plus, times};
+use trial::cells::{part_of, plus, times};
 use trial::logs::{log_count, put_log_number};
 use trial::random::{below, put_log, put_masks, put_moves, random_shape, seed_of};
 use trial::shapes::alt;
@@ -57,15 +57,15 @@ fn compare_profile(shape: Shape, masks: &[u16], moves: &[u32], seed: usize, t: T
     put_log(seed_of(seed, 1), shape.k, n, &mut log);
     put_terms(seed_of(seed, 2), many, &mut terms);
     put_days(seed_of(seed, 3), n, few_of(seed, many), &terms, &mut days);
-    let word = part8(&log, 0, n);
-    let dates = part32(&days, n);
+    let word = part_of(&log, 0, n);
+    let dates = part_of(&days, 0, n);
     let compared = compare_dated(
         shape,
         masks,
         moves,
         word,
         dates,
-        part32(&terms, plus(many, many)),
+        part_of(&terms, 0, plus(many, many)),
         below(seed, 17, 1000),
         t,
     );
@@ -89,8 +89,8 @@ fn one_profile(seed: usize, t: Tally) -> Tally {
     put_moves(seed, s, k, &mut moves);
     compare_profile(
         random_shape(seed, k, s),
-        part16(&masks, k),
-        part32(&moves, times(s, k)),
+        part_of(&masks, 0, k),
+        part_of(&moves, 0, times(s, k)),
         seed,
         t,
     )
@@ -116,13 +116,13 @@ fn compare_halves(v: usize, halves: usize, pairs: usize, t: Tally) -> Tally {
         return t;
     }
     put_halves(halves, n, &terms, &mut days);
-    let word = part8(&log, 0, n);
+    let word = part_of(&log, 0, n);
     compare_dated(
         alt(),
         &masks,
         &moves,
         word,
-        part32(&days, n),
+        part_of(&days, 0, n),
         &terms,
         plus(v, halves),
         t,

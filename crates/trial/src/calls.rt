@@ -1,12 +1,22 @@
 // The tested calls on lent parts of guarded buffers: bytes are lent from 4 on, numbers from 8 on, so that a write before or past the part is seen.
 // Where the buffer is too small for the part there is no call and no answer.
-use crate::answers::{Answer, no_answer, of_built, of_judged, of_ordered, of_writing};
+use crate::answers::{Answer, of_built, of_judged, of_ordered, of_writing};
+use crate::cells::part_of;
 use profile::Shape;
 
 // Bytes and numbers before a lent part.
 pub const BYTES: usize = 4;
 
 pub const NUMBERS: usize = 8;
+
+// The n elements from `from` on, to be lent; none where the buffer has fewer.
+pub fn lent<T>(s: &mut [T], from: usize, n: usize) -> Option<&mut [T]> {
+    if from <= s.len() && n <= s.len() - from {
+        Some(&mut s[from..from + n])
+    } else {
+        None
+    }
+}
 
 pub fn judge_in(
     shape: Shape,
@@ -18,29 +28,9 @@ pub fn judge_in(
     buffer: &mut [u8],
     numbers: &mut [u32],
 ) -> Answer {
-    if 1000000 < room {
-        return no_answer();
-    }
-    if 1000000 < size {
-        return no_answer();
-    }
-    let stop = BYTES + room;
-    let end = NUMBERS + size;
-    if buffer.len() < stop {
-        return no_answer();
-    }
-    if numbers.len() < end {
-        return no_answer();
-    }
-    let judged = verdict::judge(
-        shape,
-        masks,
-        moves,
-        log,
-        &mut buffer[4..stop],
-        &mut numbers[8..end],
-    );
-    of_judged(judged)
+    let order = lent(buffer, BYTES, room)?;
+    let table = lent(numbers, NUMBERS, size)?;
+    of_judged(verdict::judge(shape, masks, moves, log, order, table))
 }
 
 pub fn build_in(
@@ -51,14 +41,8 @@ pub fn build_in(
     size: usize,
     numbers: &mut [u32],
 ) -> Answer {
-    if 1000000 < size {
-        return no_answer();
-    }
-    let end = NUMBERS + size;
-    if numbers.len() < end {
-        return no_answer();
-    }
-    of_built(table::build(shape, masks, moves, log, &mut numbers[8..end]))
+    let table = lent(numbers, NUMBERS, size)?;
+    of_built(table::build(shape, masks, moves, log, table))
 }
 
 pub fn first_order_in(
@@ -68,14 +52,8 @@ pub fn first_order_in(
     room: usize,
     buffer: &mut [u8],
 ) -> Answer {
-    if 1000000 < room {
-        return no_answer();
-    }
-    let stop = BYTES + room;
-    if buffer.len() < stop {
-        return no_answer();
-    }
-    of_ordered(order::first_order(k, masks, log, &mut buffer[4..stop]))
+    let order = lent(buffer, BYTES, room)?;
+    of_ordered(order::first_order(k, masks, log, order))
 }
 
 pub fn write_in(
@@ -86,21 +64,11 @@ pub fn write_in(
     room: usize,
     buffer: &mut [u8],
 ) -> Answer {
-    if 1000000 < room {
-        return no_answer();
-    }
-    let stop = BYTES + room;
-    if buffer.len() < stop {
-        return no_answer();
-    }
-    of_writing(filewriter::write_file(shape, masks, moves, log, &mut buffer[4..stop]))
+    let file = lent(buffer, BYTES, room)?;
+    of_writing(filewriter::write_file(shape, masks, moves, log, file))
 }
 
 // The table that begins behind the margin.
 pub fn table_part(numbers: &[u32]) -> &[u32] {
-    if NUMBERS <= numbers.len() {
-        &numbers[8..]
-    } else {
-        &numbers[0..0]
-    }
+    part_of(numbers, NUMBERS, numbers.len().saturating_sub(NUMBERS))
 }

@@ -1,39 +1,38 @@
 // Reads, writes and sums that are total: past the end a read is 0 and a write is none, so that a wrong answer of a tested call is counted and
 // cannot stop the test.
 
-pub fn wide8(x: u8) -> usize {
-    x as usize
+// A type of the numbers that are lent to a call.
+pub trait Cell: Copy + PartialEq {
+    // A value that no tested call writes: letters lie below 16, and no profile here has these states or letters.
+    const GUARD: Self;
 }
 
-pub fn wide32(x: u32) -> usize {
-    x as usize
+impl Cell for u8 {
+    const GUARD: u8 = 165;
 }
 
-pub fn at8(s: &[u8], i: usize) -> usize {
-    if i < s.len() { wide8(s[i]) } else { 0 }
+impl Cell for u16 {
+    const GUARD: u16 = 42405;
 }
 
-pub fn at16(s: &[u16], i: usize) -> u16 {
-    if i < s.len() { s[i] } else { 0 }
+impl Cell for u32 {
+    const GUARD: u32 = 2779096485;
 }
 
-pub fn at32(s: &[u32], i: usize) -> u32 {
-    if i < s.len() { s[i] } else { 0 }
+pub fn wide(x: impl Into<u64>) -> usize {
+    x.into() as usize
 }
 
-pub fn put8(s: &mut [u8], i: usize, v: u8) {
-    if i < s.len() {
-        s[i] = v;
-    }
+pub fn value_at<T: Copy + Default>(s: &[T], i: usize) -> T {
+    s.get(i).copied().unwrap_or_default()
 }
 
-pub fn put16(s: &mut [u16], i: usize, v: u16) {
-    if i < s.len() {
-        s[i] = v;
-    }
+// Byte i as a number.
+pub fn byte_at(s: &[u8], i: usize) -> usize {
+    wide(value_at(s, i))
 }
 
-pub fn put32(s: &mut [u32], i: usize, v: u32) {
+pub fn put<T: Copy>(s: &mut [T], i: usize, v: T) {
     if i < s.len() {
         s[i] = v;
     }
@@ -45,129 +44,76 @@ pub fn byte(v: usize) -> u8 {
 }
 
 pub fn plus(a: usize, b: usize) -> usize {
-    std::num::wrapping_add_usize(a, b)
+    a.wrapping_add(b)
 }
 
 // a - b, and 0 where b is larger.
 pub fn minus(a: usize, b: usize) -> usize {
-    if b <= a { a - b } else { 0 }
+    a.saturating_sub(b)
 }
 
 pub fn times(a: usize, b: usize) -> usize {
-    let mut sum = 0;
-    for _ in 0..a {
-        sum = plus(sum, b);
-    }
-    sum
+    a.wrapping_mul(b)
 }
 
 // v div d and v mod d; 0 where d is.
 pub fn quotient(v: usize, d: usize) -> usize {
-    if 0 < d { v / d } else { 0 }
+    v.checked_div(d).unwrap_or(0)
 }
 
 pub fn rest(v: usize, d: usize) -> usize {
-    if 0 < d { v % d } else { 0 }
+    v.checked_rem(d).unwrap_or(0)
 }
 
 // Bit i of v.
 pub fn bit(v: usize, i: usize) -> bool {
-    if i < 64 { (v >> i) & 1 == 1 } else { false }
+    i < 64 && (v >> i) & 1 == 1
 }
 
 pub fn one32(i: usize) -> u32 {
-    if i < 32 { 1u32 << i } else { 0 }
+    if i < 32 { 1 << i } else { 0 }
 }
 
 pub fn one16(i: usize) -> u16 {
-    if i < 16 { 1u16 << i } else { 0 }
+    if i < 16 { 1 << i } else { 0 }
 }
 
 // The part from `from` on with `n` elements; none where that is not inside.
-pub fn part8(s: &[u8], from: usize, n: usize) -> &[u8] {
-    if from <= s.len() {
-        if n <= s.len() - from {
-            let end = from + n;
-            return &s[from..end];
-        }
+pub fn part_of<T>(s: &[T], from: usize, n: usize) -> &[T] {
+    if from <= s.len() && n <= s.len() - from {
+        &s[from..from + n]
+    } else {
+        &s[..0]
     }
-    &s[0..0]
 }
 
-pub fn part16(s: &[u16], n: usize) -> &[u16] {
-    if n <= s.len() { &s[0..n] } else { &s[0..0] }
-}
-
-pub fn part32(s: &[u32], n: usize) -> &[u32] {
-    if n <= s.len() { &s[0..n] } else { &s[0..0] }
-}
-
-pub fn copy8(from: &[u8], to: &mut [u8]) {
-    for i in 0..from.len() {
-        put8(to, i, byte(at8(from, i)));
+// Writes as many elements as fit at the front.
+pub fn copy<T: Copy>(from: &[T], to: &mut [T]) {
+    for (x, v) in to.iter_mut().zip(from) {
+        *x = *v;
     }
 }
 
 // Writes v at n places from `from` on.
-pub fn put_run(s: &mut [u8], from: usize, n: usize, v: u8) {
-    for i in 0..n {
-        put8(s, plus(from, i), v);
+pub fn put_run<T: Copy>(s: &mut [T], from: usize, n: usize, v: T) {
+    for x in s.iter_mut().skip(from).take(n) {
+        *x = v;
     }
 }
-
-pub fn equal8(a: &[u8], b: &[u8]) -> bool {
-    if a.len() != b.len() {
-        return false;
-    }
-    for i in 0..a.len() {
-        if at8(a, i) != at8(b, i) {
-            return false;
-        }
-    }
-    true
-}
-
-// Values that no tested call writes: letters lie below 16, and no profile here has these states or letters.
-pub const GUARD8: u8 = 165;
-
-pub const GUARD16: u16 = 42405;
-
-pub const GUARD32: u32 = 2779096485;
 
 // The place stands in the n elements from `from` on.
 fn inside(i: usize, from: usize, n: usize) -> bool {
-    if i < from { false } else { i - from < n }
+    from <= i && i - from < n
 }
 
 // Every element is the guard, but for the n from `from` on.
-pub fn untouched8(s: &[u8], from: usize, n: usize) -> bool {
-    for i in 0..s.len() {
-        if at8(s, i) != wide8(GUARD8) && !inside(i, from, n) {
-            return false;
-        }
-    }
-    true
-}
-
-pub fn untouched16(s: &[u16], from: usize, n: usize) -> bool {
-    for i in 0..s.len() {
-        if at16(s, i) != GUARD16 && !inside(i, from, n) {
-            return false;
-        }
-    }
-    true
-}
-
-pub fn untouched32(s: &[u32], from: usize, n: usize) -> bool {
-    for i in 0..s.len() {
-        if at32(s, i) != GUARD32 && !inside(i, from, n) {
-            return false;
-        }
-    }
-    true
+pub fn untouched<T: Cell>(s: &[T], from: usize, n: usize) -> bool {
+    s.iter()
+        .enumerate()
+        .all(|(i, x)| *x == T::GUARD || inside(i, from, n))
 }
 
 // The bytes stand from `from` on, and around them is the guard.
-pub fn holds8(s: &[u8], from: usize, bytes: &[u8]) -> bool {
-    untouched8(s, from, bytes.len()) & equal8(part8(s, from, bytes.len()), bytes)
+pub fn holds(s: &[u8], from: usize, bytes: &[u8]) -> bool {
+    untouched(s, from, bytes.len()) & (part_of(s, from, bytes.len()) == bytes)
 }

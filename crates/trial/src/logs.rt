@@ -1,5 +1,5 @@
 // Every log up to a length, by its number.
-use crate::cells::{byte, plus, put8, quotient, rest, times};
+use crate::cells::{byte, plus, put, quotient, rest, times};
 
 // How many logs of 0 to `longest` letters there are.
 pub fn log_count(k: usize, longest: usize) -> usize {
@@ -17,7 +17,7 @@ pub fn put_log_number(k: usize, v: usize, log: &mut [u8]) -> usize {
         if left == 0 {
             return i;
         }
-        put8(log, i, byte(rest(left - 1, k)));
+        put(log, i, byte(rest(left - 1, k)));
         left = quotient(left - 1, k);
     }
     8

@@ -1,5 +1,5 @@
 // Numbers from a seed, with no state: number i of a seed is mixed from the two (xorshift). Profiles and logs made of them.
-use crate::cells::{byte, one16, one32, plus, put8, put16, put32, rest, times};
+use crate::cells::{byte, one16, one32, plus, put, rest, times};
 use crate::shapes::shape_of;
 use profile::Shape;
 
@@ -60,7 +60,7 @@ fn mask_of(seed: usize, k: usize, part: usize, i: usize) -> u16 {
 // Masks of k letters, of which about `part` of 8 pairs may be exchanged.
 pub fn put_masks(seed: usize, k: usize, part: usize, masks: &mut [u16]) {
     for i in 0..k {
-        put16(masks, i, mask_of(seed, k, part, i));
+        put(masks, i, mask_of(seed, k, part, i));
     }
 }
 
@@ -81,7 +81,7 @@ fn few_states(seed: usize, s: usize) -> u32 {
 // Moves of s states and k letters.
 pub fn put_moves(seed: usize, s: usize, k: usize, moves: &mut [u32]) {
     for i in 0..times(s, k) {
-        put32(moves, i, few_states(seed_of(seed, i), s));
+        put(moves, i, few_states(seed_of(seed, i), s));
     }
 }
 
@@ -94,6 +94,6 @@ pub fn random_shape(seed: usize, k: usize, s: usize) -> Shape {
 // The first n letters of a log over k letters.
 pub fn put_log(seed: usize, k: usize, n: usize, log: &mut [u8]) {
     for i in 0..n {
-        put8(log, i, byte(below(seed, i, k)));
+        put(log, i, byte(below(seed, i, k)));
     }
 }

@@ -1,6 +1,6 @@
 // The numbers of a table by document 02's words: "a record takes ten numbers: eight with two counts each (letter i in number i div 2, the even letter in
 // the low half), then forward and backward".
-use crate::cells::{at32, plus, wide32};
+use crate::cells::{plus, value_at, wide};
 
 pub const RECORD: usize = 10;
 
@@ -15,9 +15,9 @@ pub fn record_at(r: usize) -> usize {
 
 // The count of a letter in record r.
 pub fn count_of(table: &[u32], r: usize, letter: usize) -> usize {
-    let word = at32(table, plus(record_at(r), letter / 2));
+    let word = value_at(table, plus(record_at(r), letter / 2));
     let shift = 16 * (letter % 2);
-    wide32((word >> shift) & 65535)
+    wide((word >> shift) & 65535)
 }
 
 // The total of record r.
@@ -31,5 +31,5 @@ pub fn total_of(table: &[u32], r: usize) -> usize {
 
 // The set of states of record r that is the number FORWARD or BACKWARD.
 pub fn set_of(table: &[u32], r: usize, number: usize) -> u32 {
-    at32(table, plus(record_at(r), number))
+    value_at(table, plus(record_at(r), number))
 }

@@ -1,5 +1,5 @@
 // How much was compared, and what was wrong: counters by value, so that a test that shrinks or fails shows in what is printed.
-use crate::cells::{part8, plus};
+use crate::cells::{part_of, plus};
 use std::io;
 
 #[derive(Clone, Copy)]
@@ -101,6 +101,10 @@ pub fn count(t: Tally, which: usize) -> Tally {
     count_many(t, which, 1)
 }
 
+pub fn count_if(t: Tally, which: usize, yes: bool) -> Tally {
+    if yes { count(t, which) } else { t }
+}
+
 // Counts a wrong comparison of the group.
 pub fn expect(t: Tally, group: usize, right: bool) -> Tally {
     if right { t } else { count(t, group) }
@@ -149,7 +153,7 @@ fn say_byte(
     which: usize,
     step: usize,
 ) -> io::Result<usize> {
-    let one = part8(text, i, 1);
+    let one = part_of(text, i, 1);
     if one.len() == 1 {
         if one[0] == b'#' {
             rt.print(cell(t, which))?;

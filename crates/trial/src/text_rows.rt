@@ -1,12 +1,12 @@
 // Profiles as rows of text, a hexadecimal digit for each number: k, s, start and final set; the k masks; the s × k moves; then what the row is for.
 //
 //     2201 21 2001 ...    Alt of document 01
-use crate::cells::{at8, byte, minus, plus, put8, put16, put32, times};
+use crate::cells::{byte, byte_at, minus, plus, put, times};
 use crate::shapes::shape_of;
 use profile::Shape;
 
 pub fn digit(row: &[u8], i: usize) -> usize {
-    let c = at8(row, i);
+    let c = byte_at(row, i);
     if c < 58 { minus(c, 48) } else { minus(c, 87) }
 }
 
@@ -29,7 +29,7 @@ pub fn rest_at(shape: Shape) -> usize {
 
 pub fn put_masks_in(row: &[u8], masks: &mut [u16]) {
     for i in 0..digit(row, 0) {
-        put16(masks, i, digit16(row, plus(5, i)));
+        put(masks, i, digit16(row, plus(5, i)));
     }
 }
 
@@ -37,13 +37,13 @@ pub fn put_masks_in(row: &[u8], masks: &mut [u16]) {
 pub fn put_moves_in(row: &[u8], n: usize, moves: &mut [u32]) {
     let at = plus(6, digit(row, 0));
     for i in 0..n {
-        put32(moves, i, digit32(row, plus(at, i)));
+        put(moves, i, digit32(row, plus(at, i)));
     }
 }
 
 // The n letters that stand from `at` on.
 pub fn put_letters_in(row: &[u8], at: usize, n: usize, log: &mut [u8]) {
     for i in 0..n {
-        put8(log, i, byte(digit(row, plus(at, i))));
+        put(log, i, byte(digit(row, plus(at, i))));
     }
 }

@@ -1,6 +1,6 @@
 // The edges of the ceiling and its refusals, and every combination of conditions.
 use crate::compare::{COMBINATION, COMBINED, EDGE, EDGES, tells};
-use trial::cells::{bit, byte, one16, part8, part16, plus, put_run, put8, put16};
+use trial::cells::{bit, byte, one16, part_of, plus, put, put_run};
 use trial::tally;
 use trial::tally::Tally;
 
@@ -26,19 +26,19 @@ fn compare_numbers(t: Tally) -> Tally {
     let groups = [65535u16; 17];
     let singles = SINGLES;
     let log = [3u8, 0, 15];
-    let none = edge(t, tells(16, &masks, &log, part16(&groups, 0), 18, 0, 0));
-    let one = edge(none, tells(16, &masks, &log, part16(&groups, 1), 0, 0, 4));
-    let two = edge(one, tells(16, &masks, &log, part16(&groups, 2), 0, 0, 16));
+    let none = edge(t, tells(16, &masks, &log, part_of(&groups, 0, 0), 18, 0, 0));
+    let one = edge(none, tells(16, &masks, &log, part_of(&groups, 0, 1), 0, 0, 4));
+    let two = edge(one, tells(16, &masks, &log, part_of(&groups, 0, 2), 0, 0, 16));
     let most = edge(
         two,
-        tells(16, &masks, &log, part16(&groups, 15), 0, 0, 1073741824),
+        tells(16, &masks, &log, part_of(&groups, 0, 15), 0, 0, 1073741824),
     );
-    let high = edge(most, tells(16, &masks, &log, part16(&groups, 16), 19, 0, 0));
-    let seventeen = edge(high, tells(16, &masks, &log, part16(&groups, 17), 18, 0, 0));
+    let high = edge(most, tells(16, &masks, &log, part_of(&groups, 0, 16), 19, 0, 0));
+    let seventeen = edge(high, tells(16, &masks, &log, part_of(&groups, 0, 17), 18, 0, 0));
     let right = edge(seventeen, tells(16, &masks, &log, &singles, 0, 0, 8));
     edge(
         right,
-        tells(16, &masks, &log, part16(&singles, 15), 18, 0, 0),
+        tells(16, &masks, &log, part_of(&singles, 0, 15), 18, 0, 0),
     )
 }
 
@@ -49,7 +49,7 @@ fn compare_above(t: Tally) -> Tally {
     let mut log = [0u8; 48];
     put_threes(&mut log);
     let above = edge(t, tells(16, &masks, &log, &singles, 19, 0, 0));
-    let less = part8(&log, 0, 47);
+    let less = part_of(&log, 0, 47);
     edge(above, tells(16, &masks, less, &singles, 0, 0, 3221225472))
 }
 
@@ -70,7 +70,7 @@ fn compare_highest(t: Tally) -> Tally {
     let groups = [1u16, 2, 4, 8, 16, 32, 64];
     let mut log = [0u8; 538];
     put_sevens(&mut log);
-    let less = part8(&log, 0, 537);
+    let less = part_of(&log, 0, 537);
     let highest = edge(t, tells(7, &masks, less, &groups, 0, 0, 4294967292));
     edge(highest, tells(7, &masks, &log, &groups, 19, 0, 0))
 }
@@ -80,7 +80,7 @@ fn compare_logs(t: Tally) -> Tally {
     let log = [0u8; 4001];
     let one = [1u16; 1];
     let none = [0u16; 1];
-    let long = edge(t, tells(1, &none, part8(&log, 0, 4000), &one, 0, 0, 4001));
+    let long = edge(t, tells(1, &none, part_of(&log, 0, 4000), &one, 0, 0, 4001));
     let longer = edge(long, tells(1, &none, &log, &one, 7, 0, 0));
     let bad = [0u8, 0, 1, 2];
     let letter = edge(longer, tells(1, &none, &bad, &one, 8, 2, 0));
@@ -124,7 +124,7 @@ fn pick(yes: bool, a: usize, b: usize) -> usize {
 // Three events of each letter, then letter 0, or one of them with letter 16 at place 2.
 fn put_events(bad: bool, log: &mut [u8]) {
     put_threes(log);
-    put8(log, 2, byte(pick(bad, 16, 0)));
+    put(log, 2, byte(pick(bad, 16, 0)));
 }
 
 // A call to which exactly the conditions of `which` apply: one mask too few, a mask's own bit, 4,001 events, letter 16 at place 2, the last letter in no group, and
@@ -133,7 +133,7 @@ fn compare_combination(which: usize, t: Tally) -> Tally {
     let mut masks = [0u16; 16];
     let singles = SINGLES;
     let mut log = [0u8; 4001];
-    put16(&mut masks, 0, one16(pick(bit(which, 1), 0, 16)));
+    put(&mut masks, 0, one16(pick(bit(which, 1), 0, 16)));
     put_events(bit(which, 3), &mut log);
     let number = first_of(which);
     let events = pick(bit(which, 2), 4001, pick(bit(which, 5), 60, 3));
@@ -141,9 +141,9 @@ fn compare_combination(which: usize, t: Tally) -> Tally {
     let ceiling = pick(number == 0, 4, 0);
     let right = tells(
         16,
-        part16(&masks, pick(bit(which, 0), 15, 16)),
-        part8(&log, 0, events),
-        part16(&singles, pick(bit(which, 4), 15, 16)),
+        part_of(&masks, 0, pick(bit(which, 0), 15, 16)),
+        part_of(&log, 0, events),
+        part_of(&singles, 0, pick(bit(which, 4), 15, 16)),
         number,
         place as u64,
         ceiling as u64,

@@ -1,6 +1,6 @@
 // Every list of so many groups, given as one number: each group is a digit of it.
 use crate::compare::compare_groups;
-use trial::cells::{one16, part8, part16, quotient, rest};
+use trial::cells::{one16, part_of, quotient, rest};
 use trial::random::{below, put_log, seed_of};
 use trial::tally::Tally;
 use trial_logs::prefixes::prefix_count;
@@ -50,7 +50,7 @@ pub fn case_of(k: usize, code: usize, size: usize) -> Case {
     let seed = seed_of(code, k);
     let events = below(seed, 100, 7);
     put_log(seed, k, events, &mut log);
-    let prefixes = prefix_count(part16(&masks, k), part8(&log, 0, events));
+    let prefixes = prefix_count(part_of(&masks, 0, k), part_of(&log, 0, events));
     Case {
         k: k,
         masks: masks,
@@ -67,9 +67,9 @@ fn compare_list(c: Case, many: usize, code: usize, size: usize, t: Tally) -> Tal
     let groups = digits(code, size);
     compare_groups(
         c.k,
-        part16(&masks, c.k),
-        part8(&log, 0, c.events),
-        part16(&groups, many),
+        part_of(&masks, 0, c.k),
+        part_of(&log, 0, c.events),
+        part_of(&groups, 0, many),
         c.prefixes,
         t,
     )

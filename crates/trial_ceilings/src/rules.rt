@@ -1,10 +1,10 @@
 // The rules of the groups and the ceiling, in the paper's words.
-use trial::cells::{at8, at16, bit, plus, times};
+use trial::cells::{bit, byte_at, plus, times, value_at};
 use trial_logs::listing::commute;
 
 // Letter x is in group i.
 fn in_group(groups: &[u16], i: usize, x: usize) -> bool {
-    bit(at16(groups, i) as usize, x)
+    bit(value_at(groups, i) as usize, x)
 }
 
 // "hold a bit from k on"
@@ -78,7 +78,7 @@ pub fn wrong_groups(k: usize, masks: &[u16], groups: &[u16]) -> bool {
 fn events_of(log: &[u8], groups: &[u16], i: usize) -> usize {
     let mut sum = 0;
     for at in 0..log.len() {
-        if in_group(groups, i, at8(log, at)) {
+        if in_group(groups, i, byte_at(log, at)) {
             sum = plus(sum, 1);
         }
     }

@@ -10,25 +10,18 @@ use crate::met::{
 use profile::Shape;
 use trial::answers::{Answer, is_verdict};
 use trial::calls::{BYTES, NUMBERS, judge_in};
-use trial::cells::{
-    GUARD8, GUARD32, holds8, minus, part8, part16, part32, plus, times, untouched8, untouched32,
-};
+use trial::cells::{Cell, holds, minus, part_of, plus, times, untouched};
 use trial::record_numbers::record_at;
 use trial::tally;
 use trial::tally::Tally;
 use trial_logs::listing::one_way;
 use trial_logs::prefixes::prefix_count;
 use trial_terms::exchanges::{put_event_masks, some_fall, some_turn};
-use trial_terms::judging::equal32;
 use trial_terms::lent::judge_terms_in;
-
-fn one_if(yes: bool) -> usize {
-    if yes { 1 } else { 0 }
-}
 
 // What is told with verdict 0 in the places of swaps and floor is 0.
 fn told_right(answer: Told, expected: Expected, budget: u64) -> bool {
-    let found = expected.verdict == 1;
+    let found = expected.verdict;
     is_answer(
         answer,
         expected.verdict,
@@ -46,28 +39,28 @@ fn told_right(answer: Told, expected: Expected, budget: u64) -> bool {
 // The order at the start of the lent part, and nothing else; with verdict 0 nothing.
 fn order_right(buffer: &[u8], expected: Expected, budget: u64, n: usize) -> bool {
     let order = order_for(expected, budget);
-    if expected.verdict == 0 {
-        untouched8(buffer, 0, 0)
+    if expected.verdict {
+        holds(buffer, BYTES, part_of(&order, 0, n))
     } else {
-        holds8(buffer, BYTES, part8(&order, 0, n))
+        untouched(buffer, 0, 0)
     }
 }
 
 // Counts a budget by its floor.
 fn count_floor(expected: Expected, budget: u64, t: Tally) -> Tally {
     let u = tally::count(t, BUDGETS);
-    if expected.verdict == 0 {
+    if !expected.verdict {
         return u;
     }
     if covers(expected, budget) {
         return tally::count(u, COVERING);
     }
     let floor = floor_of(expected, budget);
-    let above = tally::count_many(u, FLOORS, one_if(0 < floor));
-    tally::count_many(
+    let above = tally::count_if(u, FLOORS, 0 < floor);
+    tally::count_if(
         above,
         LOW_FLOORS,
-        one_if((0 < floor) & (floor < expected.fewest)),
+        (0 < floor) & (floor < expected.fewest),
     )
 }
 
@@ -82,9 +75,9 @@ fn compare_budget(
     judged: &[u32],
     t: Tally,
 ) -> Tally {
-    let mut buffer = [GUARD8; 32];
-    let mut numbers = [GUARD32; 1416];
-    let mut costs = [GUARD32; 600];
+    let mut buffer = [u8::GUARD; 32];
+    let mut numbers = [u32::GUARD; 1416];
+    let mut costs = [u32::GUARD; 600];
     let answer = ask(
         shape,
         masks,
@@ -97,8 +90,8 @@ fn compare_budget(
     );
     let right = told_right(answer, expected, call.lent.budget)
         & order_right(&buffer, expected, call.lent.budget, log.len())
-        & equal32(&numbers, judged)
-        & untouched32(&costs, NUMBERS, call.lent.costs);
+        & (numbers == judged)
+        & untouched(&costs, NUMBERS, call.lent.costs);
     count_floor(expected, call.lent.budget, tally::expect(t, BUDGET, right))
 }
 
@@ -162,22 +155,22 @@ fn compare_large(
 fn count_dated(masks: &[u16], log: &[u8], dated: Dated, prefixes: usize, t: Tally) -> Tally {
     let dates = dated.days;
     let spans = dated.terms;
-    let days = part32(&dates, log.len());
-    let terms = part32(&spans, dated.numbers);
-    let turns = tally::count_many(t, TURNS, one_if(some_turn(days, terms)));
-    let falls = tally::count_many(turns, FALLS, one_if(some_fall(days)));
-    tally::count_many(falls, FEWER, one_if(prefixes < prefix_count(masks, log)))
+    let days = part_of(&dates, 0, log.len());
+    let terms = part_of(&spans, 0, dated.numbers);
+    let turns = tally::count_if(t, TURNS, some_turn(days, terms));
+    let falls = tally::count_if(turns, FALLS, some_fall(days));
+    tally::count_if(falls, FEWER, prefixes < prefix_count(masks, log))
 }
 
 // Counts what the log is; a listing that did not fit has no rows and is wrong.
 fn count_log(masks: &[u16], log: &[u8], expected: Expected, t: Tally) -> Tally {
-    let found = expected.verdict == 1;
+    let found = expected.verdict;
     let other = found & orders_differ(expected, log.len());
     let listed = tally::expect(tally::count(t, LOGS), LISTING, 0 < expected.count);
-    let accepted = tally::count_many(listed, ACCEPTED, expected.verdict);
-    let way = tally::count_many(accepted, ONE_WAY, one_if(one_way(masks)));
-    let moved = tally::count_many(way, OTHER_ORDER, one_if(other));
-    let swapped = tally::count_many(moved, SWAPPED, one_if(found & (0 < expected.fewest)));
+    let accepted = tally::count_if(listed, ACCEPTED, found);
+    let way = tally::count_if(accepted, ONE_WAY, one_way(masks));
+    let moved = tally::count_if(way, OTHER_ORDER, other);
+    let swapped = tally::count_if(moved, SWAPPED, found & (0 < expected.fewest));
     tally::count_many(swapped, PAIRS, expected.ranks.pairs)
 }
 
@@ -198,8 +191,8 @@ fn judge_dated(
         masks,
         moves,
         log,
-        part32(&days, log.len()),
-        part32(&terms, call.dated.numbers),
+        part_of(&days, 0, log.len()),
+        part_of(&terms, 0, call.dated.numbers),
         call.lent.room,
         call.lent.size,
         buffer,
@@ -236,8 +229,8 @@ fn compare_answers(
     expected: Expected,
     t: Tally,
 ) -> Tally {
-    let mut buffer = [GUARD8; 32];
-    let mut judged = [GUARD32; 1416];
+    let mut buffer = [u8::GUARD; 32];
+    let mut judged = [u32::GUARD; 1416];
     let answer = judge_too(shape, masks, moves, log, call, &mut buffer, &mut judged);
     let right = is_verdict(answer, expected.verdict, expected.prefixes, expected.looks);
     let counted = count_dated(masks, log, call.dated, expected.prefixes, t);
@@ -272,9 +265,9 @@ fn refuse(
     which: usize,
     t: Tally,
 ) -> Tally {
-    let mut buffer = [GUARD8; 32];
-    let mut numbers = [GUARD32; 1416];
-    let mut costs = [GUARD32; 600];
+    let mut buffer = [u8::GUARD; 32];
+    let mut numbers = [u32::GUARD; 1416];
+    let mut costs = [u32::GUARD; 600];
     let answer = ask(
         shape,
         masks,
@@ -287,9 +280,9 @@ fn refuse(
     );
     let free = if number == 9 { 0 } else { call.lent.size };
     let right = is_refused(answer, number, 0)
-        & untouched8(&buffer, 0, 0)
-        & untouched32(&numbers, NUMBERS, free)
-        & untouched32(&costs, 0, 0);
+        & untouched(&buffer, 0, 0)
+        & untouched(&numbers, NUMBERS, free)
+        & untouched(&costs, 0, 0);
     tally::count(tally::expect(t, BUFFER, right), which)
 }
 
@@ -331,8 +324,8 @@ fn put_masks_of(masks: &[u16], log: &[u8], dated: Dated, event_masks: &mut [u16]
     put_event_masks(
         masks,
         log,
-        part32(&days, log.len()),
-        part32(&terms, dated.numbers),
+        part_of(&days, 0, log.len()),
+        part_of(&terms, 0, dated.numbers),
         event_masks,
     );
 }
@@ -359,7 +352,7 @@ pub fn compare_log(
 ) -> Tally {
     let mut masks_of_events = [0u16; 8];
     put_masks_of(masks, log, dated, &mut masks_of_events);
-    let expected = expect(shape, part16(&masks_of_events, log.len()), moves, log);
+    let expected = expect(shape, part_of(&masks_of_events, 0, log.len()), moves, log);
     let call = Call {
         lent: lent_for(shape, log.len(), expected.prefixes, extra),
         dated: dated,

@@ -3,7 +3,7 @@ use crate::lent::{Call, Dated, Lent, Told, ask, is_answer, no_terms};
 use crate::met::{EDGE, EDGES};
 use profile::Shape;
 use trial::calls::BYTES;
-use trial::cells::{GUARD8, GUARD32, holds8, part8, untouched8};
+use trial::cells::{Cell, holds, part_of, untouched};
 use trial::shapes::{alt, shape_of};
 use trial::tally;
 use trial::tally::Tally;
@@ -11,16 +11,16 @@ use trial::tally::Tally;
 // The verdict, P, looks, swaps and floor.
 #[derive(Clone, Copy)]
 pub struct Case {
-    pub verdict: usize,
+    pub verdict: bool,
     pub prefixes: usize,
     pub looks: usize,
     pub swaps: usize,
     pub floor: usize,
 }
 
-fn case_of(verdict: usize, prefixes: usize, looks: usize, swaps: usize, floor: usize) -> Case {
+fn case_of(verdict: bool, prefixes: usize, looks: usize, swaps: usize, floor: usize) -> Case {
     Case {
-        verdict: verdict,
+        verdict,
         prefixes: prefixes,
         looks: looks,
         swaps: swaps,
@@ -37,8 +37,8 @@ fn ask_both_ways(
     budget: u64,
     buffer: &mut [u8],
 ) -> Told {
-    let mut numbers = [GUARD32; 1416];
-    let mut costs = [GUARD32; 600];
+    let mut numbers = [u32::GUARD; 1416];
+    let mut costs = [u32::GUARD; 600];
     let masks = [2u16, 1];
     let lent = Lent {
         room: 8,
@@ -72,7 +72,7 @@ fn compare_dated(
     order: &[u8],
     t: Tally,
 ) -> Tally {
-    let mut buffer = [GUARD8; 32];
+    let mut buffer = [u8::GUARD; 32];
     let answer = ask_both_ways(shape, moves, log, dated, budget, &mut buffer);
     let told = is_answer(
         answer,
@@ -82,10 +82,10 @@ fn compare_dated(
         case.swaps,
         case.floor,
     );
-    let left = if case.verdict == 0 {
-        untouched8(&buffer, 0, 0)
+    let left = if case.verdict {
+        holds(&buffer, BYTES, order)
     } else {
-        holds8(&buffer, BYTES, order)
+        untouched(&buffer, 0, 0)
     };
     tally::count(tally::expect(t, EDGE, told & left), EDGES)
 }
@@ -108,12 +108,12 @@ fn compare_bbaa(t: Tally) -> Tally {
     let moves = [2u32, 0, 0, 1];
     let log = [1u8, 1, 0, 0];
     let order = [0u8, 1, 0, 1];
-    let a = compare(alt(), &moves, &log, 0, case_of(1, 9, 12, 3, 0), &order, t);
-    let b = compare(alt(), &moves, &log, 1, case_of(1, 9, 12, 3, 2), &order, a);
-    let c = compare(alt(), &moves, &log, 2, case_of(1, 9, 12, 3, 2), &order, b);
-    let d = compare(alt(), &moves, &log, 3, case_of(1, 9, 12, 3, 3), &order, c);
-    let e = compare(alt(), &moves, &log, 4, case_of(1, 9, 12, 3, 3), &order, d);
-    compare(alt(), &moves, &log, 5, case_of(1, 9, 12, 3, 3), &order, e)
+    let a = compare(alt(), &moves, &log, 0, case_of(true, 9, 12, 3, 0), &order, t);
+    let b = compare(alt(), &moves, &log, 1, case_of(true, 9, 12, 3, 2), &order, a);
+    let c = compare(alt(), &moves, &log, 2, case_of(true, 9, 12, 3, 2), &order, b);
+    let d = compare(alt(), &moves, &log, 3, case_of(true, 9, 12, 3, 3), &order, c);
+    let e = compare(alt(), &moves, &log, 4, case_of(true, 9, 12, 3, 3), &order, d);
+    compare(alt(), &moves, &log, 5, case_of(true, 9, 12, 3, 3), &order, e)
 }
 
 // One state that accepts everything, on ba: the empty prefix, b and ab at 0 swaps, a at 1. With three pairs the order is the judge's.
@@ -122,25 +122,25 @@ fn compare_ba(t: Tally) -> Tally {
     let any = shape_of(2, 1, 0, 1);
     let log = [1u8, 0];
     let judged = [0u8, 1];
-    let a = compare(any, &moves, &log, 0, case_of(1, 4, 4, 1, 0), &judged, t);
-    let b = compare(any, &moves, &log, 3, case_of(1, 4, 4, 1, 0), &judged, a);
-    let c = compare(any, &moves, &log, 4, case_of(1, 4, 4, 0, 0), &log, b);
-    compare(any, &moves, &log, 5, case_of(1, 4, 4, 0, 0), &log, c)
+    let a = compare(any, &moves, &log, 0, case_of(true, 4, 4, 1, 0), &judged, t);
+    let b = compare(any, &moves, &log, 3, case_of(true, 4, 4, 1, 0), &judged, a);
+    let c = compare(any, &moves, &log, 4, case_of(true, 4, 4, 0, 0), &log, b);
+    compare(any, &moves, &log, 5, case_of(true, 4, 4, 0, 0), &log, c)
 }
 
 // No order of bab is accepted by Alt; and the empty log.
 fn compare_none(t: Tally) -> Tally {
     let moves = [2u32, 0, 0, 1];
     let log = [1u8, 0, 1];
-    let nothing = part8(&log, 0, 0);
-    let a = compare(alt(), &moves, &log, 0, case_of(0, 6, 7, 0, 0), nothing, t);
-    let b = compare(alt(), &moves, &log, 99, case_of(0, 6, 7, 0, 0), nothing, a);
+    let nothing = part_of(&log, 0, 0);
+    let a = compare(alt(), &moves, &log, 0, case_of(false, 6, 7, 0, 0), nothing, t);
+    let b = compare(alt(), &moves, &log, 99, case_of(false, 6, 7, 0, 0), nothing, a);
     let c = compare(
         alt(),
         &moves,
         nothing,
         0,
-        case_of(1, 1, 0, 0, 0),
+        case_of(true, 1, 0, 0, 0),
         nothing,
         b,
     );
@@ -149,7 +149,7 @@ fn compare_none(t: Tally) -> Tally {
         &moves,
         nothing,
         1,
-        case_of(1, 1, 0, 0, 0),
+        case_of(true, 1, 0, 0, 0),
         nothing,
         c,
     )
@@ -169,7 +169,7 @@ fn compare_tie(t: Tally) -> Tally {
     let two = shape_of(2, 9, 0, 272);
     let log = [0u8, 1, 1, 0];
     let order = [0u8, 1, 0, 1];
-    compare(two, &moves, &log, 99, case_of(1, 9, 12, 1, 1), &order, t)
+    compare(two, &moves, &log, 99, case_of(true, 9, 12, 1, 1), &order, t)
 }
 
 pub fn compare_edges(t: Tally) -> Tally {
@@ -200,7 +200,7 @@ fn compare_terms(t: Tally) -> Tally {
         &log,
         two,
         0,
-        case_of(1, 7, 8, 2, 0),
+        case_of(true, 7, 8, 2, 0),
         &order,
         t,
     );
@@ -210,7 +210,7 @@ fn compare_terms(t: Tally) -> Tally {
         &log,
         two,
         2,
-        case_of(1, 7, 8, 2, 1),
+        case_of(true, 7, 8, 2, 1),
         &order,
         a,
     );
@@ -220,7 +220,7 @@ fn compare_terms(t: Tally) -> Tally {
         &log,
         two,
         3,
-        case_of(1, 7, 8, 2, 2),
+        case_of(true, 7, 8, 2, 2),
         &order,
         b,
     );
@@ -230,7 +230,7 @@ fn compare_terms(t: Tally) -> Tally {
         &log,
         two,
         5,
-        case_of(1, 7, 8, 2, 2),
+        case_of(true, 7, 8, 2, 2),
         &order,
         c,
     )
@@ -250,18 +250,18 @@ fn compare_apart(t: Tally) -> Tally {
         &log,
         two,
         6,
-        case_of(1, 7, 8, 2, 0),
+        case_of(true, 7, 8, 2, 0),
         &judged,
         t,
     );
-    let b = compare_dated(any, &moves, &log, two, 7, case_of(1, 7, 8, 0, 0), &log, a);
+    let b = compare_dated(any, &moves, &log, two, 7, case_of(true, 7, 8, 0, 0), &log, a);
     compare_dated(
         any,
         &moves,
         &fixed,
         two,
         4,
-        case_of(1, 5, 4, 0, 0),
+        case_of(true, 5, 4, 0, 0),
         &fixed,
         b,
     )

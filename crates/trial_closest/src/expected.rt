@@ -2,7 +2,7 @@
 use crate::order_swaps::swaps;
 use crate::ranks::{NONE, Ranks, rank, swaps_after};
 use profile::Shape;
-use trial::cells::{copy8, one32, part8};
+use trial::cells::{copy, one32, part_of};
 use trial_logs::listing::{earlier, list, row};
 use trial_logs::paths::{earliest_accepted, ends};
 use trial_logs::prefixes::{look_count, prefix_count};
@@ -12,7 +12,7 @@ use trial_terms::exchanges::put_letters;
 // order, its swaps are `NONE`.
 #[derive(Clone, Copy)]
 pub struct Expected {
-    pub verdict: usize,
+    pub verdict: bool,
     pub prefixes: usize,
     pub looks: usize,
     pub count: usize,
@@ -94,13 +94,13 @@ fn expect_listed(
     let mut judged = [0u8; 8];
     let mut closest = [0u8; 8];
     let n = log.len();
-    let all = part8(&events, 0, n);
+    let all = part_of(&events, 0, n);
     let first = earliest_accepted(shape, moves, words, count, n);
     let best = closest_accepted(shape, moves, rows, words, count, n);
-    copy8(row(words, first, n), &mut judged);
-    copy8(row(words, best, n), &mut closest);
+    copy(row(words, first, n), &mut judged);
+    copy(row(words, best, n), &mut closest);
     Expected {
-        verdict: if first < count { 1 } else { 0 },
+        verdict: first < count,
         prefixes: prefix_count(event_masks, all),
         looks: look_count(event_masks, all),
         count: count,
@@ -116,7 +116,7 @@ fn expect_listed(
 pub fn expect(shape: Shape, event_masks: &[u16], moves: &[u32], log: &[u8]) -> Expected {
     let events = [0u8, 1, 2, 3, 4, 5, 6, 7];
     let mut rows = [0u8; 16384];
-    let count = list(event_masks, part8(&events, 0, log.len()), &mut rows);
+    let count = list(event_masks, part_of(&events, 0, log.len()), &mut rows);
     let mut words = rows;
     put_letters(log, &mut words, count);
     expect_listed(shape, event_masks, moves, log, &rows, &words, count)
@@ -163,5 +163,5 @@ pub fn swaps_for(expected: Expected, budget: u64) -> usize {
 pub fn orders_differ(expected: Expected, n: usize) -> bool {
     let judged = expected.judged;
     let closest = expected.closest;
-    earlier(part8(&judged, 0, n), part8(&closest, 0, n))
+    earlier(part_of(&judged, 0, n), part_of(&closest, 0, n))
 }

@@ -1,7 +1,7 @@
 // The calls on lent parts of guarded buffers: bytes are lent from 4 on, numbers and costs from 8 on. Where a buffer is too small for the part nothing is lent.
 use profile::Shape;
 use trial::calls::{BYTES, NUMBERS};
-use trial::cells::part32;
+use trial::cells::part_of;
 
 // The sizes of the order buffer, the work table and the cost table, and the budget.
 #[derive(Clone, Copy)]
@@ -143,8 +143,8 @@ fn closest_dated_in(
         masks,
         moves,
         log,
-        part32(&days, log.len()),
-        part32(&terms, call.dated.numbers),
+        part_of(&days, 0, log.len()),
+        part_of(&terms, 0, call.dated.numbers),
         call.lent,
         buffer,
         numbers,
@@ -185,7 +185,7 @@ pub fn is_refused(answer: Told, number: u32, place: usize) -> bool {
 // The answer is no refusal, and has the verdict, P, looks, swaps and floor.
 pub fn is_answer(
     answer: Told,
-    verdict: usize,
+    verdict: bool,
     prefixes: usize,
     looks: usize,
     swaps: usize,

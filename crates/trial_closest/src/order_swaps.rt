@@ -1,12 +1,12 @@
 // The swaps of an order by document 02's words: "The swaps of an order are the pairs of events standing the other way round than recorded." Events are numbered
 // by their places in the log, so these are the pairs of numbers that fall. Logs here have at most eight events.
-use trial::cells::{at8, byte, plus, put8};
+use trial::cells::{byte, byte_at, plus, put};
 
 // The events before place i that were recorded after the one there.
 fn swaps_at(order: &[u8], i: usize) -> usize {
     let mut sum = 0;
     for j in 0..i {
-        if at8(order, i) < at8(order, j) {
+        if byte_at(order, i) < byte_at(order, j) {
             sum = plus(sum, 1);
         }
     }
@@ -25,6 +25,6 @@ pub fn swaps(order: &[u8]) -> usize {
 // Puts events behind the first `at`.
 pub fn put_behind(events: &[u8], at: usize, order: &mut [u8]) {
     for i in 0..events.len() {
-        put8(order, plus(at, i), byte(at8(events, i)));
+        put(order, plus(at, i), byte(byte_at(events, i)));
     }
 }

@@ -3,7 +3,7 @@
 // in the log, and each has a mask of the events that may pass it.
 use crate::order_swaps::{put_behind, swaps};
 use profile::Shape;
-use trial::cells::{bit, copy8, minus, one32, part8, plus, wide32};
+use trial::cells::{bit, copy, minus, one32, part_of, plus, wide};
 use trial_logs::listing::{list, row};
 use trial_logs::paths::ends;
 use trial_logs::prefixes::{is_prefix, take_events};
@@ -34,7 +34,7 @@ fn fewest_at(fewest: Fewest, q: usize) -> usize {
 fn lowered_at(fewest: Fewest, set: u32, many: usize, q: usize) -> Fewest {
     let mut u = fewest;
     if q < 32 {
-        if bit(wide32(set), q) & (many < fewest_at(fewest, q)) {
+        if bit(wide(set), q) & (many < fewest_at(fewest, q)) {
             u.states[q] = many;
         }
     }
@@ -60,9 +60,9 @@ fn with_order(
     fewest: Fewest,
 ) -> Fewest {
     let mut front = [0u8; 8];
-    copy8(order, &mut front);
+    copy(order, &mut front);
     put_behind(rest, order.len(), &mut front);
-    let many = swaps(part8(&front, 0, plus(order.len(), rest.len())));
+    let many = swaps(part_of(&front, 0, plus(order.len(), rest.len())));
     lowered(fewest, ends(shape, moves, one32(shape.start), word), many)
 }
 
@@ -95,13 +95,13 @@ fn fewest_of(shape: Shape, event_masks: &[u16], moves: &[u32], log: &[u8], marks
     let mut first = [0u8; 8];
     let mut others = [0u8; 8];
     let mut rows = [0u8; 16384];
-    let all = part8(&events, 0, log.len());
+    let all = part_of(&events, 0, log.len());
     let n = take_events(all, marks, true, &mut first);
     take_events(all, marks, false, &mut others);
-    let count = list(event_masks, part8(&first, 0, n), &mut rows);
+    let count = list(event_masks, part_of(&first, 0, n), &mut rows);
     let mut words = rows;
     put_letters(log, &mut words, count);
-    let rest = part8(&others, 0, minus(log.len(), n));
+    let rest = part_of(&others, 0, minus(log.len(), n));
     with_orders(shape, moves, &rows, &words, count, n, rest)
 }
 
@@ -132,7 +132,7 @@ fn with_marks(
     ranks: Ranks,
 ) -> Ranks {
     let events = [0u8, 1, 2, 3, 4, 5, 6, 7];
-    if is_prefix(event_masks, part8(&events, 0, log.len()), marks) {
+    if is_prefix(event_masks, part_of(&events, 0, log.len()), marks) {
         with_states(ranks, fewest_of(shape, event_masks, moves, log, marks))
     } else {
         ranks

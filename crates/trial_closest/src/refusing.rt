@@ -4,7 +4,7 @@
 use crate::lent::{Lent, Told, closest_in, closest_terms_in, is_refused};
 use crate::met::{BY_DAMAGE, COMBINED, REFUSAL};
 use trial::calls::NUMBERS;
-use trial::cells::{GUARD8, GUARD32, bit, part8, part16, part32, plus, untouched8, untouched32};
+use trial::cells::{Cell, bit, part_of, plus, untouched};
 use trial::tally;
 use trial::tally::Tally;
 use trial_term_refusals::combined::{
@@ -64,7 +64,7 @@ fn left_right(damage: usize, size: usize, buffer: &[u8], numbers: &[u32], costs:
         return true;
     }
     let free = if 9 <= damage { size } else { 0 };
-    untouched8(buffer, 0, 0) & untouched32(numbers, NUMBERS, free) & untouched32(costs, 0, 0)
+    untouched(buffer, 0, 0) & untouched(numbers, NUMBERS, free) & untouched(costs, 0, 0)
 }
 
 fn told_right(answer: Told, damage: usize, variant: usize) -> bool {
@@ -93,8 +93,8 @@ fn asked(
     moves[0] = first_move(damages, variant);
     let masks_all = [first_mask(damages, variant), 5, 2];
     let shape = damaged_shape(damages, variant);
-    let masks = part16(&masks_all, mask_count(damages, variant));
-    let steps = part32(&moves, move_count(damages, variant));
+    let masks = part_of(&masks_all, 0, mask_count(damages, variant));
+    let steps = part_of(&moves, 0, move_count(damages, variant));
     if !with_terms {
         return closest_in(shape, masks, steps, log, lent, buffer, numbers, costs);
     }
@@ -105,8 +105,8 @@ fn asked(
         masks,
         steps,
         log,
-        part32(&days, day_count(damages, variant)),
-        part32(&terms, term_numbers(damages, variant)),
+        part_of(&days, 0, day_count(damages, variant)),
+        part_of(&terms, 0, term_numbers(damages, variant)),
         lent,
         buffer,
         numbers,
@@ -115,9 +115,9 @@ fn asked(
 }
 
 fn compare(damages: usize, variant: usize, with_terms: bool, log: &[u8], t: Tally) -> Tally {
-    let mut buffer = [GUARD8; 4024];
-    let mut numbers = [GUARD32; 88];
-    let mut costs = [GUARD32; 40];
+    let mut buffer = [u8::GUARD; 4024];
+    let mut numbers = [u32::GUARD; 88];
+    let mut costs = [u32::GUARD; 40];
     let lent = lent_of(damages, variant, log.len());
     let damage = first_of(damages);
     let answer = asked(
@@ -139,7 +139,7 @@ fn compare(damages: usize, variant: usize, with_terms: bool, log: &[u8], t: Tall
 fn combine(damages: usize, variant: usize, with_terms: bool, t: Tally) -> Tally {
     let mut log = [0u8; 4004];
     put_log(damages, variant, &mut log);
-    let word = part8(&log, 0, log_length(damages));
+    let word = part_of(&log, 0, log_length(damages));
     compare(damages, variant, with_terms, word, t)
 }
 

@@ -6,10 +6,10 @@
 #![tactic(auto)]
 
 use trial::calls::table_part;
-use trial::cells::{GUARD32, at8, at32, byte, minus, part8, part32, plus, put_run, times};
+use trial::cells::{Cell, byte, byte_at, minus, part_of, plus, put_run, times, value_at};
 use trial::tally;
 use trial::tally::Tally;
-use trial_courses::answers::{is_profile, is_refused, make_in};
+use trial_courses::answers::{is_refused, make_in, profile_in};
 use trial_courses::compare::verdict_of;
 use trial_courses::counters;
 use trial_courses::moves::compare_moves;
@@ -24,7 +24,7 @@ const RUNS: usize = 16;
 fn decimal(row: &[u8], at: usize, n: usize) -> usize {
     let mut v = 0;
     for i in 0..n {
-        v = plus(times(10, v), minus(at8(row, plus(at, i)), 48));
+        v = plus(times(10, v), minus(byte_at(row, plus(at, i)), 48));
     }
     v
 }
@@ -48,7 +48,7 @@ fn put_runs(row: &[u8], text: &mut [u8]) -> usize {
     for r in 0..row.len() {
         let at = plus(RUNS, times(3, r));
         let many = decimal(row, at, 2);
-        put_run(text, n, many, byte_of(at8(row, plus(at, 2))));
+        put_run(text, n, many, byte_of(byte_at(row, plus(at, 2))));
         n = plus(n, many);
     }
     n
@@ -57,14 +57,14 @@ fn put_runs(row: &[u8], text: &mut [u8]) -> usize {
 // Compares the answer and the numbers of one row.
 fn edge(row: &[u8], t: Tally) -> Tally {
     let mut text = [0u8; 1200];
-    let mut numbers = [GUARD32; 640];
+    let mut numbers = [u32::GUARD; 640];
     let n = put_runs(row, &mut text);
     let k = letters_of(row);
     let number = decimal(row, 8, 2);
     let place = decimal(row, 11, 4);
-    let made = make_in(k, part8(&text, 0, n), decimal(row, 3, 4), &mut numbers);
+    let made = make_in(k, part_of(&text, 0, n), decimal(row, 3, 4), &mut numbers);
     let right = if number == 0 {
-        is_profile(made, k, place, &numbers)
+        profile_in(made, k, place, &numbers).is_some()
     } else {
         is_refused(made, number, place, &numbers)
     };
@@ -228,35 +228,35 @@ fn broken_rules(t: Tally) -> Tally {
 // One letter and a thousand stars: two states, the letter leads from both to 1, and both are final.
 fn many_stars(t: Tally) -> Tally {
     let mut text = [42u8; 1001];
-    let mut numbers = [GUARD32; 16];
+    let mut numbers = [u32::GUARD; 16];
     text[0] = b'a';
     let made = make_in(1, &text, 3, &mut numbers);
-    let moves = part32(table_part(&numbers), 2);
-    let right = is_profile(made, 1, 2, &numbers)
-        & (at32(moves, 0) == 2)
-        & (at32(moves, 1) == 2)
-        & (made.shape.finals == 3)
-        & (verdict_of(made.shape, &[0u16; 1], moves, &[0u8; 7]) == 1);
+    let moves = part_of(table_part(&numbers), 0, 2);
+    let right = match profile_in(made, 1, 2, &numbers) {
+        Some(shape) => {
+            (moves == [2u32, 2].as_slice())
+                & (shape.finals == 3)
+                & (verdict_of(shape, &[0u16; 1], moves, &[0u8; 7]) == Some(true))
+        }
+        None => false,
+    };
     tally::expect(tally::count(t, counters::EDGES), counters::EDGE, right)
 }
 
 // The moves of a right row too, bit by bit.
 fn edge_moves(row: &[u8], table: &mut [usize], t: Tally) -> Tally {
     let mut text = [0u8; 1200];
-    let mut numbers = [GUARD32; 640];
+    let mut numbers = [u32::GUARD; 640];
     let n = put_runs(row, &mut text);
     let k = letters_of(row);
     let s = decimal(row, 11, 4);
-    let made = make_in(k, part8(&text, 0, n), decimal(row, 3, 4), &mut numbers);
-    let moves = part32(table_part(&numbers), times(k, s));
-    compare_moves(
-        k,
-        part8(&text, 0, n),
-        made.shape,
-        moves,
-        table,
-        edge(row, t),
-    )
+    let made = make_in(k, part_of(&text, 0, n), decimal(row, 3, 4), &mut numbers);
+    let moves = part_of(table_part(&numbers), 0, times(k, s));
+    let compared = edge(row, t);
+    match made {
+        Some(Ok(shape)) => compare_moves(k, part_of(&text, 0, n), shape, moves, table, compared),
+        _ => tally::count(compared, counters::MOVES),
+    }
 }
 
 // All letters in one star; one letter in all brackets; choices and repetitions in brackets.

@@ -1,27 +1,28 @@
 // One text: refused as it should be, or the profile, its moves, and the judge's verdicts on logs.
-use crate::answers::{is_profile, is_refused, make_in};
+use crate::answers::{is_refused, make_in, profile_in};
 use crate::counters;
 use crate::moves::compare_moves;
 use profile::Shape;
+use trial::answers;
 use trial::calls::{judge_in, table_part};
-use trial::cells::{GUARD8, GUARD32, bit, minus, part8, part16, part32, plus, times};
+use trial::cells::{Cell, bit, minus, part_of, plus, times};
 use trial::logs::put_log_number;
 use trial::tally;
 use trial::tally::Tally;
 use trial_grammar::grammar::{is_right, place_of};
 use trial_grammar::meanings::described_logs;
 use trial_grammar::parts::is_part;
-use trial_grammar::words::{letter_count, one, one_if, when};
+use trial_grammar::words::{letter_count, one, when};
 
 // Logs of up to four letters a and b.
 const ALL: usize = 31;
 
 // The judge's verdict.
-pub fn verdict_of(shape: Shape, masks: &[u16], moves: &[u32], log: &[u8]) -> usize {
-    let mut buffer = [GUARD8; 16];
-    let mut numbers = [GUARD32; 136];
+pub fn verdict_of(shape: Shape, masks: &[u16], moves: &[u32], log: &[u8]) -> Option<bool> {
+    let mut buffer = [u8::GUARD; 16];
+    let mut numbers = [u32::GUARD; 136];
     let answer = judge_in(shape, masks, moves, log, 8, 120, &mut buffer, &mut numbers);
-    answer.verdict
+    answers::verdict_of(answer)
 }
 
 // Log numbers u and v have the same letters. A log's number and one more is, in binary, a one and then its letters, the last first.
@@ -48,8 +49,8 @@ fn only_a(v: usize) -> bool {
 // The verdict is 1 with nothing independent exactly when the log is described.
 fn compare_alone(shape: Shape, moves: &[u32], log: &[u8], described: bool, t: Tally) -> Tally {
     let masks = [0u16; 3];
-    let verdict = verdict_of(shape, part16(&masks, shape.k), moves, log);
-    counters::judged(t, counters::LOGS, one_if(described), verdict)
+    let verdict = verdict_of(shape, part_of(&masks, 0, shape.k), moves, log);
+    counters::judged(t, counters::LOGS, described, verdict)
 }
 
 // It is 1 with a and b independent exactly when an arrangement of the log is described.
@@ -57,15 +58,15 @@ fn compare_pair(shape: Shape, moves: &[u32], log: &[u8], described: bool, t: Tal
     let mut masks = [0u16; 3];
     masks[0] = 2;
     masks[1] = 1;
-    let verdict = verdict_of(shape, part16(&masks, shape.k), moves, log);
-    counters::judged(t, counters::PAIR_LOGS, one_if(described), verdict)
+    let verdict = verdict_of(shape, part_of(&masks, 0, shape.k), moves, log);
+    counters::judged(t, counters::PAIR_LOGS, described, verdict)
 }
 
 // Log number v, where its letters are below k; `set` has the described logs.
 fn compare_log(shape: Shape, moves: &[u32], set: usize, v: usize, t: Tally) -> Tally {
     let mut letters = [0u8; 8];
     let n = put_log_number(2, v, &mut letters);
-    let log = part8(&letters, 0, n);
+    let log = part_of(&letters, 0, n);
     if 1 < shape.k {
         let alone = compare_alone(shape, moves, log, bit(set, v), t);
         return compare_pair(shape, moves, log, set & arrangements(v) != 0, alone);
@@ -95,7 +96,7 @@ pub fn refuse(
     group: usize,
     t: Tally,
 ) -> Tally {
-    let mut numbers = [GUARD32; 64];
+    let mut numbers = [u32::GUARD; 64];
     let made = make_in(k, text, size, &mut numbers);
     counters::refused(t, group, is_refused(made, number, place, &numbers), number)
 }
@@ -115,15 +116,17 @@ fn compare_made(
     table: &mut [usize],
     t: Tally,
 ) -> Tally {
-    let mut numbers = [GUARD32; 64];
+    let mut numbers = [u32::GUARD; 64];
     let made = make_in(k, text, size, &mut numbers);
-    let right = is_profile(made, k, s, &numbers) & is_part(set);
-    if !right {
+    let Some(shape) = profile_in(made, k, s, &numbers) else {
+        return tally::count(t, counters::PROFILE);
+    };
+    if !is_part(set) {
         return tally::count(t, counters::PROFILE);
     }
-    let moves = part32(table_part(&numbers), times(k, s));
-    let judged = compare_logs(made.shape, moves, set, t);
-    compare_moves(k, text, made.shape, moves, table, judged)
+    let moves = part_of(table_part(&numbers), 0, times(k, s));
+    let judged = compare_logs(shape, moves, set, t);
+    compare_moves(k, text, shape, moves, table, judged)
 }
 
 // A right text, with `extra` numbers too many, and with one too few.

@@ -57,7 +57,7 @@ pub fn refused(t: Tally, group: usize, right: bool, number: usize) -> Tally {
 }
 
 // Counts a log that was judged, whether it is described, and whether the verdict was wrong.
-pub fn judged(t: Tally, logs: usize, described: usize, verdict: usize) -> Tally {
-    let counted = tally::count_many(tally::count(t, logs), plus(logs, 1), described);
-    tally::expect(counted, VERDICT, verdict == described)
+pub fn judged(t: Tally, logs: usize, described: bool, verdict: Option<bool>) -> Tally {
+    let counted = tally::count_if(tally::count(t, logs), plus(logs, 1), described);
+    tally::expect(counted, VERDICT, verdict == Some(described))
 }

@@ -1,7 +1,7 @@
 // The moves and final states bit by bit, from lists of the numbers of the letters typed.
 use crate::counters;
 use profile::Shape;
-use trial::cells::{at32, byte, one32, part8, plus, times, wide32};
+use trial::cells::{byte, one32, part_of, plus, times, value_at, wide};
 use trial::tally;
 use trial::tally::Tally;
 use trial_grammar::meanings::{ALONE, BEGINS, ENDS, INSIDE, TYPED, describes};
@@ -13,7 +13,7 @@ fn comes(k: usize, text: &[u8], q: usize, r: usize, table: &mut [usize]) -> bool
     list[0] = byte(q);
     list[1] = byte(r);
     if q == 0 {
-        describes(TYPED, k, text, part8(&list, 1, 1), BEGINS, table)
+        describes(TYPED, k, text, part_of(&list, 1, 1), BEGINS, table)
     } else {
         describes(TYPED, k, text, &list, INSIDE, table)
     }
@@ -23,7 +23,7 @@ fn comes(k: usize, text: &[u8], q: usize, r: usize, table: &mut [usize]) -> bool
 fn may_end(k: usize, text: &[u8], q: usize, table: &mut [usize]) -> bool {
     let list = [byte(q); 1];
     if q == 0 {
-        describes(TYPED, k, text, part8(&list, 0, 0), ALONE, table)
+        describes(TYPED, k, text, part_of(&list, 0, 0), ALONE, table)
     } else {
         describes(TYPED, k, text, &list, ENDS, table)
     }
@@ -64,7 +64,7 @@ fn typed_as(k: usize, text: &[u8], a: usize) -> u32 {
 // The k moves from a state, at `at` and behind.
 fn row_right(k: usize, text: &[u8], next: u32, moves: &[u32], at: usize) -> bool {
     for a in 0..k {
-        if at32(moves, plus(at, a)) != next & typed_as(k, text, a) {
+        if value_at(moves, plus(at, a)) != next & typed_as(k, text, a) {
             return false;
         }
     }
@@ -84,7 +84,7 @@ fn rows_right(k: usize, text: &[u8], s: usize, moves: &[u32], table: &mut [usize
 fn bits_set(moves: &[u32]) -> usize {
     let mut sum = 0;
     for i in 0..moves.len() {
-        sum = plus(sum, wide32(u32::count_ones(at32(moves, i))));
+        sum = plus(sum, wide(u32::count_ones(value_at(moves, i))));
     }
     sum
 }
@@ -101,7 +101,7 @@ pub fn compare_moves(
     let s = shape.s;
     let finals = final_states(k, text, s, table);
     let right = rows_right(k, text, s, moves, table) & (finals == shape.finals);
-    let set = plus(bits_set(moves), wide32(u32::count_ones(finals)));
+    let set = plus(bits_set(moves), wide(u32::count_ones(finals)));
     let compared = tally::count_many(t, counters::BITS, times(32, plus(moves.len(), 1)));
     let counted = tally::count_many(compared, counters::SET, set);
     tally::expect(counted, counters::MOVES, right)

@@ -1,6 +1,6 @@
 // Every text up to a length over some bytes, by its number.
 use crate::compare::compare_text;
-use trial::cells::{at8, byte, part8, put8};
+use trial::cells::{byte, byte_at, part_of, put};
 use trial::logs::{log_count, put_log_number};
 use trial::tally::Tally;
 use trial_grammar::parts::CELLS;
@@ -10,7 +10,7 @@ fn put_text(bytes: &[u8], v: usize, text: &mut [u8]) -> usize {
     let mut digits = [0u8; 8];
     let n = put_log_number(bytes.len(), v, &mut digits);
     for i in 0..n {
-        put8(text, i, byte(at8(bytes, at8(&digits, i))));
+        put(text, i, byte(byte_at(bytes, byte_at(&digits, i))));
     }
     n
 }
@@ -18,7 +18,7 @@ fn put_text(bytes: &[u8], v: usize, text: &mut [u8]) -> usize {
 fn compare_number(k: usize, bytes: &[u8], v: usize, table: &mut [usize], t: Tally) -> Tally {
     let mut text = [0u8; 8];
     let n = put_text(bytes, v, &mut text);
-    compare_text(k, part8(&text, 0, n), v, table, t)
+    compare_text(k, part_of(&text, 0, n), v, table, t)
 }
 
 // All texts of up to `longest` of the bytes.

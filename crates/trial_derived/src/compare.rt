@@ -3,10 +3,7 @@ use crate::cases::Case;
 use crate::derivations::{derived, derived_rows};
 use crate::lent::grammar_in;
 use trial::calls::{BYTES, NUMBERS, table_part};
-use trial::cells::{
-    GUARD8, GUARD16, GUARD32, part8, part16, plus, times, untouched8, untouched16, untouched32,
-    wide32,
-};
+use trial::cells::{Cell, part_of, plus, times, untouched, wide};
 use trial::record_numbers::{BACKWARD, FORWARD, record_at, set_of, total_of};
 use trial::tally;
 use trial::tally::Tally;
@@ -53,7 +50,7 @@ fn record_right(
     prefixes: usize,
 ) -> bool {
     let marks = marks_of(log, table, r);
-    (total_of(table, r) == wide32(u64::count_ones(marks as u64)))
+    (total_of(table, r) == wide(u64::count_ones(marks as u64)))
         & closed(masks, log, marks)
         & (place_of(keys, prefixes, key_of(log, marks)) == r)
         & (set_of(table, r, FORWARD) == 0)
@@ -89,10 +86,10 @@ fn order_right(
     buffer: &[u8],
 ) -> bool {
     if verdict == 0 {
-        return untouched8(buffer, 0, 0);
+        return untouched(buffer, 0, 0);
     }
-    let order = part8(buffer, BYTES, n);
-    untouched8(buffer, BYTES, n) & listed(rows, count, order) & derived(rules, order)
+    let order = part_of(buffer, BYTES, n);
+    untouched(buffer, BYTES, n) & listed(rows, count, order) & derived(rules, order)
 }
 
 fn verdict_of(derivable: usize) -> usize {
@@ -116,7 +113,7 @@ pub fn with_room(case: Case, extra: usize) -> Case {
     let mut c = case;
     let masks = case.masks;
     let log = case.log;
-    let prefixes = prefix_count(part16(&masks, case.letters), part8(&log, 0, case.events));
+    let prefixes = prefix_count(part_of(&masks, 0, case.letters), part_of(&log, 0, case.events));
     c.room = plus(case.events, extra % 3);
     c.size = plus(record_at(prefixes), extra % 12);
     c.sets = plus(times(prefixes, prefixes), extra % 5);
@@ -126,7 +123,7 @@ pub fn with_room(case: Case, extra: usize) -> Case {
 // The table of a call that is not refused.
 fn compare_table(masks: &[u16], log: &[u8], numbers: &[u32], prefixes: usize, t: Tally) -> Tally {
     let right = records_right(masks, log, table_part(numbers), prefixes)
-        & untouched32(numbers, NUMBERS, record_at(prefixes));
+        & untouched(numbers, NUMBERS, record_at(prefixes));
     tally::expect(t, TABLE, right)
 }
 
@@ -156,9 +153,9 @@ fn compare_answer(
 
 // A call that is not refused, in lent buffers that are large enough.
 fn compare_call(case: Case, masks: &[u16], rules: &[u16], log: &[u8], t: Tally) -> Tally {
-    let mut buffer = [GUARD8; 24];
-    let mut numbers = [GUARD32; 700];
-    let mut sets = [GUARD16; 4128];
+    let mut buffer = [u8::GUARD; 24];
+    let mut numbers = [u32::GUARD; 700];
+    let mut sets = [u16::GUARD; 4128];
     let mut told = [99u64; 4];
     let number = grammar_in(
         case,
@@ -171,7 +168,7 @@ fn compare_call(case: Case, masks: &[u16], rules: &[u16], log: &[u8], t: Tally) 
         &mut told,
     );
     let prefixes = prefix_count(masks, log);
-    let a = tally::expect(t, TABLE, untouched16(&sets, NUMBERS, case.sets));
+    let a = tally::expect(t, TABLE, untouched(&sets, NUMBERS, case.sets));
     let b = compare_table(masks, log, &numbers, prefixes, a);
     compare_answer(masks, rules, log, number, &told, &buffer, prefixes, b)
 }
@@ -182,9 +179,9 @@ pub fn compare_case(case: Case, t: Tally) -> Tally {
     let log = case.log;
     compare_call(
         case,
-        part16(&masks, case.letters),
-        part16(&rules, case.many),
-        part8(&log, 0, case.events),
+        part_of(&masks, 0, case.letters),
+        part_of(&rules, 0, case.many),
+        part_of(&log, 0, case.events),
         t,
     )
 }

@@ -1,6 +1,6 @@
 // "can be derived", by the paper's words, of one log: for each of its parts the names from which the part can be derived, the short parts first. A rule is
 // read by its bits.
-use trial::cells::{at8, at16, bit, minus, one16, plus, put16};
+use trial::cells::{bit, byte_at, minus, one16, plus, put, value_at};
 use trial_logs::listing::row;
 
 // The parts of a log of at most eight letters: that of n letters from place i on.
@@ -33,7 +33,7 @@ fn by_names(x: usize, left: usize, right: usize) -> u16 {
 fn letter_names(rules: &[u16], letter: usize) -> u16 {
     let mut names = 0;
     for r in 0..rules.len() {
-        names = names | by_letter(at16(rules, r) as usize, letter);
+        names = names | by_letter(value_at(rules, r) as usize, letter);
     }
     names
 }
@@ -41,7 +41,7 @@ fn letter_names(rules: &[u16], letter: usize) -> u16 {
 fn pair_names(rules: &[u16], left: u16, right: u16) -> u16 {
     let mut names = 0;
     for r in 0..rules.len() {
-        names = names | by_names(at16(rules, r) as usize, left as usize, right as usize);
+        names = names | by_names(value_at(rules, r) as usize, left as usize, right as usize);
     }
     names
 }
@@ -50,8 +50,8 @@ fn pair_names(rules: &[u16], left: u16, right: u16) -> u16 {
 fn cut_names(rules: &[u16], sets: &[u16], i: usize, n: usize) -> u16 {
     let mut names = 0;
     for m in 1..n {
-        let left = at16(sets, part_at(i, m));
-        let right = at16(sets, part_at(plus(i, m), minus(n, m)));
+        let left = value_at(sets, part_at(i, m));
+        let right = value_at(sets, part_at(plus(i, m), minus(n, m)));
         names = names | pair_names(rules, left, right);
     }
     names
@@ -59,7 +59,7 @@ fn cut_names(rules: &[u16], sets: &[u16], i: usize, n: usize) -> u16 {
 
 fn part_names(rules: &[u16], log: &[u8], sets: &[u16], i: usize, n: usize) -> u16 {
     if n == 1 {
-        letter_names(rules, at8(log, i))
+        letter_names(rules, byte_at(log, i))
     } else {
         cut_names(rules, sets, i, n)
     }
@@ -69,7 +69,7 @@ fn part_names(rules: &[u16], log: &[u8], sets: &[u16], i: usize, n: usize) -> u1
 fn put_length(rules: &[u16], log: &[u8], sets: &mut [u16], n: usize) {
     for i in 0..minus(plus(log.len(), 1), n) {
         let names = part_names(rules, log, sets, i, n);
-        put16(sets, part_at(i, n), names);
+        put(sets, part_at(i, n), names);
     }
 }
 
@@ -83,7 +83,7 @@ fn put_lengths(rules: &[u16], log: &[u8], sets: &mut [u16]) {
 pub fn derived(rules: &[u16], log: &[u8]) -> bool {
     let mut sets = [0u16; 81];
     put_lengths(rules, log, &mut sets);
-    bit(at16(&sets, part_at(0, log.len())) as usize, 0) & (0 < log.len())
+    bit(value_at(&sets, part_at(0, log.len())) as usize, 0) & (0 < log.len())
 }
 
 // How many of the listed logs can be derived.

@@ -3,7 +3,7 @@ use crate::cases::{Case, no_case};
 use crate::compare::{EDGE, EDGES, with_room};
 use crate::lent::grammar_in;
 use crate::refusing::{BY_7, compare_defects, compare_refusal};
-use trial::cells::{GUARD8, GUARD16, GUARD32, part16};
+use trial::cells::{Cell, part_of};
 use trial::tally;
 use trial::tally::Tally;
 
@@ -52,16 +52,16 @@ fn edge(t: Tally, right: bool) -> Tally {
 
 // The number that a case is refused by, with a log of its own.
 fn number_of(case: Case, log: &[u8]) -> u32 {
-    let mut buffer = [GUARD8; 24];
-    let mut numbers = [GUARD32; 700];
-    let mut sets = [GUARD16; 4128];
+    let mut buffer = [u8::GUARD; 24];
+    let mut numbers = [u32::GUARD; 700];
+    let mut sets = [u16::GUARD; 4128];
     let mut told = [99u64; 4];
     let masks = case.masks;
     let rules = case.rules;
     grammar_in(
         case,
-        part16(&masks, case.letters),
-        part16(&rules, case.many),
+        part_of(&masks, 0, case.letters),
+        part_of(&rules, 0, case.many),
         log,
         &mut buffer,
         &mut numbers,

@@ -4,10 +4,7 @@ use crate::cases::Case;
 use crate::compare::{REFUSAL, REFUSED};
 use crate::lent::grammar_in;
 use trial::calls::NUMBERS;
-use trial::cells::{
-    GUARD8, GUARD16, GUARD32, bit, byte, minus, part8, part16, plus, untouched8, untouched16,
-    untouched32,
-};
+use trial::cells::{Cell, bit, byte, minus, part_of, plus, untouched};
 use trial::tally;
 use trial::tally::Tally;
 
@@ -166,9 +163,9 @@ fn compare_call(
     place: usize,
     t: Tally,
 ) -> Tally {
-    let mut buffer = [GUARD8; 24];
-    let mut numbers = [GUARD32; 700];
-    let mut sets = [GUARD16; 4128];
+    let mut buffer = [u8::GUARD; 24];
+    let mut numbers = [u32::GUARD; 700];
+    let mut sets = [u16::GUARD; 4128];
     let mut told = [99u64; 4];
     let number = grammar_in(
         case,
@@ -182,9 +179,9 @@ fn compare_call(
     );
     let right = (number == number_of(defect))
         & place_right(&told, defect, place)
-        & untouched8(&buffer, 0, 0)
-        & untouched16(&sets, 0, 0)
-        & untouched32(&numbers, NUMBERS, free_of(case, defect));
+        & untouched(&buffer, 0, 0)
+        & untouched(&sets, 0, 0)
+        & untouched(&numbers, NUMBERS, free_of(case, defect));
     if right {
         tally::count(t, plus(REFUSED, defect))
     } else {
@@ -197,8 +194,8 @@ pub fn compare_refusal(case: Case, log: &[u8], defect: usize, place: usize, t: T
     let rules = case.rules;
     compare_call(
         case,
-        part16(&masks, case.letters),
-        part16(&rules, case.many),
+        part_of(&masks, 0, case.letters),
+        part_of(&rules, 0, case.many),
         log,
         defect,
         place,
@@ -216,7 +213,7 @@ pub fn compare_defects(case: Case, defects: usize, kind: usize, t: Tally) -> Tal
     let log = c.log;
     compare_refusal(
         c,
-        part8(&log, 0, c.events),
+        part_of(&log, 0, c.events),
         first_of(some),
         minus(case.events, 1),
         t,

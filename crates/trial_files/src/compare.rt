@@ -2,17 +2,16 @@
 use crate::read_events::compare_events;
 use crate::reading::compare_file;
 use crate::written::{bytes_right, file_size};
-use logfile::Reading;
 use profile::Shape;
-use trial::answers::{Answer, is_refusal};
+use trial::answers::{Answer, is_refusal, is_told};
 use trial::calls::{BYTES, write_in};
-use trial::cells::{GUARD8, equal8, minus, part8, part16, part32, plus, times, untouched8};
+use trial::cells::{Cell, minus, part_of, plus, times, untouched};
 use trial::tally;
 use trial::tally::Tally;
 
 // The writer tells the file's length, and the guards around the file stand.
 fn answer_right(answer: Answer, size: usize, out: &[u8]) -> bool {
-    (answer.refusal == 0) & (answer.prefixes == size) & untouched8(out, BYTES, size)
+    is_told(answer, None, size, 0) & untouched(out, BYTES, size)
 }
 
 // What is read from a written file is written as the same file.
@@ -21,29 +20,29 @@ fn written_again(file: &[u8]) -> bool {
     let mut moves = [0u32; 512];
     let reading = logfile::read_file(file, &mut masks, &mut moves);
     match reading {
-        Reading::Refused(_) => false,
-        Reading::Told(shape, n) => same_file(
+        Err(_) => false,
+        Ok((shape, _)) => same_file(
             shape,
-            part16(&masks, shape.k),
-            part32(&moves, times(shape.s, shape.k)),
+            part_of(&masks, 0, shape.k),
+            part_of(&moves, 0, times(shape.s, shape.k)),
             file,
         ),
     }
 }
 
 fn same_file(shape: Shape, masks: &[u16], moves: &[u32], file: &[u8]) -> bool {
-    let mut out = [GUARD8; 6160];
+    let mut out = [u8::GUARD; 6160];
     let log = logfile::log_part(file);
     let answer = write_in(shape, masks, moves, log, 6144, &mut out);
-    answer_right(answer, file.len(), &out) & equal8(part8(&out, BYTES, file.len()), file)
+    answer_right(answer, file.len(), &out) & (part_of(&out, BYTES, file.len()) == file)
 }
 
 // Writes with one byte too little: refused by 9, nothing written.
 fn refuse_short(shape: Shape, masks: &[u16], moves: &[u32], log: &[u8], t: Tally) -> Tally {
-    let mut out = [GUARD8; 6160];
+    let mut out = [u8::GUARD; 6160];
     let room = minus(file_size(shape, log.len()), 1);
     let answer = write_in(shape, masks, moves, log, room, &mut out);
-    let right = is_refusal(answer, 9, 0, 0) & untouched8(&out, 0, 0);
+    let right = is_refusal(answer, 9, 0, 0) & untouched(&out, 0, 0);
     tally::refused(t, tally::FILE, right, tally::BY_WRITE, 9)
 }
 
@@ -66,10 +65,10 @@ fn compare_written(
     extra: usize,
     t: Tally,
 ) -> Tally {
-    let mut out = [GUARD8; 6160];
+    let mut out = [u8::GUARD; 6160];
     let size = file_size(shape, log.len());
     let answer = write_in(shape, masks, moves, log, plus(size, extra % 3), &mut out);
-    let file = part8(&out, BYTES, size);
+    let file = part_of(&out, BYTES, size);
     let right = answer_right(answer, size, &out)
         & bytes_right(shape, masks, moves, log, file)
         & written_again(file);

@@ -1,17 +1,18 @@
 // Files with a byte changed, cut files, and files whose sections stand anywhere.
 use crate::reading::compare_file;
 use profile::Shape;
-use trial::cells::{at8, byte, copy8, minus, part8, part16, part32, plus, put8, times};
+use trial::cells::{byte, byte_at, copy, minus, part_of, plus, put, times};
 use trial::random::{below, put_log, put_masks, put_moves, seed_of};
 use trial::shapes::{alt, shape_of};
+use trial::tally;
 use trial::tally::Tally;
 
 // Compares the file with byte i changed to v.
 fn compare_changed(file: &[u8], i: usize, v: usize, t: Tally) -> Tally {
     let mut changed = [0u8; 160];
-    copy8(file, &mut changed);
-    put8(&mut changed, i, byte(v));
-    compare_file(part8(&changed, 0, file.len()), 18, 520, t)
+    copy(file, &mut changed);
+    put(&mut changed, i, byte(v));
+    compare_file(part_of(&changed, 0, file.len()), 18, 520, t)
 }
 
 // Every byte changed to every value.
@@ -40,7 +41,7 @@ fn some_changes(file: &[u8], t: Tally) -> Tally {
     let mut u = t;
     for v in 0..times(file.len(), 6) {
         let i = v / 6;
-        u = compare_changed(file, i, other_value(at8(file, i), i, v % 6), u);
+        u = compare_changed(file, i, other_value(byte_at(file, i), i, v % 6), u);
     }
     u
 }
@@ -49,8 +50,8 @@ fn some_changes(file: &[u8], t: Tally) -> Tally {
 fn every_cut(file: &[u8], t: Tally) -> Tally {
     let mut u = t;
     for m in 0..plus(file.len(), 1) {
-        let cut = compare_file(part8(file, 0, m), 16, 512, u);
-        u = compare_file(part8(file, m, minus(file.len(), m)), 16, 512, cut);
+        let cut = compare_file(part_of(file, 0, m), 16, 512, u);
+        u = compare_file(part_of(file, m, minus(file.len(), m)), 16, 512, cut);
     }
     u
 }
@@ -58,9 +59,10 @@ fn every_cut(file: &[u8], t: Tally) -> Tally {
 // Cuts and changes the file of a profile and a log; every value of a byte is tried where `all` is true.
 fn damage(shape: Shape, masks: &[u16], moves: &[u32], log: &[u8], all: bool, t: Tally) -> Tally {
     let mut out = [0u8; 160];
-    filewriter::write_file(shape, masks, moves, log, &mut out);
-    let file = part8(&out, 0, crate::written::file_size(shape, log.len()));
-    let cut = every_cut(file, t);
+    let size = crate::written::file_size(shape, log.len());
+    let written = filewriter::write_file(shape, masks, moves, log, &mut out).ok();
+    let file = part_of(&out, 0, size);
+    let cut = every_cut(file, tally::expect(t, tally::FILE, written == Some(size)));
     if all {
         every_change(file, cut)
     } else {
@@ -90,9 +92,9 @@ fn damage_of(seed: usize, k: usize, s: usize, n: usize, t: Tally) -> Tally {
     put_log(seed, k, n, &mut log);
     damage(
         shape_of(k, s, 0, 1),
-        part16(&masks, k),
-        part32(&moves, times(s, k)),
-        part8(&log, 0, n),
+        part_of(&masks, 0, k),
+        part_of(&moves, 0, times(s, k)),
+        part_of(&log, 0, n),
         false,
         t,
     )
@@ -142,7 +144,7 @@ fn scattered_byte(seed: usize, at: usize, i: usize) -> usize {
 
 fn put_scattered(seed: usize, at: usize, file: &mut [u8]) {
     for i in 0..plus(at, 16) {
-        put8(file, i, byte(scattered_byte(seed, at, i)));
+        put(file, i, byte(scattered_byte(seed, at, i)));
     }
 }
 
@@ -151,7 +153,7 @@ fn scatter(seed: usize, t: Tally) -> Tally {
     let mut file = [0u8; 160];
     let at = below(seed, 900, 80);
     put_scattered(seed, at, &mut file);
-    compare_file(part8(&file, 0, plus(at, 16)), 16, 512, t)
+    compare_file(part_of(&file, 0, plus(at, 16)), 16, 512, t)
 }
 
 pub fn scatter_many(seed: usize, many: usize, t: Tally) -> Tally {

@@ -6,7 +6,7 @@ use crate::written::{file_byte, file_size};
 use profile::Shape;
 use trial::answers::is_refusal;
 use trial::calls::write_in;
-use trial::cells::{GUARD8, byte, minus, part8, plus, put_run, put8, untouched8};
+use trial::cells::{Cell, byte, minus, part_of, plus, put, put_run, untouched};
 use trial::shapes::shape_of;
 use trial::tally;
 use trial::tally::Tally;
@@ -21,7 +21,7 @@ fn long_file(n: usize, t: Tally) -> Tally {
         shape_of(16, 32, 31, 4294967295),
         &masks,
         &moves,
-        part8(&log, 0, n),
+        part_of(&log, 0, n),
         1,
         t,
     );
@@ -33,7 +33,7 @@ fn too_long_file(t: Tally) -> Tally {
     let masks = [0u16; 16];
     let moves = [4294967295u32; 512];
     let log = [15u8; 4001];
-    let mut out = [GUARD8; 6160];
+    let mut out = [u8::GUARD; 6160];
     let answer = write_in(
         shape_of(16, 32, 31, 4294967295),
         &masks,
@@ -42,14 +42,14 @@ fn too_long_file(t: Tally) -> Tally {
         6140,
         &mut out,
     );
-    let right = is_refusal(answer, 7, 0, 0) & untouched8(&out, 0, 0);
+    let right = is_refusal(answer, 7, 0, 0) & untouched(&out, 0, 0);
     tally::refused_edge(t, right, tally::BY_WRITE, 7)
 }
 
 // The bytes of a file that the writer may refuse.
 fn put_file(shape: Shape, masks: &[u16], moves: &[u32], log: &[u8], file: &mut [u8]) {
     for i in 0..file_size(shape, log.len()) {
-        put8(file, i, byte(file_byte(shape, masks, moves, log, i)));
+        put(file, i, byte(file_byte(shape, masks, moves, log, i)));
     }
 }
 
@@ -58,16 +58,16 @@ fn put_file(shape: Shape, masks: &[u16], moves: &[u32], log: &[u8], file: &mut [
 fn compare_made(n: usize, last: usize, i: usize, v: usize, number: usize, t: Tally) -> Tally {
     let mut log = [0u8; 4001];
     let mut file = [0u8; 4032];
-    put8(&mut log, minus(n, 1), byte(last));
+    put(&mut log, minus(n, 1), byte(last));
     put_file(
         shape_of(2, 1, 0, 1),
         &[2u16, 1],
         &[1u32, 1],
-        part8(&log, 0, n),
+        part_of(&log, 0, n),
         &mut file,
     );
-    put8(&mut file, i, byte(v));
-    let made = part8(&file, 0, plus(n, 28));
+    put(&mut file, i, byte(v));
+    let made = part_of(&file, 0, plus(n, 28));
     let right = file_refusal(made) == number;
     compare_file(made, 2, 2, tally::edge(t, right))
 }

@@ -1,20 +1,7 @@
 // The log reader, by its functions on a log and a place: each event in turn, then the end and no more.
-use logreader::Event;
-use trial::cells::{at8, plus, wide8};
+use trial::cells::plus;
 use trial::tally;
 use trial::tally::Tally;
-
-// The letter of an event; 256 at the end.
-fn letter_of(event: Event) -> usize {
-    match event {
-        Event::Letter(a) => wide8(a),
-        Event::End => 256,
-    }
-}
-
-fn expected_letter(log: &[u8], i: usize) -> usize {
-    if i < log.len() { at8(log, i) } else { 256 }
-}
 
 // At the end and past it the place stays.
 fn expected_place(log: &[u8], i: usize) -> usize {
@@ -23,7 +10,7 @@ fn expected_place(log: &[u8], i: usize) -> usize {
 
 // The step at place i.
 fn step_right(log: &[u8], i: usize) -> bool {
-    (letter_of(logreader::event_at(log, i)) == expected_letter(log, i))
+    (logreader::event_at(log, i) == log.get(i).copied())
         & (logreader::place_after(log, i) == expected_place(log, i))
 }
 

@@ -2,11 +2,8 @@
 use crate::second_reader::{
     field, file_refusal, finals, log_length, mask, move_count, move_set, refusal_place, section,
 };
-use logfile::{Located, Reading};
 use profile::{Refusal, Shape};
-use trial::cells::{
-    GUARD16, GUARD32, at16, at32, equal8, part8, plus, untouched16, untouched32, wide32,
-};
+use trial::cells::{Cell, part_of, plus, untouched, value_at, wide};
 use trial::tally;
 use trial::tally::Tally;
 
@@ -29,39 +26,39 @@ fn numbers_right(file: &[u8], shape: Shape, n: usize) -> bool {
         & (shape.s == field(file, 1))
         & (shape.start == field(file, 2))
         & (n == log_length(file))
-        & (wide32(shape.finals) == finals(file))
+        & (wide(shape.finals) == finals(file))
 }
 
 // The refusal has the number, and its place.
 fn refusal_right(file: &[u8], r: Refusal, number: usize) -> bool {
-    (wide32(refusals::number(r)) == number) & (refusals::place(r) == refusal_place(file, number))
+    (wide(refusals::number(r)) == number) & (refusals::place(r) == refusal_place(file, number))
 }
 
 // The answer is the refusal with its place, or the file's numbers where it is 0.
-fn answer_right(file: &[u8], reading: Reading, number: usize) -> bool {
+fn answer_right(file: &[u8], reading: Result<(Shape, usize), Refusal>, number: usize) -> bool {
     match reading {
-        Reading::Refused(r) => refusal_right(file, r, number),
-        Reading::Told(shape, n) => (number == 0) & numbers_right(file, shape, n),
+        Err(r) => refusal_right(file, r, number),
+        Ok((shape, n)) => (number == 0) & numbers_right(file, shape, n),
     }
 }
 
 // The first masks of the lent part, which begins at 2, are those of the file, and the others stay.
 fn masks_right(file: &[u8], masks: &[u16]) -> bool {
     for i in 0..field(file, 0) {
-        if at16(masks, plus(2, i)) as usize != mask(file, i) {
+        if value_at(masks, plus(2, i)) as usize != mask(file, i) {
             return false;
         }
     }
-    untouched16(masks, 2, field(file, 0))
+    untouched(masks, 2, field(file, 0))
 }
 
 fn moves_right(file: &[u8], moves: &[u32]) -> bool {
     for i in 0..move_count(file) {
-        if wide32(at32(moves, plus(2, i))) != move_set(file, i) {
+        if wide(value_at(moves, plus(2, i))) != move_set(file, i) {
             return false;
         }
     }
-    untouched32(moves, 2, move_count(file))
+    untouched(moves, 2, move_count(file))
 }
 
 // Both buffers are filled, or unchanged where the call is refused.
@@ -69,7 +66,7 @@ fn buffers_right(file: &[u8], number: usize, masks: &[u16], moves: &[u32]) -> bo
     if number == 0 {
         masks_right(file, masks) & moves_right(file, moves)
     } else {
-        untouched16(masks, 0, 0) & untouched32(moves, 0, 0)
+        untouched(masks, 0, 0) & untouched(moves, 0, 0)
     }
 }
 
@@ -95,8 +92,8 @@ fn parts_right(
 }
 
 fn reading_right(file: &[u8], mask_room: usize, move_room: usize, number: usize) -> bool {
-    let mut masks = [GUARD16; 24];
-    let mut moves = [GUARD32; 536];
+    let mut masks = [u16::GUARD; 24];
+    let mut moves = [u32::GUARD; 536];
     parts_right(file, mask_room, move_room, number, &mut masks, &mut moves)
 }
 
@@ -104,7 +101,7 @@ fn reading_right(file: &[u8], mask_room: usize, move_room: usize, number: usize)
 fn part_right(file: &[u8], number: usize) -> bool {
     let part = logfile::log_part(file);
     if number == 0 {
-        (part.len() == log_length(file)) & equal8(part, part8(file, section(file, 8), part.len()))
+        (part.len() == log_length(file)) & (part == part_of(file, section(file, 8), part.len()))
     } else {
         part.len() == 0
     }
@@ -114,8 +111,8 @@ fn part_right(file: &[u8], number: usize) -> bool {
 fn location_right(file: &[u8], number: usize) -> bool {
     let located = logfile::locate_log(file);
     match located {
-        Located::Refused(r) => refusal_right(file, r, number),
-        Located::At(at, n) => { (number == 0) & (at == section(file, 8)) & (n == log_length(file)) }
+        Err(r) => refusal_right(file, r, number),
+        Ok((at, n)) => { (number == 0) & (at == section(file, 8)) & (n == log_length(file)) }
     }
 }
 

@@ -1,9 +1,9 @@
 // A second reader of log files, from document 01's table of the trailer and its list of refusals, and document 02's words on long logs.
-use trial::cells::{at8, bit, minus, plus, times};
+use trial::cells::{bit, byte_at, minus, plus, times};
 
 // The number of two bytes at `at`, low byte first, and of four.
 fn half(file: &[u8], at: usize) -> usize {
-    (at8(file, plus(at, 1)) << 8) | at8(file, at)
+    (byte_at(file, plus(at, 1)) << 8) | byte_at(file, at)
 }
 
 pub fn word(file: &[u8], at: usize) -> usize {
@@ -17,7 +17,7 @@ pub fn trailer(file: &[u8]) -> usize {
 
 // Trailer byte i: k, s and start are 0, 1 and 2.
 pub fn field(file: &[u8], i: usize) -> usize {
-    at8(file, plus(trailer(file), i))
+    byte_at(file, plus(trailer(file), i))
 }
 
 // n: "Trailer byte 10 becomes the high byte of n".
@@ -105,7 +105,7 @@ fn bad_place(file: &[u8]) -> usize {
     let n = log_length(file);
     let at = section(file, 8);
     for i in 0..n {
-        if k <= at8(file, plus(at, i)) {
+        if k <= byte_at(file, plus(at, i)) {
             return i;
         }
     }

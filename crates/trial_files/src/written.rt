@@ -1,6 +1,6 @@
 // The bytes of a log file by the documents' words: masks, moves, log, trailer, without gaps.
 use profile::Shape;
-use trial::cells::{at8, at16, at32, minus, plus, times, wide32};
+use trial::cells::{byte_at, minus, plus, times, value_at, wide};
 
 // Byte i of a number, low byte first.
 fn digit(v: usize, i: usize) -> usize {
@@ -38,7 +38,7 @@ fn trailer_byte(shape: Shape, n: usize, i: usize) -> usize {
         8 | 9 => digit(n, i - 8),
         10 => digit(n, 1),
         11 => 0,
-        _ => digit(wide32(shape.finals), minus(i, 12)),
+        _ => digit(wide(shape.finals), minus(i, 12)),
     }
 }
 
@@ -48,14 +48,14 @@ pub fn file_byte(shape: Shape, masks: &[u16], moves: &[u32], log: &[u8], i: usiz
     let log_at = plus(moves_at, move_bytes(shape));
     let end = plus(log_at, log.len());
     if i < moves_at {
-        return digit(at16(masks, i / 2) as usize, i % 2);
+        return digit(value_at(masks, i / 2) as usize, i % 2);
     }
     if i < log_at {
         let j = minus(i, moves_at);
-        return digit(wide32(at32(moves, j / 4)), j % 4);
+        return digit(wide(value_at(moves, j / 4)), j % 4);
     }
     if i < end {
-        return at8(log, minus(i, log_at));
+        return byte_at(log, minus(i, log_at));
     }
     trailer_byte(shape, log.len(), minus(i, end))
 }
@@ -63,7 +63,7 @@ pub fn file_byte(shape: Shape, masks: &[u16], moves: &[u32], log: &[u8], i: usiz
 // The file has these bytes.
 pub fn bytes_right(shape: Shape, masks: &[u16], moves: &[u32], log: &[u8], file: &[u8]) -> bool {
     for i in 0..file.len() {
-        if at8(file, i) != file_byte(shape, masks, moves, log, i) {
+        if byte_at(file, i) != file_byte(shape, masks, moves, log, i) {
             return false;
         }
     }

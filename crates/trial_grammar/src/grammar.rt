@@ -1,7 +1,7 @@
 // Right texts: an expression is a sequence, or a sequence, `|` and an expression; a sequence is a factor, or a factor and a sequence; a factor is a letter, or
 // an expression in brackets, or a factor and `*`. For each place and level, the set of the places where such a part ends that begins there.
-use crate::words::{at, is_letter, one, put};
-use trial::cells::{at8, bit, copy8, minus, part8, plus, put_run, put8};
+use crate::words::{is_letter, one};
+use trial::cells::{bit, byte_at, copy, minus, part_of, plus, put, put_run, value_at};
 
 // The row of a place and level.
 const SEQUENCE: usize = 64;
@@ -12,7 +12,7 @@ const EXPRESSION: usize = 128;
 fn starred(text: &[u8], ends: usize) -> usize {
     let mut all = ends;
     for j in 0..text.len() {
-        if bit(all, j) & (at8(text, j) == 42) {
+        if bit(all, j) & (byte_at(text, j) == 42) {
             all = all | one(plus(j, 1));
         }
     }
@@ -23,7 +23,7 @@ fn starred(text: &[u8], ends: usize) -> usize {
 fn closed(text: &[u8], ends: usize) -> usize {
     let mut all = 0;
     for j in 0..text.len() {
-        if bit(ends, j) & (at8(text, j) == 41) {
+        if bit(ends, j) & (byte_at(text, j) == 41) {
             all = all | one(plus(j, 1));
         }
     }
@@ -35,8 +35,8 @@ fn factor_ends(k: usize, text: &[u8], i: usize, rows: &[usize]) -> usize {
     if is_letter(k, text, i) {
         return starred(text, one(plus(i, 1)));
     }
-    if at8(text, i) == 40 {
-        return starred(text, closed(text, at(rows, plus(EXPRESSION, plus(i, 1)))));
+    if byte_at(text, i) == 40 {
+        return starred(text, closed(text, value_at(rows, plus(EXPRESSION, plus(i, 1)))));
     }
     0
 }
@@ -46,7 +46,7 @@ fn sequence_ends(text: &[u8], factors: usize, rows: &[usize]) -> usize {
     let mut all = factors;
     for j in 0..text.len() {
         if bit(factors, j) {
-            all = all | at(rows, plus(SEQUENCE, j));
+            all = all | value_at(rows, plus(SEQUENCE, j));
         }
     }
     all
@@ -56,8 +56,8 @@ fn sequence_ends(text: &[u8], factors: usize, rows: &[usize]) -> usize {
 fn expression_ends(text: &[u8], sequences: usize, rows: &[usize]) -> usize {
     let mut all = sequences;
     for j in 0..text.len() {
-        if bit(sequences, j) & (at8(text, j) == 124) {
-            all = all | at(rows, plus(EXPRESSION, plus(j, 1)));
+        if bit(sequences, j) & (byte_at(text, j) == 124) {
+            all = all | value_at(rows, plus(EXPRESSION, plus(j, 1)));
         }
     }
     all
@@ -86,10 +86,10 @@ fn is_completed(k: usize, beginning: &[u8], letters: usize, brackets: usize) -> 
     let mut text = [0u8; 128];
     let n = beginning.len();
     let at = plus(n, letters);
-    copy8(beginning, &mut text);
-    put8(&mut text, n, b'a');
+    copy(beginning, &mut text);
+    put(&mut text, n, b'a');
     put_run(&mut text, at, brackets, b')');
-    is_right(k, part8(&text, 0, plus(at, brackets)))
+    is_right(k, part_of(&text, 0, plus(at, brackets)))
 }
 
 // Some right text has this beginning: at most a letter and the closing brackets were missing.
@@ -108,7 +108,7 @@ fn begins(k: usize, beginning: &[u8]) -> bool {
 // The place of 11 in a text that is not right: "the first byte that no right text with the same beginning has there, or the text's length".
 pub fn place_of(k: usize, text: &[u8]) -> usize {
     for i in 0..text.len() {
-        if !begins(k, part8(text, 0, plus(i, 1))) {
+        if !begins(k, part_of(text, 0, plus(i, 1))) {
             return i;
         }
     }

@@ -2,8 +2,8 @@
 // and a member leads from its node to the next. Where anything may come before the list, or behind it, every letter leads from node 0 to itself,
 // or from node n.
 use crate::parts::{LOGS, PATHS, meaning_of};
-use crate::words::{is_letter, letter_at, one, one_if, put, when};
-use trial::cells::{at8, bit, plus};
+use crate::words::{is_letter, letter_at, one, one_if, when};
+use trial::cells::{bit, byte_at, plus, put};
 
 // What may come around the list: nothing, anything before it, anything behind it, or both.
 pub const ALONE: usize = 0;
@@ -33,7 +33,7 @@ fn loops(around: usize, n: usize) -> usize {
 fn paths_of(member: usize, list: &[u8], around: usize) -> usize {
     let mut all = loops(around, list.len());
     for p in 0..list.len() {
-        all = all | when(at8(list, p) == member, next_node(p));
+        all = all | when(byte_at(list, p) == member, next_node(p));
     }
     all
 }

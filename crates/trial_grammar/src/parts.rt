@@ -1,7 +1,7 @@
 // What each part of a text means, at each level: a table over all parts, split at every place as the grammar says. A meaning is a set of logs,
 // or a set of paths; a part that is not right at a level has none.
-use crate::words::{at, is_letter, one, put, when};
-use trial::cells::{at8, bit, minus, plus};
+use crate::words::{is_letter, one, when};
+use trial::cells::{bit, byte_at, minus, plus, put, value_at};
 
 // A set of logs: bit v is log number v of those of up to four letters a and b.
 pub const LOGS: usize = 0;
@@ -29,7 +29,7 @@ fn cell(level: usize, i: usize, j: usize) -> usize {
 pub const CELLS: usize = 12288;
 
 fn meaning(table: &[usize], level: usize, i: usize, j: usize) -> usize {
-    at(table, cell(level, i, j))
+    value_at(table, cell(level, i, j))
 }
 
 pub fn is_part(x: usize) -> bool {
@@ -142,7 +142,7 @@ fn repeated(kind: usize, x: usize) -> usize {
 fn letter_factor(k: usize, text: &[u8], letters: &[usize], i: usize, j: usize) -> usize {
     when(
         (j == plus(i, 1)) & is_letter(k, text, i),
-        PART | at(letters, i),
+        PART | value_at(letters, i),
     )
 }
 
@@ -150,7 +150,7 @@ fn letter_factor(k: usize, text: &[u8], letters: &[usize], i: usize, j: usize) -
 fn bracket_factor(text: &[u8], table: &[usize], i: usize, j: usize) -> usize {
     let last = minus(j, 1);
     when(
-        (at8(text, i) == 40) & (at8(text, last) == 41),
+        (byte_at(text, i) == 40) & (byte_at(text, last) == 41),
         meaning(table, EXPRESSION, plus(i, 1), last),
     )
 }
@@ -158,7 +158,7 @@ fn bracket_factor(text: &[u8], table: &[usize], i: usize, j: usize) -> usize {
 // A factor and `*`.
 fn star_factor(kind: usize, text: &[u8], table: &[usize], i: usize, j: usize) -> usize {
     let last = minus(j, 1);
-    if at8(text, last) != 42 {
+    if byte_at(text, last) != 42 {
         return 0;
     }
     repeated(kind, meaning(table, FACTOR, i, last))
@@ -182,7 +182,7 @@ fn sequence_of(kind: usize, table: &[usize], i: usize, j: usize) -> usize {
 fn expression_of(text: &[u8], table: &[usize], i: usize, j: usize) -> usize {
     let mut all = meaning(table, SEQUENCE, i, j);
     for m in i..j {
-        if at8(text, m) == 124 {
+        if byte_at(text, m) == 124 {
             all = all
                 | either(
                     meaning(table, SEQUENCE, i, m),

@@ -1,15 +1,5 @@
-// Sets as the bits of a number; reads and writes of them that are total.
-use trial::cells::{at8, plus};
-
-pub fn at(s: &[usize], i: usize) -> usize {
-    if i < s.len() { s[i] } else { 0 }
-}
-
-pub fn put(s: &mut [usize], i: usize, v: usize) {
-    if i < s.len() {
-        s[i] = v;
-    }
-}
+// Sets as the bits of a number, and the letters of a text.
+use trial::cells::{byte_at, plus};
 
 // The set of i alone.
 pub fn one(i: usize) -> usize {
@@ -27,7 +17,7 @@ pub fn one_if(test: bool) -> usize {
 
 // "Letters are a to p": the letter below k that stands at place i; 16 where there is none.
 pub fn letter_at(k: usize, text: &[u8], i: usize) -> usize {
-    let c = at8(text, i);
+    let c = byte_at(text, i);
     if c < 97 {
         return 16;
     }

@@ -4,9 +4,9 @@ use crate::paths::{backward, earliest_accepted, forward};
 use crate::place_keys::{key_of, place_of, put_keys};
 use crate::prefixes::{closed, look_count, marks_of, take_events};
 use profile::Shape;
-use trial::answers::{Answer, NONE, is_refusal, is_unchanged, is_verdict};
+use trial::answers::{Answer, is_refusal, is_told, is_unchanged};
 use trial::calls::{BYTES, NUMBERS, build_in, judge_in, table_part};
-use trial::cells::{GUARD8, GUARD32, holds8, part8, untouched8, untouched32, wide32};
+use trial::cells::{Cell, holds, part_of, untouched, wide};
 use trial::record_numbers::{BACKWARD, FORWARD, record_at, set_of, total_of};
 use trial::tally;
 use trial::tally::Tally;
@@ -16,7 +16,7 @@ pub fn forward_of(shape: Shape, masks: &[u16], moves: &[u32], log: &[u8], marks:
     let mut word = [0u8; 8];
     let mut rows = [0u8; 16384];
     let n = take_events(log, marks, true, &mut word);
-    let count = list(masks, part8(&word, 0, n), &mut rows);
+    let count = list(masks, part_of(&word, 0, n), &mut rows);
     forward(shape, moves, &rows, count, n)
 }
 
@@ -25,7 +25,7 @@ fn backward_of(shape: Shape, masks: &[u16], moves: &[u32], log: &[u8], marks: us
     let mut word = [0u8; 8];
     let mut rows = [0u8; 16384];
     let n = take_events(log, marks, false, &mut word);
-    let count = list(masks, part8(&word, 0, n), &mut rows);
+    let count = list(masks, part_of(&word, 0, n), &mut rows);
     backward(shape, moves, &rows, count, n)
 }
 
@@ -39,7 +39,7 @@ fn counts_right(
     keys: &[usize],
     prefixes: usize,
 ) -> bool {
-    (total_of(table, r) == wide32(u64::count_ones(marks as u64)))
+    (total_of(table, r) == wide(u64::count_ones(marks as u64)))
         & closed(masks, log, marks)
         & (place_of(keys, prefixes, key_of(log, marks)) == r)
 }
@@ -101,12 +101,12 @@ fn table_right(
     moves: &[u32],
     log: &[u8],
     answer: Answer,
-    verdict: usize,
+    verdict: Option<bool>,
     prefixes: usize,
     numbers: &[u32],
 ) -> bool {
-    is_verdict(answer, verdict, prefixes, look_count(masks, log))
-        & untouched32(numbers, NUMBERS, record_at(prefixes))
+    is_told(answer, verdict, prefixes, look_count(masks, log))
+        & untouched(numbers, NUMBERS, record_at(prefixes))
         & records_right(shape, masks, moves, log, table_part(numbers), prefixes)
 }
 
@@ -120,31 +120,27 @@ pub fn compare_build(
     size: usize,
     t: Tally,
 ) -> Tally {
-    let mut numbers = [GUARD32; 1416];
+    let mut numbers = [u32::GUARD; 1416];
     let answer = build_in(shape, masks, moves, log, size, &mut numbers);
-    let right = table_right(shape, masks, moves, log, answer, NONE, prefixes, &numbers);
+    let right = table_right(shape, masks, moves, log, answer, None, prefixes, &numbers);
     let counted = tally::count_many(t, tally::RECORDS, prefixes);
     tally::count(tally::expect(counted, tally::TABLE, right), tally::TABLES)
 }
 
 // The order buffer is the guard but for the expected order, which stands at the lent part's start; with verdict 0 it is the guard.
-fn order_right(buffer: &[u8], verdict: usize, order: &[u8]) -> bool {
-    if verdict == 0 {
-        untouched8(buffer, 0, 0)
+fn order_right(buffer: &[u8], verdict: bool, order: &[u8]) -> bool {
+    if verdict {
+        holds(buffer, BYTES, order)
     } else {
-        holds8(buffer, BYTES, order)
+        untouched(buffer, 0, 0)
     }
 }
 
 // Counts a judged log; a listing that did not fit has no rows and is wrong.
-fn count_judged(t: Tally, right: bool, verdict: usize, count: usize) -> Tally {
+fn count_judged(t: Tally, right: bool, verdict: bool, count: usize) -> Tally {
     let judged = tally::expect(t, tally::JUDGE, right & (0 < count));
-    let accepted = tally::count_many(tally::count(judged, tally::LOGS), tally::ACCEPTED, verdict);
+    let accepted = tally::count_if(tally::count(judged, tally::LOGS), tally::ACCEPTED, verdict);
     tally::count_many(accepted, tally::REACHABLE, count)
-}
-
-fn verdict_of(best: usize, count: usize) -> usize {
-    if best < count { 1 } else { 0 }
 }
 
 // Judges a log into an order buffer of `room` bytes and a table of `size` numbers, which are enough.
@@ -159,12 +155,12 @@ pub fn compare_judge(
     t: Tally,
 ) -> Tally {
     let mut rows = [0u8; 16384];
-    let mut buffer = [GUARD8; 32];
-    let mut numbers = [GUARD32; 1416];
+    let mut buffer = [u8::GUARD; 32];
+    let mut numbers = [u32::GUARD; 1416];
     let n = log.len();
     let count = list(masks, log, &mut rows);
     let best = earliest_accepted(shape, moves, &rows, count, n);
-    let verdict = verdict_of(best, count);
+    let verdict = best < count;
     let answer = judge_in(
         shape,
         masks,
@@ -176,7 +172,7 @@ pub fn compare_judge(
         &mut numbers,
     );
     let right = table_right(
-        shape, masks, moves, log, answer, verdict, prefixes, &numbers,
+        shape, masks, moves, log, answer, Some(verdict), prefixes, &numbers,
     ) & order_right(&buffer, verdict, row(&rows, best, n));
     count_judged(t, right, verdict, count)
 }
@@ -190,9 +186,9 @@ pub fn refuse_build(
     size: usize,
     t: Tally,
 ) -> Tally {
-    let mut numbers = [GUARD32; 1416];
+    let mut numbers = [u32::GUARD; 1416];
     let answer = build_in(shape, masks, moves, log, size, &mut numbers);
-    let right = is_refusal(answer, 10, 0, 0) & untouched32(&numbers, NUMBERS, size);
+    let right = is_refusal(answer, 10, 0, 0) & untouched(&numbers, NUMBERS, size);
     tally::refused(
         tally::count(t, tally::FULL_TABLES),
         tally::TABLE,
@@ -213,8 +209,8 @@ pub fn refuse_judge(
     size: usize,
     t: Tally,
 ) -> Tally {
-    let mut buffer = [GUARD8; 32];
-    let mut numbers = [GUARD32; 1416];
+    let mut buffer = [u8::GUARD; 32];
+    let mut numbers = [u32::GUARD; 1416];
     let answer = judge_in(
         shape,
         masks,

@@ -1,15 +1,13 @@
 // The listing of the logs reachable from a log: exchanges of neighbouring letters, tried on every listed log until nothing new appears; and of the logs
 // from which it is reachable. A listed log is a row of eight bytes; the mask test is this crate's own.
-use trial::cells::{
-    at8, at16, bit, byte, copy8, equal8, minus, one16, part8, part16, plus, put8, put16,
-};
+use trial::cells::{bit, byte, byte_at, copy, minus, one16, part_of, plus, put, value_at};
 
 // Rows of a listing, the last of which is left for an exchange that is tried.
 pub const MOST: usize = 2048;
 
 // Letter i directly followed by j may become j followed by i: bit j of mask i is set.
 pub fn commute(masks: &[u16], i: usize, j: usize) -> bool {
-    bit(at16(masks, i) as usize, j)
+    bit(value_at(masks, i) as usize, j)
 }
 
 fn row_at(r: usize) -> usize {
@@ -18,12 +16,12 @@ fn row_at(r: usize) -> usize {
 
 // Listed log r, of n letters.
 pub fn row(rows: &[u8], r: usize, n: usize) -> &[u8] {
-    part8(rows, row_at(r), n)
+    part_of(rows, row_at(r), n)
 }
 
 // Letter i of row r.
 fn letter(rows: &[u8], r: usize, i: usize) -> usize {
-    at8(rows, plus(row_at(r), i))
+    byte_at(rows, plus(row_at(r), i))
 }
 
 // Where the letter at place j stood before the exchange at i and i + 1.
@@ -39,14 +37,14 @@ fn put_exchanged(rows: &mut [u8], from: usize, to: usize, n: usize, i: usize) {
     let at = row_at(to);
     for j in 0..n {
         let moved = letter(rows, from, exchanged_place(i, j));
-        put8(rows, plus(at, j), byte(moved));
+        put(rows, plus(at, j), byte(moved));
     }
 }
 
 // A log of the first `count` rows.
 pub fn listed(rows: &[u8], count: usize, log: &[u8]) -> bool {
     for r in 0..count {
-        if equal8(row(rows, r, log.len()), log) {
+        if (row(rows, r, log.len()) == log) {
             return true;
         }
     }
@@ -101,7 +99,7 @@ fn close_listing(masks: &[u16], rows: &mut [u8], n: usize) -> usize {
 
 // Lists the logs reachable from the log, and tells how many; 0 where they do not fit.
 pub fn list(masks: &[u16], log: &[u8], rows: &mut [u8]) -> usize {
-    copy8(log, rows);
+    copy(log, rows);
     let count = close_listing(masks, rows, log.len());
     if count < MOST { count } else { 0 }
 }
@@ -120,14 +118,14 @@ fn turned_mask(masks: &[u16], j: usize) -> u16 {
 // The masks turned round, by which exchanges are undone.
 fn turn_masks(masks: &[u16], turned: &mut [u16]) {
     for j in 0..masks.len() {
-        put16(turned, j, turned_mask(masks, j));
+        put(turned, j, turned_mask(masks, j));
     }
 }
 
 // Some pair may be exchanged one way and not the other.
 pub fn one_way(masks: &[u16]) -> bool {
     for j in 0..masks.len() {
-        if turned_mask(masks, j) != at16(masks, j) {
+        if turned_mask(masks, j) != value_at(masks, j) {
             return true;
         }
     }
@@ -138,14 +136,14 @@ pub fn one_way(masks: &[u16]) -> bool {
 pub fn list_back(masks: &[u16], log: &[u8], rows: &mut [u8]) -> usize {
     let mut turned = [0u16; 16];
     turn_masks(masks, &mut turned);
-    list(part16(&turned, masks.len()), log, rows)
+    list(part_of(&turned, 0, masks.len()), log, rows)
 }
 
 // Log a comes before log b: at the first place where they differ its letter is smaller.
 pub fn earlier(a: &[u8], b: &[u8]) -> bool {
     for i in 0..a.len() {
-        if at8(a, i) != at8(b, i) {
-            return at8(a, i) < at8(b, i);
+        if byte_at(a, i) != byte_at(b, i) {
+            return byte_at(a, i) < byte_at(b, i);
         }
     }
     false

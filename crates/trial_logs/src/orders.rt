@@ -1,8 +1,8 @@
 // Same and first order against the listing.
 use crate::listing::{earliest, list, list_back, listed, row};
-use trial::answers::{is_refusal, is_verdict, of_compared};
+use trial::answers::{is_refusal, is_told, is_verdict, of_compared};
 use trial::calls::{BYTES, first_order_in};
-use trial::cells::{GUARD8, equal8, holds8, minus, untouched8};
+use trial::cells::{Cell, holds, minus, untouched};
 use trial::tally;
 use trial::tally::Tally;
 
@@ -11,12 +11,8 @@ fn in_listing(rows: &[u8], count: usize, first: &[u8], second: &[u8]) -> bool {
     (first.len() == second.len()) & listed(rows, count, second)
 }
 
-fn one_if(yes: bool) -> usize {
-    if yes { 1 } else { 0 }
-}
-
 // The comparison says the verdict.
-fn compared_right(k: usize, masks: &[u16], first: &[u8], second: &[u8], verdict: usize) -> bool {
+fn compared_right(k: usize, masks: &[u16], first: &[u8], second: &[u8], verdict: bool) -> bool {
     is_verdict(
         of_compared(comparison::same(k, masks, first, second)),
         verdict,
@@ -35,12 +31,12 @@ fn compare_pair(
     back: bool,
     t: Tally,
 ) -> Tally {
-    let verdict = one_if(forth & back);
+    let verdict = forth & back;
     let right = compared_right(k, masks, first, second, verdict)
         & compared_right(k, masks, second, first, verdict);
     let counted = tally::count(tally::expect(t, tally::SAME, right), tally::PAIRS);
-    let one_way = tally::count_many(counted, tally::ONE_WAY_PAIRS, one_if(forth != back));
-    tally::count_many(one_way, tally::SAME_PAIRS, verdict)
+    let one_way = tally::count_if(counted, tally::ONE_WAY_PAIRS, forth != back);
+    tally::count_if(one_way, tally::SAME_PAIRS, verdict)
 }
 
 // Compares the log with each of those reachable from it; `back` has those from which it is reachable.
@@ -79,11 +75,11 @@ fn compare_first(
     room: usize,
     t: Tally,
 ) -> Tally {
-    let mut buffer = [GUARD8; 32];
+    let mut buffer = [u8::GUARD; 32];
     let answer = first_order_in(k, masks, log, room, &mut buffer);
-    let right = is_verdict(answer, 1, 0, 0) & holds8(&buffer, BYTES, order);
+    let right = is_told(answer, None, 0, 0) & holds(&buffer, BYTES, order);
     let counted = tally::count(tally::expect(t, tally::FIRST, right), tally::FIRST_ORDERS);
-    if equal8(log, order) {
+    if (log == order) {
         counted
     } else {
         tally::count(counted, tally::MOVED_FIRST_ORDERS)
@@ -92,12 +88,12 @@ fn compare_first(
 
 // A buffer that is one byte too short: refused by 9.
 fn refuse_first(k: usize, masks: &[u16], log: &[u8], t: Tally) -> Tally {
-    let mut buffer = [GUARD8; 32];
+    let mut buffer = [u8::GUARD; 32];
     if log.len() == 0 {
         return t;
     }
     let answer = first_order_in(k, masks, log, minus(log.len(), 1), &mut buffer);
-    let right = is_refusal(answer, 9, 0, 0) & untouched8(&buffer, 0, 0);
+    let right = is_refusal(answer, 9, 0, 0) & untouched(&buffer, 0, 0);
     tally::refused(t, tally::FIRST, right, tally::BY_FIRST, 9)
 }
 

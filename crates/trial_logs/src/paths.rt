@@ -1,12 +1,12 @@
 // Paths of the automaton, state by state: where a log leads, and whether it is accepted.
 use crate::listing::{earlier, row};
 use profile::Shape;
-use trial::cells::{at8, at32, bit, one32, plus, wide32};
+use trial::cells::{bit, byte_at, one32, plus, value_at, wide};
 
 // The states to which the move at place `at` leads from state q, where q is in the set.
 fn leads(moves: &[u32], set: u32, q: usize, at: usize) -> u32 {
-    if bit(wide32(set), q) {
-        at32(moves, at)
+    if bit(wide(set), q) {
+        value_at(moves, at)
     } else {
         0
     }
@@ -29,7 +29,7 @@ pub fn ends(shape: Shape, moves: &[u32], set: u32, word: &[u8]) -> u32 {
     let s = shape.s;
     let mut now = set;
     for i in 0..word.len() {
-        now = moved(k, s, moves, now, at8(word, i));
+        now = moved(k, s, moves, now, byte_at(word, i));
     }
     now
 }

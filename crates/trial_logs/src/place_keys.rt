@@ -2,7 +2,7 @@
 // A total and its counts are one number, four bits each, the total highest, then letter 0 and so on: the order of these keys is that of records. Letter 15
 // has no bits of its own, as its count follows from the others. Totals and counts here are below 16.
 use crate::prefixes::is_prefix;
-use trial::cells::{at8, bit, plus};
+use trial::cells::{bit, byte_at, plus};
 
 // What one event of the letter adds to a key.
 pub fn weight(letter: usize) -> usize {
@@ -19,7 +19,7 @@ pub fn key_of(log: &[u8], marks: usize) -> usize {
     let mut key = 0;
     for i in 0..log.len() {
         if bit(marks, i) {
-            key = plus(key, weight(at8(log, i)));
+            key = plus(key, weight(byte_at(log, i)));
         }
     }
     key

@@ -1,14 +1,14 @@
 // Prefixes by the marking rule: whenever an event is marked, every earlier event with the same letter is, and "an earlier event must be marked unless its
 // letter may be moved past by the marked one". Marks are the bits of a number, a bit for each event. A set that keeps the rule has the first so-many occurrences of each letter.
 use crate::listing::commute;
-use trial::cells::{at8, bit, byte, plus, put8};
+use trial::cells::{bit, byte, byte_at, plus, put};
 use trial::record_numbers::count_of;
 
 // How often the letter stands among the first `end` events.
 fn occurrences(log: &[u8], end: usize, letter: usize) -> usize {
     let mut sum = 0;
     for i in 0..end {
-        if at8(log, i) == letter {
+        if byte_at(log, i) == letter {
             sum = plus(sum, 1);
         }
     }
@@ -17,8 +17,8 @@ fn occurrences(log: &[u8], end: usize, letter: usize) -> usize {
 
 // Event j may not be moved ahead of the earlier event i: they have the same letter, or bit y of mask x is not set.
 fn held(masks: &[u16], log: &[u8], i: usize, j: usize) -> bool {
-    let x = at8(log, i);
-    let y = at8(log, j);
+    let x = byte_at(log, i);
+    let y = byte_at(log, j);
     (x == y) | !commute(masks, x, y)
 }
 
@@ -82,7 +82,7 @@ pub fn look_count(masks: &[u16], log: &[u8]) -> usize {
 
 // The mark of event i: it is one of the first so-many occurrences of its letter that record r counts.
 fn mark_of(log: &[u8], table: &[u32], r: usize, i: usize) -> usize {
-    let letter = at8(log, i);
+    let letter = byte_at(log, i);
     if occurrences(log, i, letter) < count_of(table, r, letter) {
         1 << (i % 64)
     } else {
@@ -104,7 +104,7 @@ fn take_event(log: &[u8], marks: usize, marked: bool, out: &mut [u8], i: usize, 
     if bit(marks, i) != marked {
         return n;
     }
-    put8(out, n, byte(at8(log, i)));
+    put(out, n, byte(byte_at(log, i)));
     plus(n, 1)
 }
 

@@ -2,12 +2,9 @@
 // whose records have a closed form.
 #![tactic(auto)]
 
-use trial::answers::{Answer, NONE, is_refusal, is_unchanged, is_verdict, of_compared};
+use trial::answers::{Answer, is_refusal, is_told, is_unchanged, is_verdict, of_compared, verdict_of};
 use trial::calls::{BYTES, NUMBERS, build_in, first_order_in, judge_in, table_part};
-use trial::cells::{
-    GUARD8, GUARD32, at8, byte, holds8, minus, one32, part8, plus, put_run, put32, times,
-    untouched8, untouched32,
-};
+use trial::cells::{Cell, byte, byte_at, holds, minus, one32, part_of, plus, put, put_run, times, untouched};
 use trial::record_numbers::{BACKWARD, FORWARD, count_of, record_at, set_of, total_of};
 use trial::shapes::{alt, shape_of};
 use trial::tally;
@@ -16,7 +13,7 @@ use trial::tally::{Tally, edge};
 // Sixteen letters and five states in a ring: each letter leads from a state to the next, and from the last to the first, which is the final one.
 fn put_ring(moves: &mut [u32]) {
     for i in 0..80 {
-        put32(moves, i, one32(plus(i / 16, 1) % 5));
+        put(moves, i, one32(plus(i / 16, 1) % 5));
     }
 }
 
@@ -41,7 +38,7 @@ fn line_records(table: &[u32], letter: usize, n: usize) -> bool {
 fn line_table(
     answer: Answer,
     number: usize,
-    verdict: usize,
+    verdict: Option<bool>,
     letter: usize,
     n: usize,
     numbers: &[u32],
@@ -50,31 +47,31 @@ fn line_table(
     if number != 0 {
         return is_refusal(answer, number, 0, 0) & is_unchanged(number, b"", numbers, size);
     }
-    is_verdict(answer, verdict, plus(n, 1), n)
-        & untouched32(numbers, NUMBERS, record_at(plus(n, 1)))
+    is_told(answer, verdict, plus(n, 1), n)
+        & untouched(numbers, NUMBERS, record_at(plus(n, 1)))
         & line_records(table_part(numbers), letter, n)
 }
 
 // The order stands where it is written; else the buffer is as it was.
 fn order_right(written: bool, buffer: &[u8], order: &[u8]) -> bool {
     if written {
-        holds8(buffer, BYTES, order)
+        holds(buffer, BYTES, order)
     } else {
-        untouched8(buffer, 0, 0)
+        untouched(buffer, 0, 0)
     }
 }
 
 // The ring accepts n letters where 5 divides n.
-fn line_verdict(n: usize) -> usize {
-    if n % 5 == 0 { 1 } else { 0 }
+fn line_verdict(n: usize) -> bool {
+    n % 5 == 0
 }
 
 // Judges a log of n times one letter in `size` numbers: refused by the number, or not where it is 0. The log is its own order.
 fn judge_run(letter: usize, n: usize, size: usize, number: usize, log: &[u8], t: Tally) -> Tally {
     let masks = [0u16; 16];
     let mut moves = [0u32; 80];
-    let mut buffer = [GUARD8; 4016];
-    let mut numbers = [GUARD32; 40040];
+    let mut buffer = [u8::GUARD; 4016];
+    let mut numbers = [u32::GUARD; 40040];
     put_ring(&mut moves);
     let verdict = line_verdict(n);
     let answer = judge_in(
@@ -87,33 +84,33 @@ fn judge_run(letter: usize, n: usize, size: usize, number: usize, log: &[u8], t:
         &mut buffer,
         &mut numbers,
     );
-    let right = line_table(answer, number, verdict, letter, n, &numbers, size)
-        & order_right((number == 0) & (verdict == 1), &buffer, log);
+    let right = line_table(answer, number, Some(verdict), letter, n, &numbers, size)
+        & order_right((number == 0) & verdict, &buffer, log);
     tally::refused_edge(t, right, tally::BY_JUDGE, number)
 }
 
 fn judge_line(letter: usize, n: usize, size: usize, number: usize, t: Tally) -> Tally {
     let mut letters = [0u8; 4001];
     put_run(&mut letters, 0, n, byte(letter));
-    judge_run(letter, n, size, number, part8(&letters, 0, n), t)
+    judge_run(letter, n, size, number, part_of(&letters, 0, n), t)
 }
 
 fn build_line(letter: usize, n: usize, size: usize, number: usize, t: Tally) -> Tally {
     let masks = [0u16; 16];
     let mut letters = [0u8; 4001];
     let mut moves = [0u32; 80];
-    let mut numbers = [GUARD32; 40040];
+    let mut numbers = [u32::GUARD; 40040];
     put_run(&mut letters, 0, n, byte(letter));
     put_ring(&mut moves);
     let answer = build_in(
         shape_of(16, 5, 0, 1),
         &masks,
         &moves,
-        part8(&letters, 0, n),
+        part_of(&letters, 0, n),
         size,
         &mut numbers,
     );
-    let right = line_table(answer, number, NONE, letter, n, &numbers, size);
+    let right = line_table(answer, number, None, letter, n, &numbers, size);
     tally::refused_edge(t, right, tally::BY_BUILD, number)
 }
 
@@ -185,7 +182,7 @@ fn square_records(table: &[u32], records: usize, a: usize, b: usize) -> bool {
 
 fn alternates(order: &[u8]) -> bool {
     for i in 0..order.len() {
-        if at8(order, i) != i % 2 {
+        if byte_at(order, i) != i % 2 {
             return false;
         }
     }
@@ -193,36 +190,36 @@ fn alternates(order: &[u8]) -> bool {
 }
 
 // Verdict 1 comes with abab to the end, verdict 0 with no order.
-fn square_order(verdict: usize, buffer: &[u8], n: usize) -> bool {
-    if verdict == 0 {
-        return untouched8(buffer, 0, 0);
+fn square_order(verdict: bool, buffer: &[u8], n: usize) -> bool {
+    if !verdict {
+        return untouched(buffer, 0, 0);
     }
-    untouched8(buffer, BYTES, n) & alternates(part8(buffer, BYTES, n))
+    untouched(buffer, BYTES, n) & alternates(part_of(buffer, BYTES, n))
 }
 
 // (a + 1) × (b + 1) records, and nothing else written; an a can be added a × (b + 1) times, and a b (a + 1) × b times.
 fn square_right(answer: Answer, a: usize, b: usize, buffer: &[u8], numbers: &[u32]) -> bool {
-    let verdict = if a == b { 1 } else { 0 };
+    let verdict = a == b;
     let records = times(plus(a, 1), plus(b, 1));
     let looks = plus(times(a, plus(b, 1)), times(plus(a, 1), b));
     is_verdict(answer, verdict, records, looks)
         & square_order(verdict, buffer, plus(a, b))
-        & untouched32(numbers, NUMBERS, record_at(records))
+        & untouched(numbers, NUMBERS, record_at(records))
         & square_records(table_part(numbers), records, a, b)
 }
 
 // Alt on `b` times b and then `a` times a, where b may be moved past.
 fn square(masks: &[u16], a: usize, b: usize, t: Tally) -> Tally {
     let mut letters = [0u8; 4000];
-    let mut buffer = [GUARD8; 4016];
-    let mut numbers = [GUARD32; 163860];
+    let mut buffer = [u8::GUARD; 4016];
+    let mut numbers = [u32::GUARD; 163860];
     let n = plus(a, b);
     put_run(&mut letters, 0, b, 1);
     let answer = judge_in(
         alt(),
         masks,
         &[2u32, 0, 0, 1],
-        part8(&letters, 0, n),
+        part_of(&letters, 0, n),
         n,
         163850,
         &mut buffer,
@@ -247,17 +244,17 @@ fn compare_long(
     number: usize,
     place: usize,
     log: usize,
-    verdict: usize,
+    verdict: Option<bool>,
     t: Tally,
 ) -> Tally {
     let answer = of_compared(comparison::same(2, masks, first, second));
-    let right = is_refusal(answer, number, place, log) & (answer.verdict == verdict);
+    let right = is_refusal(answer, number, place, log) & (verdict_of(answer) == verdict);
     tally::refused_edge(t, right, tally::BY_SAME, number)
 }
 
 // The first order of a log, or its refusal by the number.
 fn order_long(masks: &[u16], log: &[u8], first: &[u8], number: usize, t: Tally) -> Tally {
-    let mut buffer = [GUARD8; 4016];
+    let mut buffer = [u8::GUARD; 4016];
     let answer = first_order_in(2, masks, log, log.len(), &mut buffer);
     let right = is_refusal(answer, number, 0, 0) & order_right(number == 0, &buffer, first);
     tally::refused_edge(t, right, tally::BY_FIRST, number)
@@ -266,11 +263,11 @@ fn order_long(masks: &[u16], log: &[u8], first: &[u8], number: usize, t: Tally) 
 // The two are the same where a and b are independent both ways, and not where they are so one way or not at all, nor without the last letter.
 fn same_long(log: &[u8], first: &[u8], t: Tally) -> Tally {
     let masks = [2u16, 1];
-    let same = compare_long(&masks, log, first, 0, 0, 0, 1, t);
-    let one_way = compare_long(&[0u16, 1], log, first, 0, 0, 0, 0, same);
-    let apart = compare_long(&[0u16, 0], log, first, 0, 0, 0, 0, one_way);
-    let less = part8(first, 0, minus(first.len(), 1));
-    compare_long(&masks, log, less, 0, 0, 0, 0, apart)
+    let same = compare_long(&masks, log, first, 0, 0, 0, Some(true), t);
+    let one_way = compare_long(&[0u16, 1], log, first, 0, 0, 0, Some(false), same);
+    let apart = compare_long(&[0u16, 0], log, first, 0, 0, 0, Some(false), one_way);
+    let less = part_of(first, 0, minus(first.len(), 1));
+    compare_long(&masks, log, less, 0, 0, 0, Some(false), apart)
 }
 
 // `b` times b and then a up to n letters, whose first order is a and then `b` times b where b may be moved past, and itself where only a may.
@@ -279,8 +276,8 @@ fn orders_of(n: usize, b: usize, t: Tally) -> Tally {
     let mut ordered = [0u8; 4000];
     put_run(&mut letters, 0, b, 1);
     put_run(&mut ordered, minus(n, b), b, 1);
-    let log = part8(&letters, 0, n);
-    let first = part8(&ordered, 0, n);
+    let log = part_of(&letters, 0, n);
+    let first = part_of(&ordered, 0, n);
     let both = order_long(&[2u16, 1], log, first, 0, t);
     let past = order_long(&[0u16, 1], log, first, 0, both);
     let stays = order_long(&[2u16, 0], log, log, 0, past);
@@ -300,11 +297,11 @@ fn long_pairs(t: Tally) -> Tally {
     let masks = [2u16, 1];
     let long = [0u8; 4001];
     let bad = b"\x00\x01\x02\x03";
-    let first = compare_long(&masks, &long, b"", 7, 0, 1, NONE, t);
-    let second = compare_long(&masks, b"", &long, 7, 0, 2, NONE, first);
-    let both = compare_long(&masks, &long, &long, 7, 0, 1, NONE, second);
-    let before = compare_long(&masks, bad, &long, 8, 2, 1, NONE, both);
-    compare_long(&masks, part8(&long, 0, 4000), bad, 8, 2, 2, NONE, before)
+    let first = compare_long(&masks, &long, b"", 7, 0, 1, None, t);
+    let second = compare_long(&masks, b"", &long, 7, 0, 2, None, first);
+    let both = compare_long(&masks, &long, &long, 7, 0, 1, None, second);
+    let before = compare_long(&masks, bad, &long, 8, 2, 1, None, both);
+    compare_long(&masks, part_of(&long, 0, 4000), bad, 8, 2, 2, None, before)
 }
 
 pub fn long_logs(t: Tally) -> Tally {

@@ -1,6 +1,6 @@
 // The judge on one log under two nested lists of pairs, each answer against the listing, and the two beside each other.
 use profile::Shape;
-use trial::cells::{at16, copy8, equal8, part8};
+use trial::cells::{copy, part_of, value_at};
 use trial::tally;
 use trial::tally::Tally;
 use trial_logs::judging::compare_judge;
@@ -45,7 +45,7 @@ fn outcome_of(shape: Shape, masks: &[u16], moves: &[u32], log: &[u8]) -> Outcome
     let n = log.len();
     let count = list(masks, log, &mut rows);
     let best = earliest_accepted(shape, moves, &rows, count, n);
-    copy8(row(&rows, best, n), &mut order);
+    copy(row(&rows, best, n), &mut order);
     Outcome {
         good: best < count,
         order: order,
@@ -54,39 +54,26 @@ fn outcome_of(shape: Shape, masks: &[u16], moves: &[u32], log: &[u8]) -> Outcome
     }
 }
 
-fn count_if(t: Tally, which: usize, yes: bool) -> Tally {
-    if yes { tally::count(t, which) } else { t }
-}
-
 // The orders, where both have one.
 fn compare_orders(a: Outcome, b: Outcome, n: usize, t: Tally) -> Tally {
     let old = a.order;
     let new = b.order;
-    let first = part8(&old, 0, n);
-    let second = part8(&new, 0, n);
+    let first = part_of(&old, 0, n);
+    let second = part_of(&new, 0, n);
     let both = a.good & b.good;
     let later = tally::expect(t, LATER, !(both & earlier(first, second)));
-    count_if(later, EARLIER, both & !equal8(first, second))
+    tally::count_if(later, EARLIER, both & (first != second))
 }
 
 // a under the pairs of one list, b under those of a list that holds them all.
 fn compare_outcomes(a: Outcome, b: Outcome, n: usize, t: Tally) -> Tally {
     let verdicts = tally::expect(t, TURNED_BAD, !(a.good & !b.good));
-    let turned = count_if(verdicts, TURNED_GOOD, b.good & !a.good);
+    let turned = tally::count_if(verdicts, TURNED_GOOD, b.good & !a.good);
     let orders = compare_orders(a, b, n, turned);
     let prefixes = tally::expect(orders, FEWER_PREFIXES, a.prefixes <= b.prefixes);
     let looks = tally::expect(prefixes, FEWER_LOOKS, a.looks <= b.looks);
-    let grown = count_if(looks, MORE_PREFIXES, a.prefixes < b.prefixes);
-    count_if(grown, MORE_LOOKS, a.looks < b.looks)
-}
-
-fn equal_masks(a: &[u16], b: &[u16]) -> bool {
-    for i in 0..a.len() {
-        if at16(a, i) != at16(b, i) {
-            return false;
-        }
-    }
-    true
+    let grown = tally::count_if(looks, MORE_PREFIXES, a.prefixes < b.prefixes);
+    tally::count_if(grown, MORE_LOOKS, a.looks < b.looks)
 }
 
 // Judges a log of at most eight events under both lists, in tables that are large enough; `longer` holds every bit of `masks`.
@@ -103,10 +90,10 @@ pub fn compare_nested(
     let b = outcome_of(shape, longer, moves, log);
     let first = compare_judge(shape, masks, moves, log, a.prefixes, n, 1300, t);
     let second = compare_judge(shape, longer, moves, log, b.prefixes, n, 1400, first);
-    let counted = count_if(
+    let counted = tally::count_if(
         tally::count(second, NESTED),
         EQUAL,
-        equal_masks(masks, longer),
+        masks == longer,
     );
     compare_outcomes(a, b, n, counted)
 }

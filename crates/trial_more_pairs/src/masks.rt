@@ -1,5 +1,5 @@
 // Two nested lists of pairs as one code: for each pair of letters, in this order, a digit from 0 to 2: in neither, in the longer list alone, in both.
-use trial::cells::{minus, one16, plus, put16, quotient, times};
+use trial::cells::{minus, one16, plus, put, quotient, times};
 use trial::random::below;
 
 // Up to so many letters every code is gone through; with more letters a code is a seed.
@@ -51,6 +51,6 @@ fn mask_of(code: usize, k: usize, longer: bool, i: usize) -> u16 {
 // The masks of the longer list, or of the other.
 pub fn put_nested(code: usize, k: usize, longer: bool, masks: &mut [u16]) {
     for i in 0..k {
-        put16(masks, i, mask_of(code, k, longer, i));
+        put(masks, i, mask_of(code, k, longer, i));
     }
 }

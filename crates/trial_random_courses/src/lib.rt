@@ -6,18 +6,18 @@ mod typing;
 use crate::typing::put_text;
 use profile::Shape;
 use trial::calls::table_part;
-use trial::cells::{GUARD32, byte, copy8, part8, part16, part32, plus, put8, times};
+use trial::cells::{Cell, byte, copy, part_of, plus, put, times};
 use trial::random::{below, put_log, seed_of};
 use trial::tally;
 use trial::tally::Tally;
-use trial_courses::answers::{is_profile, make_in};
+use trial_courses::answers::{make_in, profile_in};
 use trial_courses::compare::{refuse, verdict_of};
 use trial_courses::counters;
 use trial_courses::moves::compare_moves;
 use trial_grammar::grammar::{is_right, place_of};
 use trial_grammar::meanings::{ALONE, BEGINS, LETTERS, describes};
 use trial_grammar::parts::CELLS;
-use trial_grammar::words::{letter_at, letter_count, one_if};
+use trial_grammar::words::{letter_at, letter_count};
 
 // Compares the verdict on one log, with nothing independent.
 fn compare_log(
@@ -31,15 +31,15 @@ fn compare_log(
     let k = shape.k;
     let masks = [0u16; 16];
     let described = describes(LETTERS, k, text, log, ALONE, table);
-    let verdict = verdict_of(shape, part16(&masks, k), moves, log);
-    counters::judged(t, counters::RANDOM_LOGS, one_if(described), verdict)
+    let verdict = verdict_of(shape, part_of(&masks, 0, k), moves, log);
+    counters::judged(t, counters::RANDOM_LOGS, described, verdict)
 }
 
 // Letter i of the log is the letter typed at a random place, where some described log begins so; whether one of six did.
 fn grow(seed: usize, k: usize, text: &[u8], i: usize, log: &mut [u8], table: &mut [usize]) -> bool {
     for x in 0..6 {
-        put8(log, i, byte(letter_at(k, text, below(seed, x, text.len()))));
-        if describes(LETTERS, k, text, part8(log, 0, plus(i, 1)), BEGINS, table) {
+        put(log, i, byte(letter_at(k, text, below(seed, x, text.len()))));
+        if describes(LETTERS, k, text, part_of(log, 0, plus(i, 1)), BEGINS, table) {
             return true;
         }
     }
@@ -58,7 +58,7 @@ fn is_grown(
     if i < least {
         return false;
     }
-    describes(LETTERS, k, text, part8(log, 0, i), ALONE, table)
+    describes(LETTERS, k, text, part_of(log, 0, i), ALONE, table)
 }
 
 // Writes a log that begins as a described one, letter by letter, and tells its length: `least` or more, where it is described, if that is found.
@@ -93,13 +93,13 @@ fn compare_near(
 ) -> Tally {
     let k = shape.k;
     let mut near = [0u8; 8];
-    copy8(log, &mut near);
-    put8(
+    copy(log, &mut near);
+    put(
         &mut near,
         below(seed, 21, log.len()),
         byte(below(seed, 22, k)),
     );
-    compare_log(text, shape, moves, part8(&near, 0, log.len()), table, t)
+    compare_log(text, shape, moves, part_of(&near, 0, log.len()), table, t)
 }
 
 // A log made for the text, and one near it.
@@ -113,13 +113,13 @@ fn compare_grown(
 ) -> Tally {
     let mut letters = [0u8; 8];
     let n = put_grown(seed, shape.k, text, below(seed, 20, 6), &mut letters, table);
-    let grown = compare_log(text, shape, moves, part8(&letters, 0, n), table, t);
+    let grown = compare_log(text, shape, moves, part_of(&letters, 0, n), table, t);
     compare_near(
         seed,
         text,
         shape,
         moves,
-        part8(&letters, 0, n),
+        part_of(&letters, 0, n),
         table,
         grown,
     )
@@ -137,7 +137,7 @@ fn compare_any(
     let mut letters = [0u8; 8];
     let n = below(seed, 23, 8);
     put_log(seed, shape.k, n, &mut letters);
-    compare_log(text, shape, moves, part8(&letters, 0, n), table, t)
+    compare_log(text, shape, moves, part_of(&letters, 0, n), table, t)
 }
 
 // The moves of a text with few letters, as the lists to ask for grow with their square; and logs.
@@ -166,15 +166,14 @@ fn compare_right(
     table: &mut [usize],
     t: Tally,
 ) -> Tally {
-    let mut numbers = [GUARD32; 528];
+    let mut numbers = [u32::GUARD; 528];
     let made = make_in(k, text, plus(times(k, s), below(seed, 30, 8)), &mut numbers);
-    let right = is_profile(made, k, s, &numbers);
     let counted = tally::count(t, counters::RANDOM_RIGHT);
-    if !right {
+    let Some(shape) = profile_in(made, k, s, &numbers) else {
         return tally::count(counted, counters::PROFILE);
-    }
-    let moves = part32(table_part(&numbers), times(k, s));
-    compare_profile(seed, text, made.shape, moves, table, counted)
+    };
+    let moves = part_of(table_part(&numbers), 0, times(k, s));
+    compare_profile(seed, text, shape, moves, table, counted)
 }
 
 fn compare_text(seed: usize, k: usize, text: &[u8], table: &mut [usize], t: Tally) -> Tally {
@@ -203,7 +202,7 @@ fn random_text(seed: usize, table: &mut [usize], t: Tally) -> Tally {
     let x = plus(1, below(seed, 40, 5));
     let k = if x == 5 { 16 } else { x };
     let n = put_text(seed, k, &mut text);
-    compare_text(seed, k, part8(&text, 0, n), table, t)
+    compare_text(seed, k, part_of(&text, 0, n), table, t)
 }
 
 pub fn random_texts(seed: usize, many: usize, t: Tally) -> Tally {

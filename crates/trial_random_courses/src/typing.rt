@@ -1,5 +1,5 @@
 // Random texts that keep to the rules, and damages of them.
-use trial::cells::{at8, byte, minus, plus, put_run, put8};
+use trial::cells::{byte, byte_at, minus, plus, put, put_run};
 use trial::random::{below, seed_of};
 
 // Where the typing stands: a letter or a bracket must come; the brackets that are open.
@@ -65,7 +65,7 @@ fn put_bytes(seed: usize, k: usize, n: usize, text: &mut [u8]) -> Standing {
     let mut now = stands(true, 0);
     for i in 0..n {
         let c = next_byte(seed_of(seed, i), k, now);
-        put8(text, i, c);
+        put(text, i, c);
         now = after(now, c);
     }
     now
@@ -75,7 +75,7 @@ fn put_bytes(seed: usize, k: usize, n: usize, text: &mut [u8]) -> Standing {
 fn put_right(seed: usize, k: usize, n: usize, text: &mut [u8]) -> usize {
     let now = put_bytes(seed, k, n, text);
     let at = if now.must { plus(n, 1) } else { n };
-    put8(text, n, b'a');
+    put(text, n, b'a');
     put_run(text, at, now.open, b')');
     plus(at, now.open)
 }
@@ -87,7 +87,7 @@ fn damage(seed: usize, n: usize, text: &mut [u8]) -> usize {
         return minus(n, 1);
     }
     if kind < 12 {
-        put8(text, below(seed, 43, n), byte(at8(b" ()*|aqp`{+", kind)));
+        put(text, below(seed, 43, n), byte(byte_at(b" ()*|aqp`{+", kind)));
     }
     n
 }

@@ -8,9 +8,7 @@
 use profile::Shape;
 use trial::answers::{Answer, is_refusal, is_unchanged, of_compared};
 use trial::calls::{build_in, first_order_in, judge_in, write_in};
-use trial::cells::{
-    GUARD8, GUARD32, bit, byte, minus, part8, part16, part32, plus, put8, put16, put32,
-};
+use trial::cells::{Cell, bit, byte, minus, part_of, plus, put};
 use trial::shapes::shape_of;
 use trial::tally;
 use trial::tally::Tally;
@@ -174,7 +172,7 @@ fn mask_of(damages: usize, variant: usize, i: usize) -> u16 {
 
 fn put_masks(damages: usize, variant: usize, masks: &mut [u16]) {
     for i in 0..4 {
-        put16(masks, i, mask_of(damages, variant, i));
+        put(masks, i, mask_of(damages, variant, i));
     }
 }
 
@@ -184,9 +182,9 @@ fn put_moves(damaged: bool, variant: usize, moves: &mut [u32]) {
         return;
     }
     match variant % 4 {
-        0 => put32(moves, 0, 11),
-        1 => put32(moves, 8, 2147483651),
-        _ => put32(moves, 0, 3),
+        0 => put(moves, 0, 11),
+        1 => put(moves, 8, 2147483651),
+        _ => put(moves, 0, 3),
     }
 }
 
@@ -227,7 +225,7 @@ fn bad_place(number: usize, variant: usize) -> usize {
 fn put_log(long: bool, bad: bool, variant: usize, log: &mut [u8]) -> usize {
     let n = log_length(long, variant);
     for i in 0..n {
-        put8(log, i, byte(letter_of(bad, variant, i)));
+        put(log, i, byte(letter_of(bad, variant, i)));
     }
     n
 }
@@ -289,8 +287,8 @@ fn judge_with(
     log: &[u8],
     t: Tally,
 ) -> Tally {
-    let mut buffer = [GUARD8; 4024];
-    let mut numbers = [GUARD32; 88];
+    let mut buffer = [u8::GUARD; 4024];
+    let mut numbers = [u32::GUARD; 88];
     let shape = damaged_shape(damages, variant);
     let room = room_for(damages, variant, log.len());
     let size = table_size(damages, variant);
@@ -318,8 +316,8 @@ fn build_with(
     log: &[u8],
     t: Tally,
 ) -> Tally {
-    let buffer = [GUARD8; 1];
-    let mut numbers = [GUARD32; 88];
+    let buffer = [u8::GUARD; 1];
+    let mut numbers = [u32::GUARD; 88];
     let shape = damaged_shape(damages, variant);
     let size = table_size(damages, variant);
     let number = lowest(damages, 187);
@@ -334,8 +332,8 @@ fn known_to_order(variant: usize) -> usize {
 }
 
 fn first_order_with(damages: usize, variant: usize, masks: &[u16], log: &[u8], t: Tally) -> Tally {
-    let mut buffer = [GUARD8; 4024];
-    let numbers = [GUARD32; 1];
+    let mut buffer = [u8::GUARD; 4024];
+    let numbers = [u32::GUARD; 1];
     let k = letters_of(damages, variant);
     let room = room_for(damages, variant, log.len());
     let number = lowest(damages, known_to_order(variant));
@@ -353,8 +351,8 @@ fn write_with(
     log: &[u8],
     t: Tally,
 ) -> Tally {
-    let mut buffer = [GUARD8; 4080];
-    let numbers = [GUARD32; 1];
+    let mut buffer = [u8::GUARD; 4080];
+    let numbers = [u32::GUARD; 1];
     let shape = damaged_shape(damages, variant);
     let room = room_for(damages, variant, plus(58, log.len()));
     let number = lowest(damages, 123);
@@ -388,9 +386,9 @@ fn combine(damages: usize, variant: usize, t: Tally) -> Tally {
     combine_with(
         damages,
         variant,
-        part16(&masks, mask_count(damages, variant)),
-        part32(&moves, move_count(damages, variant)),
-        part8(&log, 0, n),
+        part_of(&masks, 0, mask_count(damages, variant)),
+        part_of(&moves, 0, move_count(damages, variant)),
+        part_of(&log, 0, n),
         t,
     )
 }
@@ -456,9 +454,9 @@ fn combine_same(damages: usize, variant: usize, t: Tally) -> Tally {
     );
     let answer = of_compared(comparison::same(
         letters_of(damages, variant),
-        part16(&masks, mask_count(damages, variant)),
-        part8(&first, 0, n),
-        part8(&second, 0, m),
+        part_of(&masks, 0, mask_count(damages, variant)),
+        part_of(&first, 0, n),
+        part_of(&second, 0, m),
     ));
     let number = same_number(damages);
     let log = same_log(damages);

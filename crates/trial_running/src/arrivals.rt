@@ -1,6 +1,6 @@
 // Prefixes in order of arrival, by document 02's words: "those of one event in the order of the records it is added to". A prefix is a set of events, a bit for
 // each; nothing is counted and nothing is searched.
-use trial::cells::{minus, part8, plus};
+use trial::cells::{minus, part_of, plus};
 use trial_logs::prefixes::is_prefix;
 
 pub fn set_at(sets: &[usize], i: usize) -> usize {
@@ -38,7 +38,7 @@ pub fn put_arrivals(masks: &[u16], log: &[u8], sets: &mut [usize]) -> usize {
     put_set(sets, 0, 0);
     let mut many = 1;
     for n in 0..log.len() {
-        many = add_event(masks, part8(log, 0, plus(n, 1)), sets, many);
+        many = add_event(masks, part_of(log, 0, plus(n, 1)), sets, many);
     }
     many
 }

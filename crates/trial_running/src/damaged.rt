@@ -4,7 +4,7 @@ use crate::run::{ANSWER, DAMAGED};
 use crate::run_records::room;
 use profile::Shape;
 use trial::calls::NUMBERS;
-use trial::cells::{byte, plus, put32, untouched32};
+use trial::cells::{byte, plus, put, untouched};
 use trial::random::{below, seed_of};
 use trial::tally;
 use trial::tally::Tally;
@@ -42,7 +42,7 @@ fn number_of(seed: usize) -> u32 {
 // Fills the part that is to be lent with any numbers.
 pub fn put_numbers(seed: usize, size: usize, numbers: &mut [u32]) {
     for i in 0..size {
-        put32(numbers, plus(NUMBERS, i), number_of(seed_of(seed, i)));
+        put(numbers, plus(NUMBERS, i), number_of(seed_of(seed, i)));
     }
 }
 
@@ -90,6 +90,6 @@ pub fn compare_damaged(
     );
     let right = answered(asked, first, false)
         & answered(given, second, true)
-        & untouched32(numbers, NUMBERS, size);
+        & untouched(numbers, NUMBERS, size);
     tally::count(tally::expect(t, ANSWER, right), DAMAGED)
 }

@@ -6,7 +6,7 @@ use crate::run_records::{accepted, room, table_right};
 use profile::Shape;
 use trial::answers::is_verdict;
 use trial::calls::judge_in;
-use trial::cells::{byte, part8, plus, put8};
+use trial::cells::{byte, part_of, plus, put};
 use trial::random::{below, seed_of};
 use trial::tally;
 use trial::tally::Tally;
@@ -83,7 +83,7 @@ fn compare_left(
 ) -> Run {
     let mut sets = [0usize; 256];
     let letters = run.log;
-    let log = part8(&letters, 0, run.taken);
+    let log = part_of(&letters, 0, run.taken);
     let many = put_arrivals(masks, log, &mut sets);
     let right = holds(held, many, run.taken)
         & table_right(shape, masks, moves, log, numbers, &sets, many);
@@ -97,13 +97,9 @@ fn compare_judge(shape: Shape, masks: &[u16], moves: &[u32], run: Run) -> Run {
     let mut buffer = [0u8; 32];
     let mut work = [0u32; 1416];
     let letters = run.log;
-    let log = part8(&letters, 0, run.taken);
+    let log = part_of(&letters, 0, run.taken);
     let answer = judge_in(shape, masks, moves, log, 8, 1400, &mut buffer, &mut work);
-    let verdict = if accepted(shape, masks, moves, log) {
-        1
-    } else {
-        0
-    };
+    let verdict = accepted(shape, masks, moves, log);
     let many = prefix_count(masks, log);
     expected(
         run,
@@ -122,7 +118,7 @@ fn ask(
 ) -> Run {
     let mut told = [99u64; 4];
     let letters = run.log;
-    let log = part8(&letters, 0, run.taken);
+    let log = part_of(&letters, 0, run.taken);
     let verdict = if accepted(shape, masks, moves, log) {
         1u64
     } else {
@@ -162,7 +158,7 @@ fn noted(run: Run, after: Run, number: u32) -> Run {
 fn with_letter(run: Run, letter: u8) -> Run {
     let mut u = run;
     let mut log = run.log;
-    put8(&mut log, run.taken, letter);
+    put(&mut log, run.taken, letter);
     u.log = log;
     u.taken = plus(run.taken, 1);
     u
@@ -180,7 +176,7 @@ fn give(
     let mut told = [99u64; 1];
     let after = with_letter(run, letter);
     let letters = after.log;
-    let many = prefix_count(masks, part8(&letters, 0, after.taken));
+    let many = prefix_count(masks, part_of(&letters, 0, after.taken));
     let refused = refusal_of(shape, letter, many, run.size);
     let place = if refused == 8 { run.taken as u64 } else { 0u64 };
     let number = event_in(

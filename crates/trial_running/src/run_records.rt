@@ -2,7 +2,7 @@
 use crate::arrivals::set_at;
 use profile::Shape;
 use trial::calls::{NUMBERS, table_part};
-use trial::cells::{GUARD32, at8, at32, bit, minus, plus, untouched32};
+use trial::cells::{Cell, bit, byte_at, minus, plus, untouched, value_at};
 use trial::record_numbers::{FORWARD, RECORD, record_at};
 use trial_logs::judging::forward_of;
 
@@ -10,7 +10,7 @@ use trial_logs::judging::forward_of;
 fn events_of(log: &[u8], set: usize, letter: usize) -> usize {
     let mut sum = 0;
     for i in 0..log.len() {
-        if bit(set, i) & (at8(log, i) == letter) {
+        if bit(set, i) & (byte_at(log, i) == letter) {
             sum = plus(sum, 1);
         }
     }
@@ -35,13 +35,13 @@ fn record_right(
 ) -> bool {
     let at = record_at(r);
     for j in 0..FORWARD {
-        if at32(table, plus(at, j)) != counts_number(log, set, j) {
+        if value_at(table, plus(at, j)) != counts_number(log, set, j) {
             return false;
         }
     }
     let forward = forward_of(shape, masks, moves, log, set);
-    (at32(table, plus(at, FORWARD)) == forward)
-        & (at32(table, plus(at, plus(FORWARD, 1))) == GUARD32)
+    (value_at(table, plus(at, FORWARD)) == forward)
+        & (value_at(table, plus(at, plus(FORWARD, 1))) == u32::GUARD)
 }
 
 // The records of the first `many` sets, and nothing else, stand in the table that begins behind the margin.
@@ -67,7 +67,7 @@ pub fn table_right(
             return false;
         }
     }
-    untouched32(numbers, NUMBERS, record_at(many))
+    untouched(numbers, NUMBERS, record_at(many))
 }
 
 // Some order of all events is accepted.

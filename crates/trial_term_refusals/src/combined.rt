@@ -4,7 +4,7 @@
 // damage is that of case M8: three letters, a and b, b and c independent, the log cab, all in the first of two terms, six prefixes.
 use profile::Shape;
 use trial::answers::{Answer, is_refusal, is_unchanged};
-use trial::cells::{GUARD8, GUARD32, bit, byte, minus, part8, part16, part32, plus, put8, put32};
+use trial::cells::{Cell, bit, byte, minus, part_of, plus, put};
 use trial::shapes::shape_of;
 use trial::tally;
 use trial::tally::Tally;
@@ -114,7 +114,7 @@ fn letter_of(damages: usize, variant: usize, i: usize) -> usize {
 
 pub fn put_log(damages: usize, variant: usize, log: &mut [u8]) {
     for i in 0..log_length(damages) {
-        put8(log, i, byte(letter_of(damages, variant, i)));
+        put(log, i, byte(letter_of(damages, variant, i)));
     }
 }
 
@@ -218,17 +218,17 @@ fn bad_number_of_terms(damages: usize, variant: usize) -> u32 {
 
 // The second and third day; the others are there.
 pub fn put_days(damages: usize, variant: usize, days: &mut [u32]) {
-    put32(days, 1, second_day(damages, variant));
-    put32(days, 2, third_day(damages, variant));
+    put(days, 1, second_day(damages, variant));
+    put(days, 2, third_day(damages, variant));
 }
 
 // The two terms; the first day of the first is there.
 pub fn put_terms(damages: usize, variant: usize, terms: &mut [u32]) {
-    put32(terms, 1, 20261218);
-    put32(terms, 2, 20270104);
-    put32(terms, 3, 20270326);
+    put(terms, 1, 20261218);
+    put(terms, 2, 20270104);
+    put(terms, 3, 20270326);
     let place = bad_place_of_terms(damages, variant);
-    put32(terms, place, bad_number_of_terms(damages, variant));
+    put(terms, place, bad_number_of_terms(damages, variant));
 }
 
 // 9: a buffer that is one byte short, or empty.
@@ -277,8 +277,8 @@ fn judge_with(
     terms: &[u32],
     t: Tally,
 ) -> Tally {
-    let mut buffer = [GUARD8; 4024];
-    let mut numbers = [GUARD32; 88];
+    let mut buffer = [u8::GUARD; 4024];
+    let mut numbers = [u32::GUARD; 88];
     let masks = [first_mask(damages, variant), 5, 2];
     let mut moves = [3u32; 9];
     moves[0] = first_move(damages, variant);
@@ -287,8 +287,8 @@ fn judge_with(
     let number = number_of(first);
     let answer = judge_terms_in(
         damaged_shape(damages, variant),
-        part16(&masks, mask_count(damages, variant)),
-        part32(&moves, move_count(damages, variant)),
+        part_of(&masks, 0, mask_count(damages, variant)),
+        part_of(&moves, 0, move_count(damages, variant)),
         log,
         days,
         terms,
@@ -312,9 +312,9 @@ fn combine(damages: usize, variant: usize, t: Tally) -> Tally {
     judge_with(
         damages,
         variant,
-        part8(&log, 0, log_length(damages)),
-        part32(&days, day_count(damages, variant)),
-        part32(&terms, term_numbers(damages, variant)),
+        part_of(&log, 0, log_length(damages)),
+        part_of(&days, 0, day_count(damages, variant)),
+        part_of(&terms, 0, term_numbers(damages, variant)),
         t,
     )
 }

@@ -1,6 +1,6 @@
 // Lists of terms, right ones and ones changed in a place; days in no term; days that are not as many as the events.
 use crate::numbers::refused_or_not;
-use trial::cells::{at32, minus, part8, part32, plus, put32, wide32};
+use trial::cells::{minus, part_of, plus, put, value_at, wide};
 use trial::random::{below, seed_of};
 use trial::tally;
 use trial::tally::Tally;
@@ -12,14 +12,14 @@ use trial_terms::spans::{NO_TERM, term_of, terms_right};
 // What stands in the place of number i of the list: a day later, two later, the number of another place, or no date.
 fn changed(seed: usize, n: usize, terms: &[u32], i: usize) -> u32 {
     let kind = below(seed, 2, 6);
-    let day = at32(terms, i);
+    let day = value_at(terms, i);
     match kind {
         0 => later(day, 1),
         1 => later(day, 2),
-        2 => at32(terms, plus(i, 1)),
-        3 => at32(terms, below(seed, 3, n)),
+        2 => value_at(terms, plus(i, 1)),
+        3 => value_at(terms, below(seed, 3, n)),
         4 => 20260931,
-        _ => (minus(wide32(day), 1) % 4294967296) as u32,
+        _ => (minus(wide(day), 1) % 4294967296) as u32,
     }
 }
 
@@ -57,11 +57,11 @@ fn one_list(seed: usize, t: Tally) -> Tally {
     let mut terms = [0u32; 27];
     put_terms(seed, 13, &mut terms);
     let n = length_of(seed, plus(1, below(seed, 5, 12)));
-    let begun = try_list(part32(&terms, n), t);
+    let begun = try_list(part_of(&terms, 0, n), t);
     let i = below(seed, 1, n);
     let day = changed(seed, n, &terms, i);
-    put32(&mut terms, i, day);
-    try_list(part32(&terms, n), begun)
+    put(&mut terms, i, day);
+    try_list(part_of(&terms, 0, n), begun)
 }
 
 // All days but one are in terms, or all are: 16 or no refusal.
@@ -89,9 +89,9 @@ fn one_outside(seed: usize, t: Tally) -> Tally {
     put_terms(seed, many, &mut terms);
     put_days(seed, 3, many, &terms, &mut days);
     let n = plus(many, many);
-    let day = later(at32(&terms, below(seed, 6, n)), below(seed, 7, 3));
-    put32(&mut days, below(seed, 8, 3), day);
-    try_outside(part32(&terms, n), &days, day, t)
+    let day = later(value_at(&terms, below(seed, 6, n)), below(seed, 7, 3));
+    put(&mut days, below(seed, 8, 3), day);
+    try_outside(part_of(&terms, 0, n), &days, day, t)
 }
 
 // As many days as `given` and a log of `n` events, in one term that has them all.
@@ -100,7 +100,7 @@ fn try_lengths(given: usize, n: usize, t: Tally) -> Tally {
     let all = [20260901u32, 20260901];
     let log = [0u8; 4];
     let number = if given == n { 0 } else { 14 };
-    let agrees = refused_or_not(part32(&days, given), &all, part8(&log, 0, n), number);
+    let agrees = refused_or_not(part_of(&days, 0, given), &all, part_of(&log, 0, n), number);
     tally::count(tally::expect(t, OUTSIDE_WRONG, agrees), NOT_AS_MANY)
 }
 

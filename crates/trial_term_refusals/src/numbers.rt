@@ -1,7 +1,7 @@
 // Numbers tried as the only day of a log and as the first and last day of a term: a date or not, by the calendar.
 use profile::Shape;
 use trial::answers::{is_refusal, is_unchanged, is_verdict};
-use trial::cells::{GUARD8, GUARD32, plus};
+use trial::cells::{Cell, plus};
 use trial::random::seed_of;
 use trial::shapes::shape_of;
 use trial::tally;
@@ -17,8 +17,8 @@ fn any_log() -> Shape {
 
 // The log of letter 0 has as many events as there are days; it gets verdict 1, or is refused by the number.
 pub fn refused_or_not(days: &[u32], terms: &[u32], log: &[u8], number: usize) -> bool {
-    let mut buffer = [GUARD8; 16];
-    let mut table = [GUARD32; 64];
+    let mut buffer = [u8::GUARD; 16];
+    let mut table = [u32::GUARD; 64];
     let masks = [0u16; 1];
     let moves = [1u32; 1];
     let n = log.len();
@@ -35,7 +35,7 @@ pub fn refused_or_not(days: &[u32], terms: &[u32], log: &[u8], number: usize) ->
         &mut table,
     );
     if number == 0 {
-        return is_verdict(answer, 1, plus(n, 1), n);
+        return is_verdict(answer, true, plus(n, 1), n);
     }
     is_refusal(answer, number, 0, 0) & is_unchanged(number, &buffer, &table, 40)
 }

@@ -1,20 +1,20 @@
 // The Gregorian calendar by year, month and day, and days as the numbers that a call takes: year × 10,000 + month × 100 + day.
-use trial::cells::{plus, wide32};
+use trial::cells::{plus, wide};
 
 pub fn day_number(y: usize, m: usize, d: usize) -> u32 {
     (10000 * (y % 10000) + 100 * (m % 100) + d % 100) as u32
 }
 
 fn year(n: u32) -> usize {
-    wide32(n) / 10000
+    wide(n) / 10000
 }
 
 fn month(n: u32) -> usize {
-    wide32(n) / 100 % 100
+    wide(n) / 100 % 100
 }
 
 fn day(n: u32) -> usize {
-    wide32(n) % 100
+    wide(n) % 100
 }
 
 // Of the years that end a century every fourth, of the others every fourth.

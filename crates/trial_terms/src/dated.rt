@@ -1,7 +1,7 @@
 // Random terms and days.
 use crate::calendar::{later, next_day, no_later};
 use crate::spans::{first_of, last_of};
-use trial::cells::{plus, put32};
+use trial::cells::{plus, put};
 use trial::random::{below, seed_of};
 
 // Days from which terms are laid out: about the ends of months, years and leap years, the first day that is allowed, and some that lead near the last.
@@ -21,8 +21,8 @@ pub fn begin_of(seed: usize) -> u32 {
 
 // Puts term i, and tells the day after it.
 fn put_term(terms: &mut [u32], i: usize, first: u32, last: u32) -> u32 {
-    put32(terms, plus(i, i), first);
-    put32(terms, plus(plus(i, i), 1), last);
+    put(terms, plus(i, i), first);
+    put(terms, plus(plus(i, i), 1), last);
     next_day(last)
 }
 
@@ -47,13 +47,13 @@ fn day_in(seed: usize, few: usize, terms: &[u32]) -> u32 {
 // Days of n events, which need not rise.
 pub fn put_days(seed: usize, n: usize, few: usize, terms: &[u32], days: &mut [u32]) {
     for i in 0..n {
-        put32(days, i, day_in(seed_of(seed, i), few, terms));
+        put(days, i, day_in(seed_of(seed, i), few, terms));
     }
 }
 
 // The first day of the second of two terms where the bit of the event is set, else of the first.
 pub fn put_halves(halves: usize, n: usize, terms: &[u32], days: &mut [u32]) {
     for i in 0..n {
-        put32(days, i, first_of(terms, (halves >> (i % 8)) % 2));
+        put(days, i, first_of(terms, (halves >> (i % 8)) % 2));
     }
 }

@@ -1,19 +1,19 @@
 // Exchanges with terms, by document 02's words: "An exchange now also needs both events in one term, and an event's day goes with it". Events are numbered by
 // their places in the log, and each has a mask of the events that may pass it; so the listing is that of logs without terms, with events for letters.
 use crate::spans::term_of;
-use trial::cells::{at8, at32, byte, minus, one16, put8, put16};
+use trial::cells::{byte, byte_at, minus, one16, put, value_at};
 use trial_logs::listing::commute;
 
 // The most events of a log here.
 pub const MOST_EVENTS: usize = 8;
 
 fn in_one_term(days: &[u32], terms: &[u32], i: usize, j: usize) -> bool {
-    term_of(terms, at32(days, i)) == term_of(terms, at32(days, j))
+    term_of(terms, value_at(days, i)) == term_of(terms, value_at(days, j))
 }
 
 // Event i directly followed by j may become j followed by i.
 fn may_pass(masks: &[u16], log: &[u8], days: &[u32], terms: &[u32], i: usize, j: usize) -> bool {
-    commute(masks, at8(log, i), at8(log, j)) & in_one_term(days, terms, i, j)
+    commute(masks, byte_at(log, i), byte_at(log, j)) & in_one_term(days, terms, i, j)
 }
 
 fn event_mask(masks: &[u16], log: &[u8], days: &[u32], terms: &[u32], i: usize) -> u16 {
@@ -35,15 +35,15 @@ pub fn put_event_masks(
     event_masks: &mut [u16],
 ) {
     for i in 0..log.len() {
-        put16(event_masks, i, event_mask(masks, log, days, terms, i));
+        put(event_masks, i, event_mask(masks, log, days, terms, i));
     }
 }
 
 // The letters of the events in the first `count` rows, each in the place of its event.
 pub fn put_letters(log: &[u8], rows: &mut [u8], count: usize) {
     for i in 0..MOST_EVENTS * (count % 4096) {
-        let event = at8(rows, i);
-        put8(rows, i, byte(at8(log, event)));
+        let event = byte_at(rows, i);
+        put(rows, i, byte(byte_at(log, event)));
     }
 }
 
@@ -60,7 +60,7 @@ pub fn some_turn(days: &[u32], terms: &[u32]) -> bool {
 // Some event is of an earlier day than the one before it.
 pub fn some_fall(days: &[u32]) -> bool {
     for i in 1..days.len() {
-        if at32(days, i) < at32(days, minus(i, 1)) {
+        if value_at(days, i) < value_at(days, minus(i, 1)) {
             return true;
         }
     }

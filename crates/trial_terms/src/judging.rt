@@ -6,12 +6,9 @@ use crate::met::{
     RECORDS, SAME_AS_JUDGE, SHORT_ORDERS, SHORT_TABLES, TURNS, TWELVE,
 };
 use profile::Shape;
-use trial::answers::{Answer, is_refusal, is_unchanged, is_verdict};
+use trial::answers::{is_refusal, is_unchanged, is_verdict};
 use trial::calls::{BYTES, NUMBERS, judge_in, table_part};
-use trial::cells::{
-    GUARD8, GUARD32, at32, copy8, equal8, holds8, minus, part8, part16, plus, untouched8,
-    untouched32, wide32,
-};
+use trial::cells::{Cell, copy, holds, minus, part_of, plus, untouched, value_at, wide};
 use trial::record_numbers::{BACKWARD, FORWARD, record_at, set_of, total_of};
 use trial::tally;
 use trial::tally::Tally;
@@ -30,14 +27,14 @@ fn put_orders(
 ) -> usize {
     let events = [0u8, 1, 2, 3, 4, 5, 6, 7];
     let mut word = [0u8; 8];
-    let n = take_events(part8(&events, 0, log.len()), marks, marked, &mut word);
-    let count = list(event_masks, part8(&word, 0, n), rows);
+    let n = take_events(part_of(&events, 0, log.len()), marks, marked, &mut word);
+    let count = list(event_masks, part_of(&word, 0, n), rows);
     put_letters(log, rows, count);
     count
 }
 
 fn marked_count(marks: usize) -> usize {
-    wide32(u64::count_ones(marks as u64))
+    wide(u64::count_ones(marks as u64))
 }
 
 // The states to which some order of the marked events leads from the start.
@@ -69,7 +66,7 @@ fn put_key(keys: &mut [usize], i: usize, key: usize) {
 // Adds the key of the marks where they are a prefix; the new number of keys.
 fn take_key(event_masks: &[u16], log: &[u8], marks: usize, keys: &mut [usize], n: usize) -> usize {
     let events = [0u8, 1, 2, 3, 4, 5, 6, 7];
-    if !is_prefix(event_masks, part8(&events, 0, log.len()), marks) {
+    if !is_prefix(event_masks, part_of(&events, 0, log.len()), marks) {
         return n;
     }
     put_key(keys, n, key_of(log, marks));
@@ -97,7 +94,7 @@ fn counts_right(
 ) -> bool {
     let events = [0u8, 1, 2, 3, 4, 5, 6, 7];
     (total_of(table, r) == marked_count(marks))
-        & closed(event_masks, part8(&events, 0, log.len()), marks)
+        & closed(event_masks, part_of(&events, 0, log.len()), marks)
         & (place_of(keys, prefixes, key_of(log, marks)) == r)
 }
 
@@ -158,7 +155,7 @@ fn table_right(
     let mut keys = [0usize; 256];
     let listed = put_keys(event_masks, log, &mut keys);
     (listed == prefixes)
-        & untouched32(numbers, NUMBERS, record_at(prefixes))
+        & untouched(numbers, NUMBERS, record_at(prefixes))
         & each_right(
             shape,
             event_masks,
@@ -173,7 +170,7 @@ fn table_right(
 // What a log with terms is to get by the listing.
 #[derive(Clone, Copy)]
 pub struct Expected {
-    pub verdict: usize,
+    pub verdict: bool,
     pub prefixes: usize,
     pub looks: usize,
     pub count: usize,
@@ -183,10 +180,10 @@ pub struct Expected {
 // The order buffer is the guard but for the expected order, which stands at the lent part's start; with verdict 0 it is the guard.
 fn order_right(buffer: &[u8], expected: Expected, n: usize) -> bool {
     let order = expected.order;
-    if expected.verdict == 0 {
-        untouched8(buffer, 0, 0)
+    if expected.verdict {
+        holds(buffer, BYTES, part_of(&order, 0, n))
     } else {
-        holds8(buffer, BYTES, part8(&order, 0, n))
+        untouched(buffer, 0, 0)
     }
 }
 
@@ -195,12 +192,12 @@ fn expect_log(shape: Shape, event_masks: &[u16], moves: &[u32], log: &[u8]) -> E
     let mut rows = [0u8; 16384];
     let mut order = [0u8; 8];
     let n = log.len();
-    let all = part8(&events, 0, n);
+    let all = part_of(&events, 0, n);
     let count = put_orders(event_masks, log, 255, true, &mut rows);
     let best = earliest_accepted(shape, moves, &rows, count, n);
-    copy8(row(&rows, best, n), &mut order);
+    copy(row(&rows, best, n), &mut order);
     Expected {
-        verdict: if best < count { 1 } else { 0 },
+        verdict: best < count,
         prefixes: prefix_count(event_masks, all),
         looks: look_count(event_masks, all),
         count: count,
@@ -211,7 +208,7 @@ fn expect_log(shape: Shape, event_masks: &[u16], moves: &[u32], log: &[u8]) -> E
 // Counts a judged log; a listing that did not fit has no rows and is wrong.
 fn count_judged(t: Tally, right: bool, expected: Expected) -> Tally {
     let judged = tally::expect(tally::count(t, LOGS), JUDGE, right & (0 < expected.count));
-    let accepted = tally::count_many(judged, ACCEPTED, expected.verdict);
+    let accepted = tally::count_if(judged, ACCEPTED, expected.verdict);
     let listed = tally::count_many(accepted, REACHABLE, expected.count);
     tally::count_many(listed, RECORDS, expected.prefixes)
 }
@@ -229,8 +226,8 @@ fn compare_judge(
     extra: usize,
     t: Tally,
 ) -> Tally {
-    let mut buffer = [GUARD8; 32];
-    let mut numbers = [GUARD32; 1416];
+    let mut buffer = [u8::GUARD; 32];
+    let mut numbers = [u32::GUARD; 1416];
     let size = plus(record_at(expected.prefixes), extra % 21);
     let answer = judge_terms_in(
         shape,
@@ -263,8 +260,8 @@ fn refuse(
     size: usize,
     t: Tally,
 ) -> Tally {
-    let mut buffer = [GUARD8; 32];
-    let mut numbers = [GUARD32; 1416];
+    let mut buffer = [u8::GUARD; 32];
+    let mut numbers = [u32::GUARD; 1416];
     let answer = judge_terms_in(
         shape,
         masks,
@@ -308,10 +305,6 @@ fn compare_short(
     refuse(shape, masks, moves, log, days, terms, 9, n - 1, size, full)
 }
 
-fn one_if(yes: bool) -> usize {
-    if yes { 1 } else { 0 }
-}
-
 // Counts what the log is: what the judge without terms says of it is compared in `trial_logs`.
 fn count_kind(
     shape: Shape,
@@ -323,19 +316,18 @@ fn count_kind(
     expected: Expected,
     t: Tally,
 ) -> Tally {
-    let mut buffer = [GUARD8; 32];
-    let mut numbers = [GUARD32; 1416];
+    let mut buffer = [u8::GUARD; 32];
+    let mut numbers = [u32::GUARD; 1416];
     let plain = judge_in(shape, masks, moves, log, 8, 1400, &mut buffer, &mut numbers);
-    let way = tally::count_many(t, ONE_WAY, one_if(one_way(masks)));
-    let turns = tally::count_many(way, TURNS, one_if(some_turn(days, terms)));
-    let falls = tally::count_many(turns, FALLS, one_if(some_fall(days)));
-    let fewer = tally::count_many(falls, FEWER, one_if(expected.prefixes < plain.prefixes));
-    let other = tally::count_many(
-        fewer,
-        OTHER_VERDICT,
-        one_if(expected.verdict != plain.verdict),
-    );
-    tally::count_many(other, TWELVE, one_if(terms.len() == 24))
+    let way = tally::count_if(t, ONE_WAY, one_way(masks));
+    let turns = tally::count_if(way, TURNS, some_turn(days, terms));
+    let falls = tally::count_if(turns, FALLS, some_fall(days));
+    let Some(Ok(told)) = plain else {
+        return tally::count(falls, JUDGE);
+    };
+    let fewer = tally::count_if(falls, FEWER, expected.prefixes < told.prefixes);
+    let other = tally::count_if(fewer, OTHER_VERDICT, told.verdict != Some(expected.verdict));
+    tally::count_if(other, TWELVE, terms.len() == 24)
 }
 
 // Compares the judge with terms on one log; `extra` varies how much longer or shorter than needed the lent buffers are.
@@ -351,7 +343,7 @@ pub fn compare_dated(
 ) -> Tally {
     let mut masks_of_events = [0u16; 8];
     put_event_masks(masks, log, days, terms, &mut masks_of_events);
-    let event_masks = part16(&masks_of_events, log.len());
+    let event_masks = part_of(&masks_of_events, 0, log.len());
     let expected = expect_log(shape, event_masks, moves, log);
     let judged = compare_judge(
         shape,
@@ -379,22 +371,6 @@ pub fn compare_dated(
     count_kind(shape, masks, moves, log, days, terms, expected, short)
 }
 
-fn same_answer(a: Answer, b: Answer) -> bool {
-    is_refusal(a, b.refusal, b.place, b.log)
-        & (a.verdict == b.verdict)
-        & (a.prefixes == b.prefixes)
-        & (a.looks == b.looks)
-}
-
-pub fn equal32(a: &[u32], b: &[u32]) -> bool {
-    for i in 0..a.len() {
-        if at32(a, i) != at32(b, i) {
-            return false;
-        }
-    }
-    a.len() == b.len()
-}
-
 // One term that has every day there is: the judge without terms gives the same answer, order and table, byte by byte, with a table of `size` numbers.
 pub fn compare_one_term(
     shape: Shape,
@@ -405,10 +381,10 @@ pub fn compare_one_term(
     size: usize,
     t: Tally,
 ) -> Tally {
-    let mut buffer = [GUARD8; 32];
-    let mut numbers = [GUARD32; 1416];
-    let mut plain_buffer = [GUARD8; 32];
-    let mut plain_numbers = [GUARD32; 1416];
+    let mut buffer = [u8::GUARD; 32];
+    let mut numbers = [u32::GUARD; 1416];
+    let mut plain_buffer = [u8::GUARD; 32];
+    let mut plain_numbers = [u32::GUARD; 1416];
     let all = [19000101u32, 21991231];
     let with = judge_terms_in(
         shape,
@@ -432,8 +408,9 @@ pub fn compare_one_term(
         &mut plain_buffer,
         &mut plain_numbers,
     );
-    let right = same_answer(with, plain)
-        & equal8(&buffer, &plain_buffer)
-        & equal32(&numbers, &plain_numbers);
+    let right = with.is_some()
+        & (with == plain)
+        & (buffer == plain_buffer)
+        & (numbers == plain_numbers);
     tally::count(tally::expect(t, SAME_AS_JUDGE, right), ONE_TERM)
 }

@@ -1,7 +1,7 @@
 // The judge with terms on lent parts of guarded buffers, as `trial::calls` has the judge.
 use profile::Shape;
-use trial::answers::{Answer, no_answer, of_judged};
-use trial::calls::{BYTES, NUMBERS};
+use trial::answers::{Answer, of_judged};
+use trial::calls::{BYTES, NUMBERS, lent};
 
 pub fn judge_terms_in(
     shape: Shape,
@@ -15,20 +15,8 @@ pub fn judge_terms_in(
     buffer: &mut [u8],
     numbers: &mut [u32],
 ) -> Answer {
-    if 1000000 < room {
-        return no_answer();
-    }
-    if 1000000 < size {
-        return no_answer();
-    }
-    let stop = BYTES + room;
-    let end = NUMBERS + size;
-    if buffer.len() < stop {
-        return no_answer();
-    }
-    if numbers.len() < end {
-        return no_answer();
-    }
+    let order = lent(buffer, BYTES, room)?;
+    let table = lent(numbers, NUMBERS, size)?;
     let judged = termed_judge::judge(
         shape,
         masks,
@@ -36,8 +24,8 @@ pub fn judge_terms_in(
         log,
         days,
         terms,
-        &mut buffer[4..stop],
-        &mut numbers[8..end],
+        order,
+        table,
     );
     of_judged(judged)
 }

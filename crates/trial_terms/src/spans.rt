@@ -1,13 +1,13 @@
 // Terms by document 02's words: "1 to 12 terms. A term has a first and a last such day, both inside it; terms rise and do not overlap."
 use crate::calendar::{is_day, no_later};
-use trial::cells::{at32, plus};
+use trial::cells::{plus, value_at};
 
 pub fn first_of(terms: &[u32], i: usize) -> u32 {
-    at32(terms, plus(i, i))
+    value_at(terms, plus(i, i))
 }
 
 pub fn last_of(terms: &[u32], i: usize) -> u32 {
-    at32(terms, plus(plus(i, i), 1))
+    value_at(terms, plus(plus(i, i), 1))
 }
 
 // The day is in term i.

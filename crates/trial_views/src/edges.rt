@@ -3,7 +3,7 @@ use crate::lent::view_in;
 use crate::one_view::{EDGE, EDGES, is_cleared};
 use profile::Shape;
 use trial::answers::{is_refusal, is_verdict};
-use trial::cells::{GUARD8, GUARD32, part8, part16, part32, untouched8, untouched32};
+use trial::cells::{Cell, part_of, untouched};
 use trial::shapes::{alt, shape_of};
 use trial::tally;
 use trial::tally::Tally;
@@ -32,8 +32,8 @@ pub fn of_alt(visible: u32, room: usize, size: usize, number: usize, place: usiz
 
 // A call that is refused as expected, or that is answered with verdict 1, this P, and looks one less: the visible part is one letter, repeated or not at all.
 pub fn compare(asked: Ask, masks: &[u16], moves: &[u32], log: &[u8], t: Tally) -> Tally {
-    let mut buffer = [GUARD8; 32];
-    let mut numbers = [GUARD32; 1416];
+    let mut buffer = [u8::GUARD; 32];
+    let mut numbers = [u32::GUARD; 1416];
     let answer = view_in(
         asked.shape,
         asked.visible,
@@ -48,7 +48,7 @@ pub fn compare(asked: Ask, masks: &[u16], moves: &[u32], log: &[u8], t: Tally) -
     if asked.number == 0 {
         let looks = if 0 < asked.place { asked.place - 1 } else { 0 };
         return tally::count(
-            tally::expect(t, EDGE, is_verdict(answer, 1, asked.place, looks)),
+            tally::expect(t, EDGE, is_verdict(answer, true, asked.place, looks)),
             EDGES,
         );
     }
@@ -56,7 +56,7 @@ pub fn compare(asked: Ask, masks: &[u16], moves: &[u32], log: &[u8], t: Tally) -
     let left = if asked.number == 10 {
         is_cleared(&buffer, &numbers, asked.size)
     } else {
-        untouched8(&buffer, 0, 0) & untouched32(&numbers, 0, 0)
+        untouched(&buffer, 0, 0) & untouched(&numbers, 0, 0)
     };
     tally::count(tally::expect(t, EDGE, refused & left), EDGES)
 }
@@ -74,8 +74,8 @@ fn profile_edges(masks: &[u16], moves: &[u32], long: &[u8], t: Tally) -> Tally {
     let a = compare(with(shape_of(0, 2, 0, 1), two), masks, moves, long, t);
     let b = compare(with(shape_of(2, 33, 0, 1), two), masks, moves, long, a);
     let c = compare(with(shape_of(2, 2, 2, 1), two), masks, moves, long, b);
-    let d = compare(two, part16(masks, 1), moves, long, c);
-    let e = compare(two, masks, part32(moves, 3), long, d);
+    let d = compare(two, part_of(masks, 0, 1), moves, long, c);
+    let e = compare(two, masks, part_of(moves, 0, 3), long, d);
     let f = compare(of_alt(4, 0, 0, 4, 0), &own, moves, long, e);
     compare(
         with(shape_of(2, 2, 0, 4), of_alt(4, 0, 0, 6, 0)),
@@ -95,7 +95,7 @@ fn mask_edges(masks: &[u16], moves: &[u32], long: &[u8], bad: &[u8], t: Tally) -
         of_alt(2147483649, 8, 100, 20, 0),
         masks,
         moves,
-        part8(bad, 0, 2),
+        part_of(bad, 0, 2),
         c,
     );
     let e = compare(of_alt(1, 0, 0, 7, 0), masks, moves, long, d);
@@ -121,5 +121,5 @@ pub fn compare_edges(t: Tally) -> Tally {
     let log = [1u8, 1u8, 0u8, 0u8];
     let a = profile_edges(&masks, &moves, &long, t);
     let b = mask_edges(&masks, &moves, &long, &bad, a);
-    buffer_edges(&masks, &moves, &log, part8(&long, 0, 4000), b)
+    buffer_edges(&masks, &moves, &log, part_of(&long, 0, 4000), b)
 }

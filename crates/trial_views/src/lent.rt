@@ -1,17 +1,26 @@
 // The call on lent parts of guarded buffers, as those of the crate `trial`.
 use profile::Shape;
-use trial::answers::{Answer, NONE, no_answer};
-use trial::calls::{BYTES, NUMBERS};
+use trial::answers::{Answer, Refused, Told};
+use trial::calls::{BYTES, NUMBERS, lent};
 
+// The numbers told: the place, the verdict, P and looks; beside a refusal all but the place are 0, and beside none the place is.
 fn answer_of(number: u32, told: [u64; 4]) -> Answer {
-    Answer {
-        refusal: number as usize,
-        place: told[0] as usize,
-        log: 0,
-        verdict: if number == 0 { told[1] as usize } else { NONE },
-        prefixes: told[2] as usize,
-        looks: told[3] as usize,
+    let [place, verdict, prefixes, looks] = told;
+    if (number == 0) & (place == 0) & (verdict < 2) {
+        return Some(Ok(Told {
+            verdict: Some(verdict == 1),
+            prefixes: prefixes as usize,
+            looks: looks as usize,
+        }));
     }
+    if (number == 0) | (verdict != 0) | (prefixes != 0) | (looks != 0) {
+        return None;
+    }
+    Some(Err(Refused {
+        number: number as usize,
+        place: place as usize,
+        log: 0,
+    }))
 }
 
 pub fn view_in(
@@ -25,20 +34,8 @@ pub fn view_in(
     buffer: &mut [u8],
     numbers: &mut [u32],
 ) -> Answer {
-    if 1000000 < room {
-        return no_answer();
-    }
-    if 1000000 < size {
-        return no_answer();
-    }
-    let stop = BYTES + room;
-    let end = NUMBERS + size;
-    if buffer.len() < stop {
-        return no_answer();
-    }
-    if numbers.len() < end {
-        return no_answer();
-    }
+    let order = lent(buffer, BYTES, room)?;
+    let table = lent(numbers, NUMBERS, size)?;
     let mut told = [99u64; 4];
     let number = view_calls::view(
         shape,
@@ -46,8 +43,8 @@ pub fn view_in(
         masks,
         moves,
         log,
-        &mut buffer[4..stop],
-        &mut numbers[8..end],
+        order,
+        table,
         &mut told,
     );
     answer_of(number, told)

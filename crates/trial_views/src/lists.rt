@@ -1,7 +1,7 @@
 // Every list of letters up to a length: its visible part, and where it leads. Document 02, Paper 12: "some list of letters, of any length, that leads the
 // profile from its start to a final state has a visible part reachable from that part".
 use profile::Shape;
-use trial::cells::{at8, bit, byte, one32, part8, plus, put8};
+use trial::cells::{bit, byte, byte_at, one32, part_of, plus, put};
 use trial::logs::put_log_number;
 use trial_logs::listing::{earlier, list, listed};
 use trial_logs::paths::ends;
@@ -34,7 +34,7 @@ fn take_visible(visible: usize, letter: usize, out: &mut [u8], n: usize) -> usiz
     if !bit(visible, letter) {
         return n;
     }
-    put8(out, n, byte(letter));
+    put(out, n, byte(letter));
     plus(n, 1)
 }
 
@@ -42,7 +42,7 @@ fn take_visible(visible: usize, letter: usize, out: &mut [u8], n: usize) -> usiz
 pub fn put_visible(visible: usize, letters: &[u8], out: &mut [u8]) -> usize {
     let mut n = 0;
     for i in 0..letters.len() {
-        n = take_visible(visible, at8(letters, i), out, n);
+        n = take_visible(visible, byte_at(letters, i), out, n);
     }
     n
 }
@@ -52,7 +52,7 @@ pub fn class_of(masks: &[u16], log: &[u8], marks: usize, marked: bool) -> Class 
     let mut word = [0u8; 8];
     let mut rows = [0u8; 16384];
     let n = take_events(log, marks, marked, &mut word);
-    let count = list(masks, part8(&word, 0, n), &mut rows);
+    let count = list(masks, part_of(&word, 0, n), &mut rows);
     Class {
         rows: rows,
         count: count,
@@ -66,7 +66,7 @@ fn shows(visible: usize, letters: &[u8], rows: &[u8], count: usize, n: usize) ->
     if put_visible(visible, letters, &mut part) != n {
         return false;
     }
-    listed(rows, count, part8(&part, 0, n))
+    listed(rows, count, part_of(&part, 0, n))
 }
 
 // The states to which list v leads from the start, where it shows a log of the class.
@@ -74,7 +74,7 @@ fn led_by(view: View, moves: &[u32], rows: &[u8], count: usize, n: usize, v: usi
     let mut letters = [0u8; 8];
     let shape = view.shape;
     let m = put_log_number(shape.k, v, &mut letters);
-    let word = part8(&letters, 0, m);
+    let word = part_of(&letters, 0, m);
     if !shows(view.visible, word, rows, count, n) {
         return 0;
     }
@@ -111,7 +111,7 @@ fn leading_by(view: View, moves: &[u32], rows: &[u8], count: usize, n: usize, v:
     let mut letters = [0u8; 8];
     let shape = view.shape;
     let m = put_log_number(shape.k, v, &mut letters);
-    let word = part8(&letters, 0, m);
+    let word = part_of(&letters, 0, m);
     if !shows(view.visible, word, rows, count, n) {
         return 0;
     }
@@ -130,7 +130,7 @@ pub fn leading(view: View, moves: &[u32], rows: &[u8], count: usize, n: usize) -
 // The earlier of what was found and of the n letters.
 fn earlier_of(best: Best, part: [u8; 8], n: usize) -> Best {
     let found = best.letters;
-    if best.found & !earlier(part8(&part, 0, n), part8(&found, 0, n)) {
+    if best.found & !earlier(part_of(&part, 0, n), part_of(&found, 0, n)) {
         best
     } else {
         Best {
@@ -153,7 +153,7 @@ fn better_by(
     let mut part = [0u8; 8];
     let mut letters = [0u8; 8];
     let m = put_log_number(view.shape.k, v, &mut letters);
-    put_visible(view.visible, part8(&letters, 0, m), &mut part);
+    put_visible(view.visible, part_of(&letters, 0, m), &mut part);
     if led_by(view, moves, rows, count, n, v) & view.shape.finals == 0 {
         best
     } else {

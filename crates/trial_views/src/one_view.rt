@@ -2,11 +2,9 @@
 use crate::lent::view_in;
 use crate::lists::{View, class_of, earliest_shown, leading, led, put_visible};
 use profile::Shape;
-use trial::answers::{Answer, is_refusal, is_verdict};
+use trial::answers::{Answer, is_refusal, is_verdict, verdict_of};
 use trial::calls::{BYTES, NUMBERS, judge_in, table_part};
-use trial::cells::{
-    GUARD8, GUARD32, at32, equal8, holds8, part8, plus, untouched8, untouched32, wide32,
-};
+use trial::cells::{Cell, holds, part_of, plus, untouched, value_at, wide};
 use trial::record_numbers::{BACKWARD, FORWARD, RECORD, record_at, set_of, total_of};
 use trial::tally;
 use trial::tally::Tally;
@@ -80,7 +78,7 @@ fn counts_right(
     keys: &[usize],
     prefixes: usize,
 ) -> bool {
-    (total_of(table, r) == wide32(u64::count_ones(marks as u64)))
+    (total_of(table, r) == wide(u64::count_ones(marks as u64)))
         & closed(masks, seen, marks)
         & (place_of(keys, prefixes, key_of(seen, marks)) == r)
 }
@@ -118,7 +116,7 @@ fn table_right(
     let mut keys = [0usize; 256];
     let many = put_keys(masks, seen, &mut keys);
     (many == prefixes)
-        & untouched32(numbers, NUMBERS, record_at(prefixes))
+        & untouched(numbers, NUMBERS, record_at(prefixes))
         & records_right(
             view,
             masks,
@@ -128,10 +126,6 @@ fn table_right(
             &keys,
             prefixes,
         )
-}
-
-fn one_if(yes: bool) -> usize {
-    if yes { 1 } else { 0 }
 }
 
 // The answer, and the order that comes with it.
@@ -145,21 +139,21 @@ fn answer_right(
 ) -> bool {
     let told = is_verdict(
         answer,
-        one_if(found),
+        found,
         prefix_count(masks, seen),
         look_count(masks, seen),
     );
     if found {
-        told & holds8(buffer, BYTES, order)
+        told & holds(buffer, BYTES, order)
     } else {
-        told & untouched8(buffer, 0, 0)
+        told & untouched(buffer, 0, 0)
     }
 }
 
 // The visible part with some order is rarely that of a log which the judge accepts: the judge's answer for the visible part itself.
-fn judged(shape: Shape, masks: &[u16], moves: &[u32], seen: &[u8]) -> usize {
-    let mut buffer = [GUARD8; 32];
-    let mut numbers = [GUARD32; 1416];
+fn judged(shape: Shape, masks: &[u16], moves: &[u32], seen: &[u8]) -> Option<bool> {
+    let mut buffer = [u8::GUARD; 32];
+    let mut numbers = [u32::GUARD; 1416];
     let answer = judge_in(
         shape,
         masks,
@@ -170,7 +164,7 @@ fn judged(shape: Shape, masks: &[u16], moves: &[u32], seen: &[u8]) -> usize {
         &mut buffer,
         &mut numbers,
     );
-    answer.verdict
+    verdict_of(answer)
 }
 
 // A view that is answered.
@@ -189,7 +183,7 @@ fn compare_answer(
     let best = earliest_shown(view, moves, &rows, all.count, all.n);
     let letters = best.letters;
     let prefixes = prefix_count(masks, seen);
-    let order = part8(&letters, 0, seen.len());
+    let order = part_of(&letters, 0, seen.len());
     let told = tally::expect(
         t,
         ANSWER,
@@ -201,18 +195,18 @@ fn compare_answer(
         table_right(view, masks, moves, seen, numbers, prefixes),
     );
     let counted = tally::count_many(filled, RECORDS, prefixes);
-    let other = judged(view.shape, masks, moves, seen) != one_if(best.found);
-    tally::count_many(
-        tally::count_many(counted, ACCEPTED, one_if(best.found)),
+    let other = judged(view.shape, masks, moves, seen) != Some(best.found);
+    tally::count_if(
+        tally::count_if(counted, ACCEPTED, best.found),
         NOT_SO_JUDGED,
-        one_if(other),
+        other,
     )
 }
 
 // Each number from `from` on is 0, n of them.
 fn zero32(numbers: &[u32], from: usize, n: usize) -> bool {
     for i in 0..n {
-        if at32(numbers, plus(from, i)) != 0 {
+        if value_at(numbers, plus(from, i)) != 0 {
             return false;
         }
     }
@@ -222,8 +216,8 @@ fn zero32(numbers: &[u32], from: usize, n: usize) -> bool {
 // After 10 the usable part is 0, and the rest stays.
 pub fn is_cleared(buffer: &[u8], numbers: &[u32], size: usize) -> bool {
     let usable = record_at(size / RECORD);
-    untouched8(buffer, 0, 0)
-        & untouched32(numbers, NUMBERS, usable)
+    untouched(buffer, 0, 0)
+        & untouched(numbers, NUMBERS, usable)
         & zero32(numbers, NUMBERS, usable)
 }
 
@@ -238,10 +232,10 @@ pub fn compare_view(
     t: Tally,
 ) -> Tally {
     let mut part = [0u8; 8];
-    let mut buffer = [GUARD8; 32];
-    let mut numbers = [GUARD32; 1416];
+    let mut buffer = [u8::GUARD; 32];
+    let mut numbers = [u32::GUARD; 1416];
     let n = put_visible(view.visible, log, &mut part);
-    let seen = part8(&part, 0, n);
+    let seen = part_of(&part, 0, n);
     let answer = view_in(
         view.shape,
         mask_of(view.visible),
@@ -253,11 +247,11 @@ pub fn compare_view(
         &mut buffer,
         &mut numbers,
     );
-    let u = tally::count_many(tally::count(t, VIEWS), HIDING, one_if(n != log.len()));
+    let u = tally::count_if(tally::count(t, VIEWS), HIDING, n != log.len());
     if room < n {
         let right = is_refusal(answer, 9, 0, 0)
-            & untouched8(&buffer, 0, 0)
-            & untouched32(&numbers, 0, 0);
+            & untouched(&buffer, 0, 0)
+            & untouched(&numbers, 0, 0);
         return tally::count(tally::expect(u, REFUSAL, right), SHORT);
     }
     if size < record_at(prefix_count(masks, seen)) {
@@ -265,23 +259,6 @@ pub fn compare_view(
         return tally::count(tally::expect(u, REFUSAL, right), FULL);
     }
     compare_answer(view, masks, moves, seen, answer, &buffer, &numbers, u)
-}
-
-fn equal_answers(a: Answer, b: Answer) -> bool {
-    (a.refusal == b.refusal)
-        & (a.place == b.place)
-        & (a.verdict == b.verdict)
-        & (a.prefixes == b.prefixes)
-        & (a.looks == b.looks)
-}
-
-fn equal32(a: &[u32], b: &[u32]) -> bool {
-    for i in 0..a.len() {
-        if at32(a, i) != at32(b, i) {
-            return false;
-        }
-    }
-    a.len() == b.len()
 }
 
 // Two logs with the same visible part, lent the same buffers: equal answers and equal buffers, refused or not.
@@ -295,10 +272,10 @@ pub fn compare_secret(
     size: usize,
     t: Tally,
 ) -> Tally {
-    let mut first = [GUARD8; 32];
-    let mut second = [GUARD8; 32];
-    let mut numbers = [GUARD32; 1416];
-    let mut others = [GUARD32; 1416];
+    let mut first = [u8::GUARD; 32];
+    let mut second = [u8::GUARD; 32];
+    let mut numbers = [u32::GUARD; 1416];
+    let mut others = [u32::GUARD; 1416];
     let visible = mask_of(view.visible);
     let one = view_in(
         view.shape,
@@ -322,7 +299,7 @@ pub fn compare_secret(
         &mut second,
         &mut others,
     );
-    let right = equal_answers(one, two) & equal8(&first, &second) & equal32(&numbers, &others);
+    let right = one.is_some() & (one == two) & (first == second) & (numbers == others);
     tally::count(tally::expect(t, SECRET, right), SECRETS)
 }
 
@@ -336,10 +313,10 @@ pub fn compare_judge(
     room: usize,
     t: Tally,
 ) -> Tally {
-    let mut first = [GUARD8; 32];
-    let mut second = [GUARD8; 32];
-    let mut numbers = [GUARD32; 1416];
-    let mut others = [GUARD32; 1416];
+    let mut first = [u8::GUARD; 32];
+    let mut second = [u8::GUARD; 32];
+    let mut numbers = [u32::GUARD; 1416];
+    let mut others = [u32::GUARD; 1416];
     let one = view_in(
         shape,
         visible,
@@ -361,6 +338,6 @@ pub fn compare_judge(
         &mut second,
         &mut others,
     );
-    let right = equal_answers(one, two) & equal8(&first, &second) & equal32(&numbers, &others);
+    let right = one.is_some() & (one == two) & (first == second) & (numbers == others);
     tally::count(tally::expect(t, JUDGE, right), JUDGES)
 }
