@@ -4,7 +4,7 @@ use profile::Shape;
 use trial::cells::{part_of, plus, times};
 use trial::shapes::alt;
 use trial::tally;
-use trial::tally::Tally;
+use trial::tally::{Counted, Tally};
 use trial::text_rows::{digit, put_letters_in, put_masks_in, put_moves_in, rest_at, shape_in};
 use trial_logs::compare::compare_table;
 use trial_logs::listing::{list, row};
@@ -123,7 +123,7 @@ fn table_lengths(log: &[u8], t: Tally) -> Tally {
     for size in 0..51 {
         u = tally::count(
             compare_table(alt(), &masks, &moves, log, log.len(), size, u),
-            tally::EDGES,
+            Counted::Edges,
         );
     }
     u

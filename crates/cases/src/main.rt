@@ -9,7 +9,7 @@ mod small;
 
 use std::io;
 use trial::tally;
-use trial::tally::Tally;
+use trial::tally::{Counted, Tally};
 
 // Every log of small profiles, logs of random ones, and the cases of document 01, with their files.
 fn compare_logs(t: Tally) -> Tally {
@@ -26,27 +26,60 @@ fn compare_files(t: Tally) -> Tally {
 }
 
 fn print(rt: &impl Print, t: Tally) -> io::Result<()> {
-    tally::say(
-        rt,
-        t,
-        b"judge: logs #, verdict 1 #, reachable logs #\ntable: built #, records #, too short #\nsame: pairs #, same #\nfirst order: logs #, not their own #\nfiles: written #, read #, not refused #\nlog reader: events #, ends #\nedges: #, refusals combined #\n",
-        tally::LOGS,
-        1,
+    println!(rt;
+        "judge: logs {}, verdict 1 {}, reachable logs {}",
+        t.of(Counted::Logs),
+        t.of(Counted::Accepted),
+        t.of(Counted::Reachable)
     )?;
-    tally::say(
-        rt,
-        t,
-        b"one-way masks: logs #, pairs reachable one way #\n",
-        tally::ONE_WAY_LOGS,
-        1,
+    println!(rt;
+        "table: built {}, records {}, too short {}",
+        t.of(Counted::Tables),
+        t.of(Counted::Records),
+        t.of(Counted::FullTables)
     )?;
-    tally::say_all_refusals(rt, t)?;
-    tally::say(
-        rt,
-        t,
-        b"wrong: judge #, table #, same #, first order #, refusal #, file #, log reader #, edge #\n",
-        tally::JUDGE,
-        1,
+    println!(rt;
+        "same: pairs {}, same {}",
+        t.of(Counted::Pairs),
+        t.of(Counted::SamePairs)
+    )?;
+    println!(rt;
+        "first order: logs {}, not their own {}",
+        t.of(Counted::FirstOrders),
+        t.of(Counted::MovedFirstOrders)
+    )?;
+    println!(rt;
+        "files: written {}, read {}, not refused {}",
+        t.of(Counted::Written),
+        t.of(Counted::Read),
+        t.of(Counted::Told)
+    )?;
+    println!(rt;
+        "log reader: events {}, ends {}",
+        t.of(Counted::Events),
+        t.of(Counted::Ends)
+    )?;
+    println!(rt;
+        "edges: {}, refusals combined {}",
+        t.of(Counted::Edges),
+        t.of(Counted::Combined)
+    )?;
+    println!(rt;
+        "one-way masks: logs {}, pairs reachable one way {}",
+        t.of(Counted::OneWayLogs),
+        t.of(Counted::OneWayPairs)
+    )?;
+    tally::say_refusals(rt, t)?;
+    println!(rt;
+        "wrong: judge {}, table {}, same {}, first order {}, refusal {}, file {}, log reader {}, edge {}",
+        t.of(Counted::Judge),
+        t.of(Counted::Table),
+        t.of(Counted::Same),
+        t.of(Counted::First),
+        t.of(Counted::Refusal),
+        t.of(Counted::File),
+        t.of(Counted::Event),
+        t.of(Counted::Edge)
     )
 }
 

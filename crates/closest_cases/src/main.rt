@@ -13,7 +13,7 @@ use trial::tally::Tally;
 use trial_closest::budgets::compare_log;
 use trial_closest::edges::{compare_edges, compare_term_edges};
 use trial_closest::lent::{Dated, no_terms};
-use trial_closest::met::{BY_DAMAGE, LOGS, TURNS};
+use trial_closest::met::{ByDamage, Met};
 use trial_closest::refusing::{combine_all, combine_all_terms};
 use trial_terms::dated::{put_days, put_halves, put_terms};
 
@@ -175,29 +175,52 @@ fn all_halves(t: Tally) -> Tally {
 }
 
 fn print(rt: &impl Print, t: Tally) -> io::Result<()> {
-    tally::say(
-        rt,
-        t,
-        b"logs #: verdict 1 #, with one-way masks #, closest order not the judge's #, not the log #; pairs of a prefix and a state #\nbudgets #: below all pairs with a floor above 0 #, and below the fewest swaps #; that cover all pairs #\norder buffers too short #, tables too short #, cost tables too short #; by hand #, refusals combined #\nwrong: listing #, judge #, budget #, short buffer #, by hand #, combined #\n",
-        LOGS,
-        1,
+    println!(rt;
+        "logs {}: verdict 1 {}, with one-way masks {}, closest order not the judge's {}, not the log {}; pairs of a prefix and a state {}",
+        t.of(Met::Logs),
+        t.of(Met::Accepted),
+        t.of(Met::OneWay),
+        t.of(Met::OtherOrder),
+        t.of(Met::Swapped),
+        t.of(Met::Pairs)
     )?;
-    tally::say(
-        rt,
-        t,
-        b"combined: refused by 2 #, 4 #, 6 #, 7 #, 8 #, 14 #, 15 #, 16 #, 9 #, 10 #, 17 #, not refused #\n",
-        BY_DAMAGE,
-        1,
-    )
+    println!(rt;
+        "budgets {}: below all pairs with a floor above 0 {}, and below the fewest swaps {}; that cover all pairs {}",
+        t.of(Met::Budgets),
+        t.of(Met::Floors),
+        t.of(Met::LowFloors),
+        t.of(Met::Covering)
+    )?;
+    println!(rt;
+        "order buffers too short {}, tables too short {}, cost tables too short {}; by hand {}, refusals combined {}",
+        t.of(Met::ShortOrders),
+        t.of(Met::ShortTables),
+        t.of(Met::ShortCosts),
+        t.of(Met::Edges),
+        t.of(Met::Combined)
+    )?;
+    println!(rt;
+        "wrong: listing {}, judge {}, budget {}, short buffer {}, by hand {}, combined {}",
+        t.of(Met::Listing),
+        t.of(Met::Judge),
+        t.of(Met::Budget),
+        t.of(Met::Buffer),
+        t.of(Met::Edge),
+        t.of(Met::Refusal)
+    )?;
+    print!(rt; "combined: refused by ")?;
+    for (i, number) in [2, 4, 6, 7, 8, 14, 15, 16, 9, 10, 17].iter().enumerate() {
+        print!(rt; "{number} {}, ", t.of(ByDamage(i)))?;
+    }
+    println!(rt; "not refused {}", t.of(ByDamage(11)))
 }
 
 fn print_terms(rt: &impl Print, t: Tally) -> io::Result<()> {
-    tally::say(
-        rt,
-        t,
-        b"with terms: neighbours in two terms #, days that fall #, fewer prefixes than without terms #\n",
-        TURNS,
-        1,
+    println!(rt;
+        "with terms: neighbours in two terms {}, days that fall {}, fewer prefixes than without terms {}",
+        t.of(Met::Turns),
+        t.of(Met::Falls),
+        t.of(Met::Fewer)
     )?;
     print(rt, t)
 }

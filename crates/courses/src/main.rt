@@ -5,7 +5,7 @@
 use std::io;
 use trial::tally;
 use trial::tally::Tally;
-use trial_courses::counters;
+use trial_courses::counters::{Counted, RefusedBy};
 use trial_courses::small::every_text;
 
 // All short texts over two and three letters, and over one, with the letter behind it.
@@ -15,22 +15,43 @@ fn every_short_text(t: Tally) -> Tally {
 }
 
 fn print(rt: &impl Print, t: Tally) -> io::Result<()> {
-    tally::say(
-        rt,
-        t,
-        b"texts: all #, right #; random #, right #; edges #\nmoves: bits #, set #\nlogs: all #, described #; a and b independent #, an arrangement described #; random #, described #\n",
-        counters::TEXTS,
-        1,
+    println!(rt;
+        "texts: all {}, right {}; random {}, right {}; edges {}",
+        t.of(Counted::Texts),
+        t.of(Counted::Right),
+        t.of(Counted::Random),
+        t.of(Counted::RandomRight),
+        t.of(Counted::Edges)
     )?;
-    tally::say(rt, t, b"refusals: 2 #, ", counters::BY_2, 1)?;
-    tally::say(rt, t, b"9 #, ", counters::BY_9, 1)?;
-    tally::say(rt, t, b"11 #, 12 #, 13 #\n", counters::BY_11, 1)?;
-    tally::say(
-        rt,
-        t,
-        b"wrong: refusal #, profile #, moves #, verdict #, edge #\n",
-        counters::REFUSAL,
-        1,
+    println!(rt;
+        "moves: bits {}, set {}",
+        t.of(Counted::Bits),
+        t.of(Counted::Set)
+    )?;
+    println!(rt;
+        "logs: all {}, described {}; a and b independent {}, an arrangement described {}; random {}, described {}",
+        t.of(Counted::Logs),
+        t.of(Counted::DescribedLogs),
+        t.of(Counted::PairLogs),
+        t.of(Counted::DescribedPairLogs),
+        t.of(Counted::RandomLogs),
+        t.of(Counted::DescribedRandomLogs)
+    )?;
+    println!(rt;
+        "refusals: 2 {}, 9 {}, 11 {}, 12 {}, 13 {}",
+        t.of(RefusedBy(2)),
+        t.of(RefusedBy(9)),
+        t.of(RefusedBy(11)),
+        t.of(RefusedBy(12)),
+        t.of(RefusedBy(13))
+    )?;
+    println!(rt;
+        "wrong: refusal {}, profile {}, moves {}, verdict {}, edge {}",
+        t.of(Counted::Refusal),
+        t.of(Counted::Profile),
+        t.of(Counted::Moves),
+        t.of(Counted::Verdict),
+        t.of(Counted::Edge)
     )
 }
 

@@ -7,10 +7,10 @@ use trial::cells::plus;
 use trial::random::{below, seed_of};
 use trial::tally;
 use trial::tally::Tally;
-use trial_derived::compare::{CASES, compare_case, with_room};
+use trial_derived::compare::{Counted, compare_case, with_room};
 use trial_derived::edges::all_edges;
 use trial_derived::random::random_case;
-use trial_derived::refusing::compare_defects;
+use trial_derived::refusing::{Defect, compare_defects};
 
 // One grammar and log: a call that is not refused, and one with some defects.
 fn one_case(seed: usize, t: Tally) -> Tally {
@@ -34,11 +34,33 @@ fn all_cases(seed: usize, many: usize, t: Tally) -> Tally {
 
 fn main(rt: HostRuntime) -> io::Result<()> {
     let t = all_edges(all_cases(13, 4000, tally::nothing()));
-    tally::say(
-        &rt,
-        t,
-        b"grammars and logs #, one-way #: verdict 1 #, reachable logs #, of them derived #, records #\nrefused by 2 #, 4 #, 21 #, 7 #, 8 #, 9 #, 10 #, 22 #; edges #\nwrong: verdict #, order #, table #, refusal #, edge #\n",
-        CASES,
-        1,
+    println!(rt;
+        "grammars and logs {}, one-way {}: verdict 1 {}, reachable logs {}, of them derived {}, records {}",
+        t.of(Counted::Cases),
+        t.of(Counted::OneWay),
+        t.of(Counted::Accepted),
+        t.of(Counted::Reachable),
+        t.of(Counted::Derivable),
+        t.of(Counted::Records)
+    )?;
+    println!(rt;
+        "refused by 2 {}, 4 {}, 21 {}, 7 {}, 8 {}, 9 {}, 10 {}, 22 {}; edges {}",
+        t.of(Defect::By2),
+        t.of(Defect::By4),
+        t.of(Defect::By21),
+        t.of(Defect::By7),
+        t.of(Defect::By8),
+        t.of(Defect::By9),
+        t.of(Defect::By10),
+        t.of(Defect::By22),
+        t.of(Counted::Edges)
+    )?;
+    println!(rt;
+        "wrong: verdict {}, order {}, table {}, refusal {}, edge {}",
+        t.of(Counted::Verdict),
+        t.of(Counted::Order),
+        t.of(Counted::Table),
+        t.of(Counted::Refusal),
+        t.of(Counted::Edge)
     )
 }

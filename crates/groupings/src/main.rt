@@ -6,7 +6,7 @@ use std::io;
 use trial::random::below;
 use trial::tally;
 use trial::tally::Tally;
-use trial_ceilings::compare::CALLS;
+use trial_ceilings::compare::Counted;
 use trial_ceilings::edges::{compare_combinations, compare_edges};
 use trial_ceilings::lists::{case_of, compare_lists};
 
@@ -59,11 +59,20 @@ fn compare_large(many: usize, t: Tally) -> Tally {
 fn main(rt: HostRuntime) -> io::Result<()> {
     let lists = compare_large(60, compare_small(tally::nothing()));
     let t = compare_combinations(compare_edges(lists));
-    tally::say(
-        &rt,
-        t,
-        b"calls #: ceilings told #, of which P meets #, refused by 18 #; edges #, combinations of refusals #\nwrong: answers #, P above the ceiling #, edges #, combinations #\n",
-        CALLS,
-        1,
+    println!(rt;
+        "calls {}: ceilings told {}, of which P meets {}, refused by 18 {}; edges {}, combinations of refusals {}",
+        t.of(Counted::Calls),
+        t.of(Counted::Told),
+        t.of(Counted::Met),
+        t.of(Counted::BadGroups),
+        t.of(Counted::Edges),
+        t.of(Counted::Combined)
+    )?;
+    println!(rt;
+        "wrong: answers {}, P above the ceiling {}, edges {}, combinations {}",
+        t.of(Counted::Answer),
+        t.of(Counted::Exceeded),
+        t.of(Counted::Edge),
+        t.of(Counted::Combination)
     )
 }

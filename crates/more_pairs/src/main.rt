@@ -7,8 +7,8 @@ use std::io;
 use trial::cells::{part_of, plus, times};
 use trial::random::{below, put_log, put_moves, random_shape, seed_of};
 use trial::tally;
-use trial::tally::Tally;
-use trial_more_pairs::compare::{NESTED, compare_nested};
+use trial::tally::{Counted, Tally};
+use trial_more_pairs::compare::{Beside, compare_nested};
 use trial_more_pairs::masks::put_nested;
 
 // One profile and one log.
@@ -86,25 +86,30 @@ fn main(rt: HostRuntime) -> io::Result<()> {
     let two = compare_codes(2, 9, 200, one);
     let three = compare_codes(3, 729, 8, two);
     let t = compare_seeds(1000, three);
-    tally::say(
-        &rt,
-        t,
-        b"judged #, with verdict 1 #, reachable logs #\n",
-        tally::LOGS,
-        1,
+    println!(rt;
+        "judged {}, with verdict 1 {}, reachable logs {}",
+        t.of(Counted::Logs),
+        t.of(Counted::Accepted),
+        t.of(Counted::Reachable)
     )?;
-    tally::say(
-        &rt,
-        t,
-        b"nested lists of pairs #: verdict 0 became 1 #, order became another #, P grew #, looks grew #, lists equal #\nwrong: verdict 1 became 0 #, order became later #, P shrank #, looks shrank #\n",
-        NESTED,
-        1,
+    println!(rt;
+        "nested lists of pairs {}: verdict 0 became 1 {}, order became another {}, P grew {}, looks grew {}, lists equal {}",
+        t.of(Beside::Nested),
+        t.of(Beside::TurnedGood),
+        t.of(Beside::Earlier),
+        t.of(Beside::MorePrefixes),
+        t.of(Beside::MoreLooks),
+        t.of(Beside::Equal)
     )?;
-    tally::say(
-        &rt,
-        t,
-        b"judge against the listing, wrong: #\n",
-        tally::JUDGE,
-        1,
+    println!(rt;
+        "wrong: verdict 1 became 0 {}, order became later {}, P shrank {}, looks shrank {}",
+        t.of(Beside::TurnedBad),
+        t.of(Beside::Later),
+        t.of(Beside::FewerPrefixes),
+        t.of(Beside::FewerLooks)
+    )?;
+    println!(rt;
+        "judge against the listing, wrong: {}",
+        t.of(Counted::Judge)
     )
 }

@@ -9,7 +9,7 @@ use trial::random::{below, put_masks, put_moves, random_shape, seed_of};
 use trial::tally;
 use trial::tally::Tally;
 use trial_running::damaged::{compare_damaged, put_numbers};
-use trial_running::run::{RUNS, Run, compare_run};
+use trial_running::run::{Counted, Run, compare_run};
 
 // One to three letters, or four to sixteen in one of four runs.
 fn letters_of(seed: usize) -> usize {
@@ -37,7 +37,7 @@ fn run_with(shape: Shape, masks: &[u16], moves: &[u32], seed: usize, t: Tally) -
         log: log,
         taken: 0,
         size: size_of(seed),
-        tally: tally::count(t, RUNS),
+        tally: tally::count(t, Counted::Runs),
     };
     let left = compare_run(
         shape,
@@ -80,11 +80,29 @@ fn all_runs(seed: usize, many: usize, t: Tally) -> Tally {
 
 fn main(rt: HostRuntime) -> io::Result<()> {
     let t = all_runs(7, 5000, tally::nothing());
-    tally::say(
-        &rt,
-        t,
-        b"runs #: starts refused #, events taken #, refused by 8 #, by 10 #, questions #, with verdict 1 #, records #\nrecord or table not as left: #\nwrong: start #, event #, question #, table #, judge #, listing #, not as left #\n",
-        RUNS,
-        1,
+    println!(rt;
+        "runs {}: starts refused {}, events taken {}, refused by 8 {}, by 10 {}, questions {}, with verdict 1 {}, records {}",
+        t.of(Counted::Runs),
+        t.of(Counted::RefusedStarts),
+        t.of(Counted::Events),
+        t.of(Counted::BadLetters),
+        t.of(Counted::FullTables),
+        t.of(Counted::Questions),
+        t.of(Counted::Accepted),
+        t.of(Counted::Records)
+    )?;
+    println!(rt;
+        "record or table not as left: {}",
+        t.of(Counted::Damaged)
+    )?;
+    println!(rt;
+        "wrong: start {}, event {}, question {}, table {}, judge {}, listing {}, not as left {}",
+        t.of(Counted::Start),
+        t.of(Counted::Event),
+        t.of(Counted::Question),
+        t.of(Counted::Table),
+        t.of(Counted::Judge),
+        t.of(Counted::Listing),
+        t.of(Counted::Answer)
     )
 }

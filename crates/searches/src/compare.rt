@@ -3,17 +3,23 @@ use crate::vectors::{box_size, change, counts_of, key_of, put_box, put_record};
 use trial::cells::{minus, plus};
 use trial::record_numbers::record_at;
 use trial::tally;
-use trial::tally::Tally;
+use trial::tally::{Counter, Tally};
 use trial_logs::place_keys::place_of;
 
 // Counters, in the order in which they are printed.
-pub const TABLES: usize = 0;
+#[derive(Clone, Copy)]
+pub enum Counted {
+    Tables,
+    Searches,
+    Present,
+    Wrong,
+}
 
-pub const SEARCHES: usize = 1;
-
-pub const PRESENT: usize = 2;
-
-pub const WRONG: usize = 3;
+impl Counter for Counted {
+    fn place(self) -> usize {
+        self as usize
+    }
+}
 
 // The records `first` to `end` of a table; none where they are not in it.
 fn part_of(table: &[u32], first: usize, end: usize) -> &[u32] {
@@ -53,8 +59,8 @@ fn search_part(
     let found = search::find(part_of(table, first, end), counts_of(vector));
     let number = place_in(place, first, end);
     let right = found == if present { Ok(number) } else { Err(number) };
-    let counted = tally::count_if(tally::count(t, SEARCHES), PRESENT, present);
-    tally::expect(counted, WRONG, right)
+    let counted = tally::count_if(tally::count(t, Counted::Searches), Counted::Present, present);
+    tally::expect(counted, Counted::Wrong, right)
 }
 
 // Searches the records of one total.

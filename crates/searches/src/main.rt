@@ -5,7 +5,7 @@
 mod compare;
 mod vectors;
 
-use crate::compare::{TABLES, search_box, search_records};
+use crate::compare::{Counted, search_box, search_records};
 use std::io;
 use trial::calls::{build_in, table_part};
 use trial::cells::{part_of, plus};
@@ -30,7 +30,7 @@ fn compare_log(k: usize, masks: &[u16], log: &[u8], t: Tally) -> Tally {
         &mut numbers,
     );
     let prefixes = put_keys(masks, log, &mut keys);
-    let counted = tally::count(t, TABLES);
+    let counted = tally::count(t, Counted::Tables);
     if k < 4 {
         search_box(table_part(&numbers), &keys, prefixes, k, counted)
     } else {
@@ -91,11 +91,14 @@ fn wide_logs(seed: usize, many: usize, t: Tally) -> Tally {
 
 fn main(rt: HostRuntime) -> io::Result<()> {
     let t = wide_logs(11, 400, small_relations(5, tally::nothing()));
-    tally::say(
-        &rt,
-        t,
-        b"search: tables #, searches #, found #\nwrong: search #\n",
-        TABLES,
-        1,
+    println!(rt;
+        "search: tables {}, searches {}, found {}",
+        t.of(Counted::Tables),
+        t.of(Counted::Searches),
+        t.of(Counted::Present)
+    )?;
+    println!(rt;
+        "wrong: search {}",
+        t.of(Counted::Wrong)
     )
 }

@@ -11,7 +11,7 @@ use trial::tally;
 use trial::tally::Tally;
 use trial_views::edges::compare_edges;
 use trial_views::lists::{View, put_visible};
-use trial_views::one_view::{VIEWS, compare_judge, compare_secret, compare_view, mask_of};
+use trial_views::one_view::{Counted, compare_judge, compare_secret, compare_view, mask_of};
 
 // The length up to which all lists are tried.
 fn longest_of(k: usize) -> usize {
@@ -105,11 +105,29 @@ fn all_views(seed: usize, many: usize, t: Tally) -> Tally {
 
 fn main(rt: HostRuntime) -> io::Result<()> {
     let t = all_views(12, 1500, compare_edges(tally::nothing()));
-    tally::say(
-        &rt,
-        t,
-        b"views #: with hidden letters #, verdict 1 #, not as the judge of the visible part #, records #, refused by 9 #, by 10 #\npairs of one visible part #, as the judge #, edges #\nwrong: answer #, table #, refusal #, secret #, judge #, edge #\n",
-        VIEWS,
-        1,
+    println!(rt;
+        "views {}: with hidden letters {}, verdict 1 {}, not as the judge of the visible part {}, records {}, refused by 9 {}, by 10 {}",
+        t.of(Counted::Views),
+        t.of(Counted::Hiding),
+        t.of(Counted::Accepted),
+        t.of(Counted::NotSoJudged),
+        t.of(Counted::Records),
+        t.of(Counted::Short),
+        t.of(Counted::Full)
+    )?;
+    println!(rt;
+        "pairs of one visible part {}, as the judge {}, edges {}",
+        t.of(Counted::Secrets),
+        t.of(Counted::Judges),
+        t.of(Counted::Edges)
+    )?;
+    println!(rt;
+        "wrong: answer {}, table {}, refusal {}, secret {}, judge {}, edge {}",
+        t.of(Counted::Answer),
+        t.of(Counted::Table),
+        t.of(Counted::Refusal),
+        t.of(Counted::Secret),
+        t.of(Counted::Judge),
+        t.of(Counted::Edge)
     )
 }

@@ -15,7 +15,7 @@ use trial_term_refusals::lists::all_lists;
 use trial_term_refusals::numbers::all_numbers;
 use trial_terms::dated::{put_days, put_halves, put_terms};
 use trial_terms::judging::{compare_dated, compare_one_term};
-use trial_terms::met::{BY_DAMAGE, LOGS};
+use trial_terms::met::{ByDamage, Met};
 
 // One to three letters, or four to sixteen in one of four logs.
 fn letters_of(seed: usize) -> usize {
@@ -139,20 +139,62 @@ fn all_halves(t: Tally) -> Tally {
 }
 
 fn print(rt: &impl Print, t: Tally) -> io::Result<()> {
-    tally::say(
-        rt,
-        t,
-        b"logs #: verdict 1 #, reachable logs #, records #\nwith one-way masks #, neighbours in two terms #, days that fall #, fewer prefixes than without terms #, another verdict #, twelve terms #\none term that has every day #; order buffers too short #, tables too short #\nnumbers as a day and as a term #: dates #\nlists of terms #: right #\nlengths of days #, days in no term #\nrefusals combined #\nwrong: judge #, one term #, short buffer #, number #, list #, length or day in no term #, combined #\n",
-        LOGS,
-        1,
+    println!(rt;
+        "logs {}: verdict 1 {}, reachable logs {}, records {}",
+        t.of(Met::Logs),
+        t.of(Met::Accepted),
+        t.of(Met::Reachable),
+        t.of(Met::Records)
     )?;
-    tally::say(
-        rt,
-        t,
-        b"combined: refused by 2 #, 4 #, 6 #, 7 #, 8 #, 14 #, 15 #, 16 #, 9 #, 10 #, not refused #\n",
-        BY_DAMAGE,
-        1,
-    )
+    println!(rt;
+        "with one-way masks {}, neighbours in two terms {}, days that fall {}, fewer prefixes than without terms {}, another verdict {}, twelve terms {}",
+        t.of(Met::OneWay),
+        t.of(Met::Turns),
+        t.of(Met::Falls),
+        t.of(Met::Fewer),
+        t.of(Met::OtherVerdict),
+        t.of(Met::Twelve)
+    )?;
+    println!(rt;
+        "one term that has every day {}; order buffers too short {}, tables too short {}",
+        t.of(Met::OneTerm),
+        t.of(Met::ShortOrders),
+        t.of(Met::ShortTables)
+    )?;
+    println!(rt;
+        "numbers as a day and as a term {}: dates {}",
+        t.of(Met::Days),
+        t.of(Met::Dates)
+    )?;
+    println!(rt;
+        "lists of terms {}: right {}",
+        t.of(Met::Lists),
+        t.of(Met::RightLists)
+    )?;
+    println!(rt;
+        "lengths of days {}, days in no term {}",
+        t.of(Met::NotAsMany),
+        t.of(Met::Outside)
+    )?;
+    println!(rt;
+        "refusals combined {}",
+        t.of(Met::Combined)
+    )?;
+    println!(rt;
+        "wrong: judge {}, one term {}, short buffer {}, number {}, list {}, length or day in no term {}, combined {}",
+        t.of(Met::Judge),
+        t.of(Met::SameAsJudge),
+        t.of(Met::Buffer),
+        t.of(Met::Day),
+        t.of(Met::List),
+        t.of(Met::OutsideWrong),
+        t.of(Met::Refusal)
+    )?;
+    print!(rt; "combined: refused by ")?;
+    for (i, number) in [2, 4, 6, 7, 8, 14, 15, 16, 9, 10].iter().enumerate() {
+        print!(rt; "{number} {}, ", t.of(ByDamage(i)))?;
+    }
+    println!(rt; "not refused {}", t.of(ByDamage(10)))
 }
 
 fn main(rt: HostRuntime) -> io::Result<()> {

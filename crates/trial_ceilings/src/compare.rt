@@ -1,29 +1,29 @@
 // One call for a ceiling, and P beside it.
 use crate::rules::{product_of, wrong_groups};
 use trial::tally;
-use trial::tally::Tally;
+use trial::tally::{Counter, Tally};
 
 // Counters, in the order in which they are printed.
-pub const CALLS: usize = 0;
+#[derive(Clone, Copy)]
+pub enum Counted {
+    Calls,
+    Told,
+    Met,
+    BadGroups,
+    Edges,
+    Combined,
+    // Wrong comparisons.
+    Answer,
+    Exceeded,
+    Edge,
+    Combination,
+}
 
-pub const TOLD: usize = 1;
-
-pub const MET: usize = 2;
-
-pub const BAD_GROUPS: usize = 3;
-
-pub const EDGES: usize = 4;
-
-pub const COMBINED: usize = 5;
-
-// Wrong comparisons.
-pub const ANSWER: usize = 6;
-
-pub const EXCEEDED: usize = 7;
-
-pub const EDGE: usize = 8;
-
-pub const COMBINATION: usize = 9;
+impl Counter for Counted {
+    fn place(self) -> usize {
+        self as usize
+    }
+}
 
 // The call tells this number, place and ceiling.
 pub fn tells(
@@ -49,17 +49,17 @@ pub fn compare_groups(
     prefixes: usize,
     t: Tally,
 ) -> Tally {
-    let counted = tally::count(t, CALLS);
+    let counted = tally::count(t, Counted::Calls);
     if wrong_groups(k, masks, groups) {
         let right = tells(k, masks, log, groups, 18, 0, 0);
-        return tally::count(tally::expect(counted, ANSWER, right), BAD_GROUPS);
+        return tally::count(tally::expect(counted, Counted::Answer, right), Counted::BadGroups);
     }
     let ceiling = product_of(log, groups);
     let right = tells(k, masks, log, groups, 0, 0, ceiling as u64);
-    let told = tally::count(tally::expect(counted, ANSWER, right), TOLD);
-    let within = tally::expect(told, EXCEEDED, prefixes <= ceiling);
+    let told = tally::count(tally::expect(counted, Counted::Answer, right), Counted::Told);
+    let within = tally::expect(told, Counted::Exceeded, prefixes <= ceiling);
     if prefixes == ceiling {
-        tally::count(within, MET)
+        tally::count(within, Counted::Met)
     } else {
         within
     }

@@ -1,5 +1,5 @@
 // The edges of the ceiling and its refusals, and every combination of conditions.
-use crate::compare::{COMBINATION, COMBINED, EDGE, EDGES, tells};
+use crate::compare::{Counted, tells};
 use trial::cells::{bit, byte, one16, part_of, plus, put, put_run};
 use trial::tally;
 use trial::tally::Tally;
@@ -17,7 +17,7 @@ fn put_threes(log: &mut [u8]) {
 }
 
 fn edge(t: Tally, right: bool) -> Tally {
-    tally::count(tally::expect(t, EDGE, right), EDGES)
+    tally::count(tally::expect(t, Counted::Edge, right), Counted::Edges)
 }
 
 // Sixteen letters, none exchanged: no group, one, two, sixteen and seventeen; a letter for a group, and one of them missing.
@@ -148,7 +148,7 @@ fn compare_combination(which: usize, t: Tally) -> Tally {
         place as u64,
         ceiling as u64,
     );
-    tally::count(tally::expect(t, COMBINATION, right), COMBINED)
+    tally::count(tally::expect(t, Counted::Combination, right), Counted::Combined)
 }
 
 pub fn compare_combinations(t: Tally) -> Tally {

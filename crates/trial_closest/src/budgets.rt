@@ -2,18 +2,14 @@
 // the table, and what stays; and with buffers that are too short.
 use crate::expected::{Expected, covers, expect, floor_of, order_for, orders_differ, swaps_for};
 use crate::lent::{Call, Dated, Lent, Told, ask, is_answer, is_refused};
-use crate::met::{
-    ACCEPTED, BUDGET, BUDGETS, BUFFER, COVERING, FALLS, FEWER, FLOORS, JUDGE, LISTING, LOGS,
-    LOW_FLOORS, ONE_WAY, OTHER_ORDER, PAIRS, SHORT_COSTS, SHORT_ORDERS, SHORT_TABLES, SWAPPED,
-    TURNS,
-};
+use crate::met::Met;
 use profile::Shape;
 use trial::answers::{Answer, is_verdict};
 use trial::calls::{BYTES, NUMBERS, judge_in};
 use trial::cells::{Cell, holds, minus, part_of, plus, times, untouched};
 use trial::record_numbers::record_at;
 use trial::tally;
-use trial::tally::Tally;
+use trial::tally::{Counter, Tally};
 use trial_logs::listing::one_way;
 use trial_logs::prefixes::prefix_count;
 use trial_terms::exchanges::{put_event_masks, some_fall, some_turn};
@@ -48,18 +44,18 @@ fn order_right(buffer: &[u8], expected: Expected, budget: u64, n: usize) -> bool
 
 // Counts a budget by its floor.
 fn count_floor(expected: Expected, budget: u64, t: Tally) -> Tally {
-    let u = tally::count(t, BUDGETS);
+    let u = tally::count(t, Met::Budgets);
     if !expected.verdict {
         return u;
     }
     if covers(expected, budget) {
-        return tally::count(u, COVERING);
+        return tally::count(u, Met::Covering);
     }
     let floor = floor_of(expected, budget);
-    let above = tally::count_if(u, FLOORS, 0 < floor);
+    let above = tally::count_if(u, Met::Floors, 0 < floor);
     tally::count_if(
         above,
-        LOW_FLOORS,
+        Met::LowFloors,
         (0 < floor) & (floor < expected.fewest),
     )
 }
@@ -92,7 +88,7 @@ fn compare_budget(
         & order_right(&buffer, expected, call.lent.budget, log.len())
         & (numbers == judged)
         & untouched(&costs, NUMBERS, call.lent.costs);
-    count_floor(expected, call.lent.budget, tally::expect(t, BUDGET, right))
+    count_floor(expected, call.lent.budget, tally::expect(t, Met::Budget, right))
 }
 
 fn with_budget(call: Call, budget: u64) -> Call {
@@ -157,21 +153,21 @@ fn count_dated(masks: &[u16], log: &[u8], dated: Dated, prefixes: usize, t: Tall
     let spans = dated.terms;
     let days = part_of(&dates, 0, log.len());
     let terms = part_of(&spans, 0, dated.numbers);
-    let turns = tally::count_if(t, TURNS, some_turn(days, terms));
-    let falls = tally::count_if(turns, FALLS, some_fall(days));
-    tally::count_if(falls, FEWER, prefixes < prefix_count(masks, log))
+    let turns = tally::count_if(t, Met::Turns, some_turn(days, terms));
+    let falls = tally::count_if(turns, Met::Falls, some_fall(days));
+    tally::count_if(falls, Met::Fewer, prefixes < prefix_count(masks, log))
 }
 
 // Counts what the log is; a listing that did not fit has no rows and is wrong.
 fn count_log(masks: &[u16], log: &[u8], expected: Expected, t: Tally) -> Tally {
     let found = expected.verdict;
     let other = found & orders_differ(expected, log.len());
-    let listed = tally::expect(tally::count(t, LOGS), LISTING, 0 < expected.count);
-    let accepted = tally::count_if(listed, ACCEPTED, found);
-    let way = tally::count_if(accepted, ONE_WAY, one_way(masks));
-    let moved = tally::count_if(way, OTHER_ORDER, other);
-    let swapped = tally::count_if(moved, SWAPPED, found & (0 < expected.fewest));
-    tally::count_many(swapped, PAIRS, expected.ranks.pairs)
+    let listed = tally::expect(tally::count(t, Met::Logs), Met::Listing, 0 < expected.count);
+    let accepted = tally::count_if(listed, Met::Accepted, found);
+    let way = tally::count_if(accepted, Met::OneWay, one_way(masks));
+    let moved = tally::count_if(way, Met::OtherOrder, other);
+    let swapped = tally::count_if(moved, Met::Swapped, found & (0 < expected.fewest));
+    tally::count_many(swapped, Met::Pairs, expected.ranks.pairs)
 }
 
 // The judge with the same terms.
@@ -234,7 +230,7 @@ fn compare_answers(
     let answer = judge_too(shape, masks, moves, log, call, &mut buffer, &mut judged);
     let right = is_verdict(answer, expected.verdict, expected.prefixes, expected.looks);
     let counted = count_dated(masks, log, call.dated, expected.prefixes, t);
-    let u = tally::expect(count_log(masks, log, expected, counted), JUDGE, right);
+    let u = tally::expect(count_log(masks, log, expected, counted), Met::Judge, right);
     let v = compare_budgets(shape, masks, moves, log, call, expected, &judged, u);
     compare_large(shape, masks, moves, log, call, expected, &judged, v)
 }
@@ -262,7 +258,7 @@ fn refuse(
     log: &[u8],
     call: Call,
     number: u32,
-    which: usize,
+    which: impl Counter,
     t: Tally,
 ) -> Tally {
     let mut buffer = [u8::GUARD; 32];
@@ -283,7 +279,7 @@ fn refuse(
         & untouched(&buffer, 0, 0)
         & untouched(&numbers, NUMBERS, free)
         & untouched(&costs, 0, 0);
-    tally::count(tally::expect(t, BUFFER, right), which)
+    tally::count(tally::expect(t, Met::Buffer, right), which)
 }
 
 // A cost table that is short by one number or more, a work table that is, also with short costs, and an order buffer that is, also with short tables.
@@ -301,10 +297,10 @@ fn compare_short(
     let few_costs = minus(needed, plus(extra % 3, 1));
     let few_numbers = minus(record_at(expected.prefixes), plus(extra % 11, 1));
     let no_costs = lending(call, call.lent.room, call.lent.size, few_costs);
-    let u = refuse(shape, masks, moves, log, no_costs, 17, SHORT_COSTS, t);
+    let u = refuse(shape, masks, moves, log, no_costs, 17, Met::ShortCosts, t);
     let costs = if extra % 2 == 0 { needed } else { few_costs };
     let no_table = lending(call, call.lent.room, few_numbers, costs);
-    let v = refuse(shape, masks, moves, log, no_table, 10, SHORT_TABLES, u);
+    let v = refuse(shape, masks, moves, log, no_table, 10, Met::ShortTables, u);
     if log.len() == 0 {
         return v;
     }
@@ -314,7 +310,7 @@ fn compare_short(
         few_numbers
     };
     let no_order = lending(call, minus(log.len(), 1), size, costs);
-    refuse(shape, masks, moves, log, no_order, 9, SHORT_ORDERS, v)
+    refuse(shape, masks, moves, log, no_order, 9, Met::ShortOrders, v)
 }
 
 // The masks of all events. Without terms no day is in one, so that no two events are in different ones.

@@ -1,6 +1,6 @@
 // Orders, swaps and floors found by hand.
 use crate::lent::{Call, Dated, Lent, Told, ask, is_answer, no_terms};
-use crate::met::{EDGE, EDGES};
+use crate::met::Met;
 use profile::Shape;
 use trial::calls::BYTES;
 use trial::cells::{Cell, holds, part_of, untouched};
@@ -87,7 +87,7 @@ fn compare_dated(
     } else {
         untouched(&buffer, 0, 0)
     };
-    tally::count(tally::expect(t, EDGE, told & left), EDGES)
+    tally::count(tally::expect(t, Met::Edge, told & left), Met::Edges)
 }
 
 // Without terms.

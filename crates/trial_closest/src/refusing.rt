@@ -2,7 +2,7 @@
 // buffer and the cost table stay, and the work table too but for 10 and 17. The damages are those of the judge with terms, and the eleventh is a cost table that
 // is too short; the call without terms can have no damage by 14, 15 and 16.
 use crate::lent::{Lent, Told, closest_in, closest_terms_in, is_refused};
-use crate::met::{BY_DAMAGE, COMBINED, REFUSAL};
+use crate::met::{ByDamage, Met};
 use trial::calls::NUMBERS;
 use trial::cells::{Cell, bit, part_of, plus, untouched};
 use trial::tally;
@@ -132,8 +132,8 @@ fn compare(damages: usize, variant: usize, with_terms: bool, log: &[u8], t: Tall
     );
     let right = told_right(answer, damage, variant)
         & left_right(damage, lent.size, &buffer, &numbers, &costs);
-    let counted = tally::count(tally::expect(t, REFUSAL, right), COMBINED);
-    tally::count(counted, plus(BY_DAMAGE, damage))
+    let counted = tally::count(tally::expect(t, Met::Refusal, right), Met::Combined);
+    tally::count(counted, ByDamage(damage))
 }
 
 fn combine(damages: usize, variant: usize, with_terms: bool, t: Tally) -> Tally {

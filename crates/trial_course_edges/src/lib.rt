@@ -12,6 +12,7 @@ use trial::tally::Tally;
 use trial_courses::answers::{is_refused, make_in, profile_in};
 use trial_courses::compare::verdict_of;
 use trial_courses::counters;
+use trial_courses::counters::Counted;
 use trial_courses::moves::compare_moves;
 use trial_grammar::parts::CELLS;
 
@@ -69,8 +70,8 @@ fn edge(row: &[u8], t: Tally) -> Tally {
         is_refused(made, number, place, &numbers)
     };
     counters::refused(
-        tally::count(t, counters::EDGES),
-        counters::EDGE,
+        tally::count(t, Counted::Edges),
+        Counted::Edge,
         right,
         number,
     )
@@ -240,7 +241,7 @@ fn many_stars(t: Tally) -> Tally {
         }
         None => false,
     };
-    tally::expect(tally::count(t, counters::EDGES), counters::EDGE, right)
+    tally::expect(tally::count(t, Counted::Edges), Counted::Edge, right)
 }
 
 // The moves of a right row too, bit by bit.
@@ -255,7 +256,7 @@ fn edge_moves(row: &[u8], table: &mut [usize], t: Tally) -> Tally {
     let compared = edge(row, t);
     match made {
         Some(Ok(shape)) => compare_moves(k, part_of(&text, 0, n), shape, moves, table, compared),
-        _ => tally::count(compared, counters::MOVES),
+        _ => tally::count(compared, Counted::Moves),
     }
 }
 

@@ -1,6 +1,7 @@
 // One text: refused as it should be, or the profile, its moves, and the judge's verdicts on logs.
 use crate::answers::{is_refused, make_in, profile_in};
 use crate::counters;
+use crate::counters::Counted;
 use crate::moves::compare_moves;
 use profile::Shape;
 use trial::answers;
@@ -8,7 +9,7 @@ use trial::calls::{judge_in, table_part};
 use trial::cells::{Cell, bit, minus, part_of, plus, times};
 use trial::logs::put_log_number;
 use trial::tally;
-use trial::tally::Tally;
+use trial::tally::{Counter, Tally};
 use trial_grammar::grammar::{is_right, place_of};
 use trial_grammar::meanings::described_logs;
 use trial_grammar::parts::is_part;
@@ -50,7 +51,7 @@ fn only_a(v: usize) -> bool {
 fn compare_alone(shape: Shape, moves: &[u32], log: &[u8], described: bool, t: Tally) -> Tally {
     let masks = [0u16; 3];
     let verdict = verdict_of(shape, part_of(&masks, 0, shape.k), moves, log);
-    counters::judged(t, counters::LOGS, described, verdict)
+    counters::judged(t, Counted::Logs, Counted::DescribedLogs, described, verdict)
 }
 
 // It is 1 with a and b independent exactly when an arrangement of the log is described.
@@ -59,7 +60,7 @@ fn compare_pair(shape: Shape, moves: &[u32], log: &[u8], described: bool, t: Tal
     masks[0] = 2;
     masks[1] = 1;
     let verdict = verdict_of(shape, part_of(&masks, 0, shape.k), moves, log);
-    counters::judged(t, counters::PAIR_LOGS, described, verdict)
+    counters::judged(t, Counted::PairLogs, Counted::DescribedPairLogs, described, verdict)
 }
 
 // Log number v, where its letters are below k; `set` has the described logs.
@@ -93,7 +94,7 @@ pub fn refuse(
     size: usize,
     number: usize,
     place: usize,
-    group: usize,
+    group: impl Counter,
     t: Tally,
 ) -> Tally {
     let mut numbers = [u32::GUARD; 64];
@@ -103,7 +104,7 @@ pub fn refuse(
 
 // A right text with the letters of a profile of s states, and one number too few.
 fn refuse_short(k: usize, text: &[u8], s: usize, t: Tally) -> Tally {
-    refuse(k, text, minus(times(k, s), 1), 9, 0, counters::REFUSAL, t)
+    refuse(k, text, minus(times(k, s), 1), 9, 0, Counted::Refusal, t)
 }
 
 // The profile made with `size` numbers lent, its moves, and every log of up to four letters.
@@ -119,10 +120,10 @@ fn compare_made(
     let mut numbers = [u32::GUARD; 64];
     let made = make_in(k, text, size, &mut numbers);
     let Some(shape) = profile_in(made, k, s, &numbers) else {
-        return tally::count(t, counters::PROFILE);
+        return tally::count(t, Counted::Profile);
     };
     if !is_part(set) {
-        return tally::count(t, counters::PROFILE);
+        return tally::count(t, Counted::Profile);
     }
     let moves = part_of(table_part(&numbers), 0, times(k, s));
     let judged = compare_logs(shape, moves, set, t);
@@ -133,13 +134,13 @@ fn compare_made(
 fn compare_right(k: usize, text: &[u8], extra: usize, table: &mut [usize], t: Tally) -> Tally {
     let s = plus(letter_count(k, text), 1);
     let set = described_logs(k, text, table);
-    let counted = refuse_short(k, text, s, tally::count(t, counters::RIGHT));
+    let counted = refuse_short(k, text, s, tally::count(t, Counted::Right));
     compare_made(k, text, s, plus(times(k, s), extra), set, table, counted)
 }
 
 // A text of up to seven bytes; `extra` varies how many numbers too many are lent.
 pub fn compare_text(k: usize, text: &[u8], extra: usize, table: &mut [usize], t: Tally) -> Tally {
-    let counted = tally::count(t, counters::TEXTS);
+    let counted = tally::count(t, Counted::Texts);
     if is_right(k, text) {
         return compare_right(k, text, extra % 4, table, counted);
     }
@@ -149,7 +150,7 @@ pub fn compare_text(k: usize, text: &[u8], extra: usize, table: &mut [usize], t:
         extra % 24,
         11,
         place_of(k, text),
-        counters::REFUSAL,
+        Counted::Refusal,
         counted,
     )
 }

@@ -1,5 +1,5 @@
 // The moves and final states bit by bit, from lists of the numbers of the letters typed.
-use crate::counters;
+use crate::counters::Counted;
 use profile::Shape;
 use trial::cells::{byte, one32, part_of, plus, times, value_at, wide};
 use trial::tally;
@@ -102,7 +102,7 @@ pub fn compare_moves(
     let finals = final_states(k, text, s, table);
     let right = rows_right(k, text, s, moves, table) & (finals == shape.finals);
     let set = plus(bits_set(moves), wide(u32::count_ones(finals)));
-    let compared = tally::count_many(t, counters::BITS, times(32, plus(moves.len(), 1)));
-    let counted = tally::count_many(compared, counters::SET, set);
-    tally::expect(counted, counters::MOVES, right)
+    let compared = tally::count_many(t, Counted::Bits, times(32, plus(moves.len(), 1)));
+    let counted = tally::count_many(compared, Counted::Set, set);
+    tally::expect(counted, Counted::Moves, right)
 }

@@ -6,39 +6,35 @@ use trial::calls::{BYTES, NUMBERS, table_part};
 use trial::cells::{Cell, part_of, plus, times, untouched, wide};
 use trial::record_numbers::{BACKWARD, FORWARD, record_at, set_of, total_of};
 use trial::tally;
-use trial::tally::Tally;
+use trial::tally::{Counter, Tally};
 use trial_logs::listing::{list, listed, one_way};
 use trial_logs::place_keys::{key_of, place_of, put_keys};
 use trial_logs::prefixes::{closed, look_count, marks_of, prefix_count};
 
 // Counters, in the order in which they are printed.
-pub const CASES: usize = 0;
+#[derive(Clone, Copy)]
+pub enum Counted {
+    Cases,
+    OneWay,
+    Accepted,
+    Reachable,
+    Derivable,
+    Records,
+    // Six counters in front of this, and the eight defects.
+    Edges = 14,
+    // Wrong comparisons.
+    Verdict,
+    Order,
+    Table,
+    Refusal,
+    Edge,
+}
 
-pub const ONE_WAY: usize = 1;
-
-pub const ACCEPTED: usize = 2;
-
-pub const REACHABLE: usize = 3;
-
-pub const DERIVABLE: usize = 4;
-
-pub const RECORDS: usize = 5;
-
-// Refusals that came as expected: eight counters, in the order in which they are looked for.
-pub const REFUSED: usize = 6;
-
-pub const EDGES: usize = 14;
-
-// Wrong comparisons.
-pub const VERDICT: usize = 15;
-
-pub const ORDER: usize = 16;
-
-pub const TABLE: usize = 17;
-
-pub const REFUSAL: usize = 18;
-
-pub const EDGE: usize = 19;
+impl Counter for Counted {
+    fn place(self) -> usize {
+        self as usize
+    }
+}
 
 // Record r has the counts of its place among all prefixes, and no states.
 fn record_right(
@@ -97,12 +93,12 @@ fn verdict_of(derivable: usize) -> usize {
 }
 
 fn count_case(masks: &[u16], count: usize, derivable: usize, prefixes: usize, t: Tally) -> Tally {
-    let a = tally::count_many(tally::count(t, CASES), REACHABLE, count);
-    let b = tally::count_many(a, DERIVABLE, derivable);
-    let c = tally::count_many(b, RECORDS, prefixes);
-    let d = tally::count_many(c, ACCEPTED, verdict_of(derivable));
+    let a = tally::count_many(tally::count(t, Counted::Cases), Counted::Reachable, count);
+    let b = tally::count_many(a, Counted::Derivable, derivable);
+    let c = tally::count_many(b, Counted::Records, prefixes);
+    let d = tally::count_many(c, Counted::Accepted, verdict_of(derivable));
     if one_way(masks) {
-        tally::count(d, ONE_WAY)
+        tally::count(d, Counted::OneWay)
     } else {
         d
     }
@@ -124,7 +120,7 @@ pub fn with_room(case: Case, extra: usize) -> Case {
 fn compare_table(masks: &[u16], log: &[u8], numbers: &[u32], prefixes: usize, t: Tally) -> Tally {
     let right = records_right(masks, log, table_part(numbers), prefixes)
         & untouched(numbers, NUMBERS, record_at(prefixes));
-    tally::expect(t, TABLE, right)
+    tally::expect(t, Counted::Table, right)
 }
 
 // The answer and the order of a call that is not refused; a listing that did not fit has no rows and is wrong.
@@ -147,7 +143,7 @@ fn compare_answer(
         & (0 < count)
         & told_right(told, verdict, prefixes, look_count(masks, log));
     let ordered = order_right(rules, &rows, count, n, verdict, buffer);
-    let u = tally::expect(tally::expect(t, VERDICT, answered), ORDER, ordered);
+    let u = tally::expect(tally::expect(t, Counted::Verdict, answered), Counted::Order, ordered);
     count_case(masks, count, derivable, prefixes, u)
 }
 
@@ -168,7 +164,7 @@ fn compare_call(case: Case, masks: &[u16], rules: &[u16], log: &[u8], t: Tally) 
         &mut told,
     );
     let prefixes = prefix_count(masks, log);
-    let a = tally::expect(t, TABLE, untouched(&sets, NUMBERS, case.sets));
+    let a = tally::expect(t, Counted::Table, untouched(&sets, NUMBERS, case.sets));
     let b = compare_table(masks, log, &numbers, prefixes, a);
     compare_answer(masks, rules, log, number, &told, &buffer, prefixes, b)
 }

@@ -1,8 +1,8 @@
 // What no random case has: every set of defects of one case, logs of 4,000 and 4,001 letters, and the limits of names and rules.
 use crate::cases::{Case, no_case};
-use crate::compare::{EDGE, EDGES, with_room};
+use crate::compare::{Counted, with_room};
 use crate::lent::grammar_in;
-use crate::refusing::{BY_7, compare_defects, compare_refusal};
+use crate::refusing::{Defect, compare_defects, compare_refusal};
 use trial::cells::{Cell, part_of};
 use trial::tally;
 use trial::tally::Tally;
@@ -43,11 +43,11 @@ pub fn compare_long(t: Tally) -> Tally {
     c.room = 0;
     c.size = 0;
     c.sets = 0;
-    compare_refusal(c, &log, BY_7, 0, t)
+    compare_refusal(c, &log, Defect::By7, 0, t)
 }
 
 fn edge(t: Tally, right: bool) -> Tally {
-    tally::count(tally::expect(t, EDGE, right), EDGES)
+    tally::count(tally::expect(t, Counted::Edge, right), Counted::Edges)
 }
 
 // The number that a case is refused by, with a log of its own.

@@ -1,43 +1,64 @@
 // Cases with defects: the first that applies is given, and the buffers stay, save the work table at 10 and 22. A set of defects has a bit for each, in the
 // order in which they are looked for: 2, 4, 21, 7, 8, 9, 10, 22.
 use crate::cases::Case;
-use crate::compare::{REFUSAL, REFUSED};
+use crate::compare::Counted;
 use crate::lent::grammar_in;
 use trial::calls::NUMBERS;
 use trial::cells::{Cell, bit, byte, minus, part_of, plus, untouched};
 use trial::tally;
-use trial::tally::Tally;
+use trial::tally::{Counter, Tally};
 
-pub const BY_2: usize = 0;
-
-pub const BY_4: usize = 1;
-
-pub const BY_21: usize = 2;
-
-pub const BY_7: usize = 3;
-
-pub const BY_8: usize = 4;
-
-pub const BY_9: usize = 5;
-
-pub const BY_10: usize = 6;
-
-pub const BY_22: usize = 7;
-
-// The number of a defect; 0 is none.
-fn number_of(defect: usize) -> u32 {
-    let numbers = [2u32, 4, 21, 7, 8, 9, 10, 22];
-    if defect < 8 { numbers[defect] } else { 0 }
+// What a call is refused by, in the order in which it is looked for.
+#[derive(Clone, Copy, PartialEq, Eq)]
+pub enum Defect {
+    By2,
+    By4,
+    By21,
+    By7,
+    By8,
+    By9,
+    By10,
+    By22,
 }
 
-// The first defect of a set; 8 where there is none.
-fn first_of(defects: usize) -> usize {
-    for i in 0..8 {
-        if bit(defects, i) {
-            return i;
-        }
+const DEFECTS: [Defect; 8] = [
+    Defect::By2,
+    Defect::By4,
+    Defect::By21,
+    Defect::By7,
+    Defect::By8,
+    Defect::By9,
+    Defect::By10,
+    Defect::By22,
+];
+
+// Refusals that came as expected.
+impl Counter for Defect {
+    fn place(self) -> usize {
+        6 + self as usize
     }
-    8
+}
+
+fn number_of(defect: Defect) -> u32 {
+    match defect {
+        Defect::By2 => 2,
+        Defect::By4 => 4,
+        Defect::By21 => 21,
+        Defect::By7 => 7,
+        Defect::By8 => 8,
+        Defect::By9 => 9,
+        Defect::By10 => 10,
+        Defect::By22 => 22,
+    }
+}
+
+fn has(defects: usize, defect: Defect) -> bool {
+    bit(defects, defect as usize)
+}
+
+// The first defect of a set.
+fn first_of(defects: usize) -> Option<Defect> {
+    DEFECTS.iter().copied().find(|defect| has(defects, *defect))
 }
 
 // A rule that 21 refuses, or a number of names, or of rules.
@@ -100,16 +121,16 @@ fn with_bad_letter(case: Case) -> Case {
 
 fn with_input_defects(case: Case, defects: usize, kind: usize) -> Case {
     let mut c = case;
-    if bit(defects, BY_8) {
+    if has(defects, Defect::By8) {
         c = with_bad_letter(c);
     }
-    if bit(defects, BY_21) {
+    if has(defects, Defect::By21) {
         c = with_bad_rule(c, kind % 8);
     }
-    if bit(defects, BY_4) {
+    if has(defects, Defect::By4) {
         c = with_own_bit(c);
     }
-    if bit(defects, BY_2) {
+    if has(defects, Defect::By2) {
         c = with_bad_masks(c, kind);
     }
     c
@@ -118,13 +139,13 @@ fn with_input_defects(case: Case, defects: usize, kind: usize) -> Case {
 // One byte, one number or one set too few; the case has what it needs and no more.
 fn with_short_buffers(case: Case, defects: usize) -> Case {
     let mut c = case;
-    if bit(defects, BY_9) {
+    if has(defects, Defect::By9) {
         c.room = minus(case.room, 1);
     }
-    if bit(defects, BY_10) {
+    if has(defects, Defect::By10) {
         c.size = minus(case.size, 1);
     }
-    if bit(defects, BY_22) {
+    if has(defects, Defect::By22) {
         c.sets = minus(case.sets, 1);
     }
     c
@@ -140,13 +161,13 @@ fn possible(case: Case, defects: usize) -> usize {
 }
 
 // The place of the refusal: that of the letter at 8.
-fn place_right(told: &[u64; 4], defect: usize, place: usize) -> bool {
-    let expected = if defect == BY_8 { place } else { 0 };
+fn place_right(told: &[u64; 4], defect: Defect, place: usize) -> bool {
+    let expected = if defect == Defect::By8 { place } else { 0 };
     (told[0] == (expected as u64)) & (told[1] == 0) & (told[2] == 0) & (told[3] == 0)
 }
 
-fn free_of(case: Case, defect: usize) -> usize {
-    if (defect == BY_10) | (defect == BY_22) {
+fn free_of(case: Case, defect: Defect) -> usize {
+    if (defect == Defect::By10) | (defect == Defect::By22) {
         case.size
     } else {
         0
@@ -159,7 +180,7 @@ fn compare_call(
     masks: &[u16],
     rules: &[u16],
     log: &[u8],
-    defect: usize,
+    defect: Defect,
     place: usize,
     t: Tally,
 ) -> Tally {
@@ -183,13 +204,13 @@ fn compare_call(
         & untouched(&sets, 0, 0)
         & untouched(&numbers, NUMBERS, free_of(case, defect));
     if right {
-        tally::count(t, plus(REFUSED, defect))
+        tally::count(t, defect)
     } else {
-        tally::count(t, REFUSAL)
+        tally::count(t, Counted::Refusal)
     }
 }
 
-pub fn compare_refusal(case: Case, log: &[u8], defect: usize, place: usize, t: Tally) -> Tally {
+pub fn compare_refusal(case: Case, log: &[u8], defect: Defect, place: usize, t: Tally) -> Tally {
     let masks = case.masks;
     let rules = case.rules;
     compare_call(
@@ -206,15 +227,15 @@ pub fn compare_refusal(case: Case, log: &[u8], defect: usize, place: usize, t: T
 // A case with some of the defects; it has what it needs and no more.
 pub fn compare_defects(case: Case, defects: usize, kind: usize, t: Tally) -> Tally {
     let some = possible(case, defects);
-    if some == 0 {
+    let Some(first) = first_of(some) else {
         return t;
-    }
+    };
     let c = with_short_buffers(with_input_defects(case, some, kind), some);
     let log = c.log;
     compare_refusal(
         c,
         part_of(&log, 0, c.events),
-        first_of(some),
+        first,
         minus(case.events, 1),
         t,
     )

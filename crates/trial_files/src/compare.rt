@@ -7,7 +7,7 @@ use trial::answers::{Answer, is_refusal, is_told};
 use trial::calls::{BYTES, write_in};
 use trial::cells::{Cell, minus, part_of, plus, times, untouched};
 use trial::tally;
-use trial::tally::Tally;
+use trial::tally::{Call, Counted, Tally};
 
 // The writer tells the file's length, and the guards around the file stand.
 fn answer_right(answer: Answer, size: usize, out: &[u8]) -> bool {
@@ -43,7 +43,7 @@ fn refuse_short(shape: Shape, masks: &[u16], moves: &[u32], log: &[u8], t: Tally
     let room = minus(file_size(shape, log.len()), 1);
     let answer = write_in(shape, masks, moves, log, room, &mut out);
     let right = is_refusal(answer, 9, 0, 0) & untouched(&out, 0, 0);
-    tally::refused(t, tally::FILE, right, tally::BY_WRITE, 9)
+    tally::refused(t, Counted::File, right, Call::Write, 9)
 }
 
 // Reads a written file into exact and longer buffers, and into ones that are too short.
@@ -72,7 +72,7 @@ fn compare_written(
     let right = answer_right(answer, size, &out)
         & bytes_right(shape, masks, moves, log, file)
         & written_again(file);
-    let written = tally::count(tally::expect(t, tally::FILE, right), tally::WRITTEN);
+    let written = tally::count(tally::expect(t, Counted::File, right), Counted::Written);
     compare_rooms(shape, file, extra, written)
 }
 

@@ -5,7 +5,7 @@ use trial::cells::{byte, byte_at, copy, minus, part_of, plus, put, times};
 use trial::random::{below, put_log, put_masks, put_moves, seed_of};
 use trial::shapes::{alt, shape_of};
 use trial::tally;
-use trial::tally::Tally;
+use trial::tally::{Counted, Tally};
 
 // Compares the file with byte i changed to v.
 fn compare_changed(file: &[u8], i: usize, v: usize, t: Tally) -> Tally {
@@ -62,7 +62,7 @@ fn damage(shape: Shape, masks: &[u16], moves: &[u32], log: &[u8], all: bool, t: 
     let size = crate::written::file_size(shape, log.len());
     let written = filewriter::write_file(shape, masks, moves, log, &mut out).ok();
     let file = part_of(&out, 0, size);
-    let cut = every_cut(file, tally::expect(t, tally::FILE, written == Some(size)));
+    let cut = every_cut(file, tally::expect(t, Counted::File, written == Some(size)));
     if all {
         every_change(file, cut)
     } else {

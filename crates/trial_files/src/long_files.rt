@@ -9,7 +9,7 @@ use trial::calls::write_in;
 use trial::cells::{Cell, byte, minus, part_of, plus, put, put_run, untouched};
 use trial::shapes::shape_of;
 use trial::tally;
-use trial::tally::Tally;
+use trial::tally::{Call, Counted, Tally};
 
 // The file of n letters of sixteen, with 32 states; with 4,000 it is the longest that is written, 6,096 bytes.
 fn long_file(n: usize, t: Tally) -> Tally {
@@ -25,7 +25,7 @@ fn long_file(n: usize, t: Tally) -> Tally {
         1,
         t,
     );
-    tally::count(compared, tally::EDGES)
+    tally::count(compared, Counted::Edges)
 }
 
 // The writer refuses 4,001 letters.
@@ -43,7 +43,7 @@ fn too_long_file(t: Tally) -> Tally {
         &mut out,
     );
     let right = is_refusal(answer, 7, 0, 0) & untouched(&out, 0, 0);
-    tally::refused_edge(t, right, tally::BY_WRITE, 7)
+    tally::refused_edge(t, right, Call::Write, 7)
 }
 
 // The bytes of a file that the writer may refuse.

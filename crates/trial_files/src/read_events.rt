@@ -1,7 +1,7 @@
 // The log reader, by its functions on a log and a place: each event in turn, then the end and no more.
 use trial::cells::plus;
 use trial::tally;
-use trial::tally::Tally;
+use trial::tally::{Counted, Tally};
 
 // At the end and past it the place stays.
 fn expected_place(log: &[u8], i: usize) -> usize {
@@ -26,9 +26,9 @@ fn steps_right(log: &[u8]) -> bool {
 
 pub fn compare_events(log: &[u8], t: Tally) -> Tally {
     let read = tally::count_many(
-        tally::count_many(t, tally::EVENTS, log.len()),
-        tally::ENDS,
+        tally::count_many(t, Counted::Events, log.len()),
+        Counted::Ends,
         2,
     );
-    tally::expect(read, tally::EVENT, steps_right(log))
+    tally::expect(read, Counted::Event, steps_right(log))
 }

@@ -5,7 +5,7 @@ use crate::second_reader::{
 use profile::{Refusal, Shape};
 use trial::cells::{Cell, part_of, plus, untouched, value_at, wide};
 use trial::tally;
-use trial::tally::Tally;
+use trial::tally::{Call, Counted, Tally};
 
 // The refusal that is expected: 9 where a lent buffer is too short and the file is right.
 fn expected_refusal(file: &[u8], mask_room: usize, move_room: usize) -> usize {
@@ -124,18 +124,18 @@ fn log_right(file: &[u8], number: usize) -> bool {
 pub fn compare_file(file: &[u8], mask_room: usize, move_room: usize, t: Tally) -> Tally {
     let number = expected_refusal(file, mask_room, move_room);
     let whole = file_refusal(file);
-    let read = tally::count(t, tally::READ);
+    let read = tally::count(t, Counted::Read);
     if number == 0 {
         let right = reading_right(file, mask_room, move_room, 0) & log_right(file, 0);
-        return tally::count(tally::expect(read, tally::FILE, right), tally::TOLD);
+        return tally::count(tally::expect(read, Counted::File, right), Counted::Told);
     }
     let right = reading_right(file, mask_room, move_room, number);
-    let refused = tally::refused(read, tally::FILE, right, tally::BY_READ, number);
+    let refused = tally::refused(read, Counted::File, right, Call::Read, number);
     tally::refused(
         refused,
-        tally::FILE,
+        Counted::File,
         log_right(file, whole),
-        tally::BY_PART,
+        Call::Part,
         whole,
     )
 }

@@ -7,7 +7,7 @@ use profile::Shape;
 use trial::cells::{minus, plus};
 use trial::record_numbers::record_at;
 use trial::tally;
-use trial::tally::Tally;
+use trial::tally::{Counted, Tally};
 
 // Build and judge, with a table of `size` numbers, which is enough or not.
 pub fn compare_table(
@@ -39,7 +39,7 @@ fn refuse_short(shape: Shape, masks: &[u16], moves: &[u32], log: &[u8], t: Tally
 // Counts a log under one-way masks.
 fn count_masks(masks: &[u16], t: Tally) -> Tally {
     if one_way(masks) {
-        tally::count(t, tally::ONE_WAY_LOGS)
+        tally::count(t, Counted::OneWayLogs)
     } else {
         t
     }

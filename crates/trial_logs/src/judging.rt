@@ -9,7 +9,7 @@ use trial::calls::{BYTES, NUMBERS, build_in, judge_in, table_part};
 use trial::cells::{Cell, holds, part_of, untouched, wide};
 use trial::record_numbers::{BACKWARD, FORWARD, record_at, set_of, total_of};
 use trial::tally;
-use trial::tally::Tally;
+use trial::tally::{Call, Counted, Tally};
 
 // The states to which some order of the marked events leads from the start.
 pub fn forward_of(shape: Shape, masks: &[u16], moves: &[u32], log: &[u8], marks: usize) -> u32 {
@@ -123,8 +123,8 @@ pub fn compare_build(
     let mut numbers = [u32::GUARD; 1416];
     let answer = build_in(shape, masks, moves, log, size, &mut numbers);
     let right = table_right(shape, masks, moves, log, answer, None, prefixes, &numbers);
-    let counted = tally::count_many(t, tally::RECORDS, prefixes);
-    tally::count(tally::expect(counted, tally::TABLE, right), tally::TABLES)
+    let counted = tally::count_many(t, Counted::Records, prefixes);
+    tally::count(tally::expect(counted, Counted::Table, right), Counted::Tables)
 }
 
 // The order buffer is the guard but for the expected order, which stands at the lent part's start; with verdict 0 it is the guard.
@@ -138,9 +138,9 @@ fn order_right(buffer: &[u8], verdict: bool, order: &[u8]) -> bool {
 
 // Counts a judged log; a listing that did not fit has no rows and is wrong.
 fn count_judged(t: Tally, right: bool, verdict: bool, count: usize) -> Tally {
-    let judged = tally::expect(t, tally::JUDGE, right & (0 < count));
-    let accepted = tally::count_if(tally::count(judged, tally::LOGS), tally::ACCEPTED, verdict);
-    tally::count_many(accepted, tally::REACHABLE, count)
+    let judged = tally::expect(t, Counted::Judge, right & (0 < count));
+    let accepted = tally::count_if(tally::count(judged, Counted::Logs), Counted::Accepted, verdict);
+    tally::count_many(accepted, Counted::Reachable, count)
 }
 
 // Judges a log into an order buffer of `room` bytes and a table of `size` numbers, which are enough.
@@ -190,10 +190,10 @@ pub fn refuse_build(
     let answer = build_in(shape, masks, moves, log, size, &mut numbers);
     let right = is_refusal(answer, 10, 0, 0) & untouched(&numbers, NUMBERS, size);
     tally::refused(
-        tally::count(t, tally::FULL_TABLES),
-        tally::TABLE,
+        tally::count(t, Counted::FullTables),
+        Counted::Table,
         right,
-        tally::BY_BUILD,
+        Call::Build,
         10,
     )
 }
@@ -222,5 +222,5 @@ pub fn refuse_judge(
         &mut numbers,
     );
     let right = is_refusal(answer, number, 0, 0) & is_unchanged(number, &buffer, &numbers, size);
-    tally::refused(t, tally::JUDGE, right, tally::BY_JUDGE, number)
+    tally::refused(t, Counted::Judge, right, Call::Judge, number)
 }

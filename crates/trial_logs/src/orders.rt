@@ -4,7 +4,7 @@ use trial::answers::{is_refusal, is_told, is_verdict, of_compared};
 use trial::calls::{BYTES, first_order_in};
 use trial::cells::{Cell, holds, minus, untouched};
 use trial::tally;
-use trial::tally::Tally;
+use trial::tally::{Call, Counted, Tally};
 
 // The second log is in a listing of the first.
 fn in_listing(rows: &[u8], count: usize, first: &[u8], second: &[u8]) -> bool {
@@ -34,9 +34,9 @@ fn compare_pair(
     let verdict = forth & back;
     let right = compared_right(k, masks, first, second, verdict)
         & compared_right(k, masks, second, first, verdict);
-    let counted = tally::count(tally::expect(t, tally::SAME, right), tally::PAIRS);
-    let one_way = tally::count_if(counted, tally::ONE_WAY_PAIRS, forth != back);
-    tally::count_if(one_way, tally::SAME_PAIRS, verdict)
+    let counted = tally::count(tally::expect(t, Counted::Same, right), Counted::Pairs);
+    let one_way = tally::count_if(counted, Counted::OneWayPairs, forth != back);
+    tally::count_if(one_way, Counted::SamePairs, verdict)
 }
 
 // Compares the log with each of those reachable from it; `back` has those from which it is reachable.
@@ -78,11 +78,11 @@ fn compare_first(
     let mut buffer = [u8::GUARD; 32];
     let answer = first_order_in(k, masks, log, room, &mut buffer);
     let right = is_told(answer, None, 0, 0) & holds(&buffer, BYTES, order);
-    let counted = tally::count(tally::expect(t, tally::FIRST, right), tally::FIRST_ORDERS);
+    let counted = tally::count(tally::expect(t, Counted::First, right), Counted::FirstOrders);
     if (log == order) {
         counted
     } else {
-        tally::count(counted, tally::MOVED_FIRST_ORDERS)
+        tally::count(counted, Counted::MovedFirstOrders)
     }
 }
 
@@ -94,7 +94,7 @@ fn refuse_first(k: usize, masks: &[u16], log: &[u8], t: Tally) -> Tally {
     }
     let answer = first_order_in(k, masks, log, minus(log.len(), 1), &mut buffer);
     let right = is_refusal(answer, 9, 0, 0) & untouched(&buffer, 0, 0);
-    tally::refused(t, tally::FIRST, right, tally::BY_FIRST, 9)
+    tally::refused(t, Counted::First, right, Call::First, 9)
 }
 
 // Compares the first order of a log, and the log with all that are reachable from it.

@@ -8,7 +8,7 @@ use trial::cells::{Cell, byte, byte_at, holds, minus, one32, part_of, plus, put,
 use trial::record_numbers::{BACKWARD, FORWARD, count_of, record_at, set_of, total_of};
 use trial::shapes::{alt, shape_of};
 use trial::tally;
-use trial::tally::{Tally, edge};
+use trial::tally::{Call, Counted, Tally, edge};
 
 // Sixteen letters and five states in a ring: each letter leads from a state to the next, and from the last to the first, which is the final one.
 fn put_ring(moves: &mut [u32]) {
@@ -86,7 +86,7 @@ fn judge_run(letter: usize, n: usize, size: usize, number: usize, log: &[u8], t:
     );
     let right = line_table(answer, number, Some(verdict), letter, n, &numbers, size)
         & order_right((number == 0) & verdict, &buffer, log);
-    tally::refused_edge(t, right, tally::BY_JUDGE, number)
+    tally::refused_edge(t, right, Call::Judge, number)
 }
 
 fn judge_line(letter: usize, n: usize, size: usize, number: usize, t: Tally) -> Tally {
@@ -111,7 +111,7 @@ fn build_line(letter: usize, n: usize, size: usize, number: usize, t: Tally) -> 
         &mut numbers,
     );
     let right = line_table(answer, number, None, letter, n, &numbers, size);
-    tally::refused_edge(t, right, tally::BY_BUILD, number)
+    tally::refused_edge(t, right, Call::Build, number)
 }
 
 // n times the letter have their n + 1 records in ten times as many numbers, and not in one fewer.
@@ -225,7 +225,7 @@ fn square(masks: &[u16], a: usize, b: usize, t: Tally) -> Tally {
         &mut buffer,
         &mut numbers,
     );
-    let counted = tally::count_many(t, tally::RECORDS, times(plus(a, 1), plus(b, 1)));
+    let counted = tally::count_many(t, Counted::Records, times(plus(a, 1), plus(b, 1)));
     edge(counted, square_right(answer, a, b, &buffer, &numbers))
 }
 
@@ -249,7 +249,7 @@ fn compare_long(
 ) -> Tally {
     let answer = of_compared(comparison::same(2, masks, first, second));
     let right = is_refusal(answer, number, place, log) & (verdict_of(answer) == verdict);
-    tally::refused_edge(t, right, tally::BY_SAME, number)
+    tally::refused_edge(t, right, Call::Same, number)
 }
 
 // The first order of a log, or its refusal by the number.
@@ -257,7 +257,7 @@ fn order_long(masks: &[u16], log: &[u8], first: &[u8], number: usize, t: Tally) 
     let mut buffer = [u8::GUARD; 4016];
     let answer = first_order_in(2, masks, log, log.len(), &mut buffer);
     let right = is_refusal(answer, number, 0, 0) & order_right(number == 0, &buffer, first);
-    tally::refused_edge(t, right, tally::BY_FIRST, number)
+    tally::refused_edge(t, right, Call::First, number)
 }
 
 // The two are the same where a and b are independent both ways, and not where they are so one way or not at all, nor without the last letter.

@@ -2,33 +2,33 @@
 use profile::Shape;
 use trial::cells::{copy, part_of, value_at};
 use trial::tally;
-use trial::tally::Tally;
+use trial::tally::{Counter, Tally};
 use trial_logs::judging::compare_judge;
 use trial_logs::listing::{earlier, list, row};
 use trial_logs::paths::earliest_accepted;
 use trial_logs::prefixes::{look_count, prefix_count};
 
 // Counters, in the order in which they are printed, behind those of `trial`.
-pub const NESTED: usize = 110;
+#[derive(Clone, Copy)]
+pub enum Beside {
+    Nested = 110,
+    TurnedGood,
+    Earlier,
+    MorePrefixes,
+    MoreLooks,
+    Equal,
+    // Wrong comparisons.
+    TurnedBad,
+    Later,
+    FewerPrefixes,
+    FewerLooks,
+}
 
-pub const TURNED_GOOD: usize = 111;
-
-pub const EARLIER: usize = 112;
-
-pub const MORE_PREFIXES: usize = 113;
-
-pub const MORE_LOOKS: usize = 114;
-
-pub const EQUAL: usize = 115;
-
-// Wrong comparisons.
-pub const TURNED_BAD: usize = 116;
-
-pub const LATER: usize = 117;
-
-pub const FEWER_PREFIXES: usize = 118;
-
-pub const FEWER_LOOKS: usize = 119;
+impl Counter for Beside {
+    fn place(self) -> usize {
+        self as usize
+    }
+}
 
 // What the listing says of a log: some listed log is accepted, the earliest of these, P and looks.
 #[derive(Clone, Copy)]
@@ -61,19 +61,19 @@ fn compare_orders(a: Outcome, b: Outcome, n: usize, t: Tally) -> Tally {
     let first = part_of(&old, 0, n);
     let second = part_of(&new, 0, n);
     let both = a.good & b.good;
-    let later = tally::expect(t, LATER, !(both & earlier(first, second)));
-    tally::count_if(later, EARLIER, both & (first != second))
+    let later = tally::expect(t, Beside::Later, !(both & earlier(first, second)));
+    tally::count_if(later, Beside::Earlier, both & (first != second))
 }
 
 // a under the pairs of one list, b under those of a list that holds them all.
 fn compare_outcomes(a: Outcome, b: Outcome, n: usize, t: Tally) -> Tally {
-    let verdicts = tally::expect(t, TURNED_BAD, !(a.good & !b.good));
-    let turned = tally::count_if(verdicts, TURNED_GOOD, b.good & !a.good);
+    let verdicts = tally::expect(t, Beside::TurnedBad, !(a.good & !b.good));
+    let turned = tally::count_if(verdicts, Beside::TurnedGood, b.good & !a.good);
     let orders = compare_orders(a, b, n, turned);
-    let prefixes = tally::expect(orders, FEWER_PREFIXES, a.prefixes <= b.prefixes);
-    let looks = tally::expect(prefixes, FEWER_LOOKS, a.looks <= b.looks);
-    let grown = tally::count_if(looks, MORE_PREFIXES, a.prefixes < b.prefixes);
-    tally::count_if(grown, MORE_LOOKS, a.looks < b.looks)
+    let prefixes = tally::expect(orders, Beside::FewerPrefixes, a.prefixes <= b.prefixes);
+    let looks = tally::expect(prefixes, Beside::FewerLooks, a.looks <= b.looks);
+    let grown = tally::count_if(looks, Beside::MorePrefixes, a.prefixes < b.prefixes);
+    tally::count_if(grown, Beside::MoreLooks, a.looks < b.looks)
 }
 
 // Judges a log of at most eight events under both lists, in tables that are large enough; `longer` holds every bit of `masks`.
@@ -91,8 +91,8 @@ pub fn compare_nested(
     let first = compare_judge(shape, masks, moves, log, a.prefixes, n, 1300, t);
     let second = compare_judge(shape, longer, moves, log, b.prefixes, n, 1400, first);
     let counted = tally::count_if(
-        tally::count(second, NESTED),
-        EQUAL,
+        tally::count(second, Beside::Nested),
+        Beside::Equal,
         masks == longer,
     );
     compare_outcomes(a, b, n, counted)

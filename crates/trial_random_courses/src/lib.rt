@@ -13,6 +13,7 @@ use trial::tally::Tally;
 use trial_courses::answers::{make_in, profile_in};
 use trial_courses::compare::{refuse, verdict_of};
 use trial_courses::counters;
+use trial_courses::counters::Counted;
 use trial_courses::moves::compare_moves;
 use trial_grammar::grammar::{is_right, place_of};
 use trial_grammar::meanings::{ALONE, BEGINS, LETTERS, describes};
@@ -32,7 +33,7 @@ fn compare_log(
     let masks = [0u16; 16];
     let described = describes(LETTERS, k, text, log, ALONE, table);
     let verdict = verdict_of(shape, part_of(&masks, 0, k), moves, log);
-    counters::judged(t, counters::RANDOM_LOGS, described, verdict)
+    counters::judged(t, Counted::RandomLogs, Counted::DescribedRandomLogs, described, verdict)
 }
 
 // Letter i of the log is the letter typed at a random place, where some described log begins so; whether one of six did.
@@ -168,16 +169,16 @@ fn compare_right(
 ) -> Tally {
     let mut numbers = [u32::GUARD; 528];
     let made = make_in(k, text, plus(times(k, s), below(seed, 30, 8)), &mut numbers);
-    let counted = tally::count(t, counters::RANDOM_RIGHT);
+    let counted = tally::count(t, Counted::RandomRight);
     let Some(shape) = profile_in(made, k, s, &numbers) else {
-        return tally::count(counted, counters::PROFILE);
+        return tally::count(counted, Counted::Profile);
     };
     let moves = part_of(table_part(&numbers), 0, times(k, s));
     compare_profile(seed, text, shape, moves, table, counted)
 }
 
 fn compare_text(seed: usize, k: usize, text: &[u8], table: &mut [usize], t: Tally) -> Tally {
-    let counted = tally::count(t, counters::RANDOM);
+    let counted = tally::count(t, Counted::Random);
     if !is_right(k, text) {
         return refuse(
             k,
@@ -185,13 +186,13 @@ fn compare_text(seed: usize, k: usize, text: &[u8], table: &mut [usize], t: Tall
             below(seed, 31, 50),
             11,
             place_of(k, text),
-            counters::REFUSAL,
+            Counted::Refusal,
             counted,
         );
     }
     let n = letter_count(k, text);
     if 31 < n {
-        return refuse(k, text, 0, 13, 0, counters::REFUSAL, counted);
+        return refuse(k, text, 0, 13, 0, Counted::Refusal, counted);
     }
     compare_right(seed, k, text, plus(n, 1), table, counted)
 }

@@ -11,7 +11,7 @@ use trial::calls::{build_in, first_order_in, judge_in, write_in};
 use trial::cells::{Cell, bit, byte, minus, part_of, plus, put};
 use trial::shapes::shape_of;
 use trial::tally;
-use trial::tally::Tally;
+use trial::tally::{Call, Counted, Tally};
 
 // Variants of a damage; the first SEEN of refusal 2 are of k and the masks, which every call sees.
 const VARIANTS: usize = 13;
@@ -268,10 +268,10 @@ fn refused_right(
 }
 
 // Counts a combination of one call.
-fn close(right: bool, call: usize, number: usize, t: Tally) -> Tally {
+fn close(right: bool, call: Call, number: usize, t: Tally) -> Tally {
     tally::refused(
-        tally::count(t, tally::COMBINED),
-        tally::REFUSAL,
+        tally::count(t, Counted::Combined),
+        Counted::Refusal,
         right,
         call,
         number,
@@ -304,7 +304,7 @@ fn judge_with(
         &mut numbers,
     );
     let right = refused_right(answer, number, variant, &buffer, &numbers, size);
-    close(right, tally::BY_JUDGE, number, t)
+    close(right, Call::Judge, number, t)
 }
 
 // Building has no order buffer.
@@ -323,7 +323,7 @@ fn build_with(
     let number = lowest(damages, 187);
     let answer = build_in(shape, masks, moves, log, size, &mut numbers);
     let right = refused_right(answer, number, variant, &buffer, &numbers, size);
-    close(right, tally::BY_BUILD, number, t)
+    close(right, Call::Build, number, t)
 }
 
 // What the first order does not know: s, start, moves, the final set, the table.
@@ -339,7 +339,7 @@ fn first_order_with(damages: usize, variant: usize, masks: &[u16], log: &[u8], t
     let number = lowest(damages, known_to_order(variant));
     let answer = first_order_in(k, masks, log, room, &mut buffer);
     let right = refused_right(answer, number, variant, &buffer, &numbers, 0);
-    close(right, tally::BY_FIRST, number, t)
+    close(right, Call::First, number, t)
 }
 
 // The writer has no table; its file has 58 bytes beside the log.
@@ -358,7 +358,7 @@ fn write_with(
     let number = lowest(damages, 123);
     let answer = write_in(shape, masks, moves, log, room, &mut buffer);
     let right = refused_right(answer, number, variant, &buffer, &numbers, 0);
-    close(right, tally::BY_WRITE, number, t)
+    close(right, Call::Write, number, t)
 }
 
 // The four calls on one log, with the damages of the combination in one variant.
@@ -461,7 +461,7 @@ fn combine_same(damages: usize, variant: usize, t: Tally) -> Tally {
     let number = same_number(damages);
     let log = same_log(damages);
     let right = is_refusal(answer, number, same_place(number, log, variant), log);
-    close(right, tally::BY_SAME, number, t)
+    close(right, Call::Same, number, t)
 }
 
 // 128 combinations, in the variants of 2 that `same` sees.

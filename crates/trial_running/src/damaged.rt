@@ -1,6 +1,6 @@
 // Calls on a record or a table that no call left: each answers, is refused as the record says, and writes nothing outside the lent part.
 use crate::lent::{event_in, question_in};
-use crate::run::{ANSWER, DAMAGED};
+use crate::run::Counted;
 use crate::run_records::room;
 use profile::Shape;
 use trial::calls::NUMBERS;
@@ -91,5 +91,5 @@ pub fn compare_damaged(
     let right = answered(asked, first, false)
         & answered(given, second, true)
         & untouched(numbers, NUMBERS, size);
-    tally::count(tally::expect(t, ANSWER, right), DAMAGED)
+    tally::count(tally::expect(t, Counted::Answer, right), Counted::Damaged)
 }

@@ -9,42 +9,36 @@ use trial::calls::judge_in;
 use trial::cells::{byte, part_of, plus, put};
 use trial::random::{below, seed_of};
 use trial::tally;
-use trial::tally::Tally;
+use trial::tally::{Counter, Tally};
 use trial_logs::prefixes::{look_count, prefix_count};
 
 // Counters, in the order in which they are printed.
-pub const RUNS: usize = 0;
+#[derive(Clone, Copy)]
+pub enum Counted {
+    Runs,
+    RefusedStarts,
+    Events,
+    BadLetters,
+    FullTables,
+    Questions,
+    Accepted,
+    Records,
+    Damaged,
+    // Wrong comparisons.
+    Start,
+    Event,
+    Question,
+    Table,
+    Judge,
+    Listing,
+    Answer,
+}
 
-pub const REFUSED_STARTS: usize = 1;
-
-pub const EVENTS: usize = 2;
-
-pub const BAD_LETTERS: usize = 3;
-
-pub const FULL_TABLES: usize = 4;
-
-pub const QUESTIONS: usize = 5;
-
-pub const ACCEPTED: usize = 6;
-
-pub const RECORDS: usize = 7;
-
-pub const DAMAGED: usize = 8;
-
-// Wrong comparisons.
-pub const START: usize = 9;
-
-pub const EVENT: usize = 10;
-
-pub const QUESTION: usize = 11;
-
-pub const TABLE: usize = 12;
-
-pub const JUDGE: usize = 13;
-
-pub const LISTING: usize = 14;
-
-pub const ANSWER: usize = 15;
+impl Counter for Counted {
+    fn place(self) -> usize {
+        self as usize
+    }
+}
 
 // The events taken, the numbers of the table, and what was compared.
 #[derive(Clone, Copy)]
@@ -55,13 +49,13 @@ pub struct Run {
     pub tally: Tally,
 }
 
-fn counted(run: Run, which: usize) -> Run {
+fn counted(run: Run, which: impl Counter) -> Run {
     let mut u = run;
     u.tally = tally::count(run.tally, which);
     u
 }
 
-fn expected(run: Run, group: usize, right: bool) -> Run {
+fn expected(run: Run, group: impl Counter, right: bool) -> Run {
     let mut u = run;
     u.tally = tally::expect(run.tally, group, right);
     u
@@ -87,9 +81,9 @@ fn compare_left(
     let many = put_arrivals(masks, log, &mut sets);
     let right = holds(held, many, run.taken)
         & table_right(shape, masks, moves, log, numbers, &sets, many);
-    let mut u = expected(run, TABLE, right);
-    u.tally = tally::count_many(u.tally, RECORDS, many);
-    expected(u, LISTING, many == prefix_count(masks, log))
+    let mut u = expected(run, Counted::Table, right);
+    u.tally = tally::count_many(u.tally, Counted::Records, many);
+    expected(u, Counted::Listing, many == prefix_count(masks, log))
 }
 
 // The judge for the list of events taken.
@@ -103,7 +97,7 @@ fn compare_judge(shape: Shape, masks: &[u16], moves: &[u32], run: Run) -> Run {
     let many = prefix_count(masks, log);
     expected(
         run,
-        JUDGE,
+        Counted::Judge,
         is_verdict(answer, verdict, many, look_count(masks, log)),
     )
 }
@@ -130,8 +124,8 @@ fn ask(
         & (told[1] == verdict)
         & (told[2] == (prefix_count(masks, log) as u64))
         & (told[3] == (run.taken as u64));
-    let mut u = counted(expected(run, QUESTION, right), QUESTIONS);
-    u.tally = tally::count_many(u.tally, ACCEPTED, verdict as usize);
+    let mut u = counted(expected(run, Counted::Question, right), Counted::Questions);
+    u.tally = tally::count_many(u.tally, Counted::Accepted, verdict as usize);
     u
 }
 
@@ -146,12 +140,12 @@ fn refusal_of(shape: Shape, letter: u8, many: usize, size: usize) -> u32 {
 // Counts an event by what is to be said of it; one that is taken stays in the log.
 fn noted(run: Run, after: Run, number: u32) -> Run {
     if number == 8 {
-        return counted(run, BAD_LETTERS);
+        return counted(run, Counted::BadLetters);
     }
     if number == 10 {
-        return counted(run, FULL_TABLES);
+        return counted(run, Counted::FullTables);
     }
-    counted(after, EVENTS)
+    counted(after, Counted::Events)
 }
 
 // The run with the letter behind its events.
@@ -183,7 +177,7 @@ fn give(
         shape, masks, moves, letter, held, run.size, numbers, &mut told,
     );
     let right = (number == refused) & (told[0] == place);
-    let u = expected(noted(run, after, refused), EVENT, right);
+    let u = expected(noted(run, after, refused), Counted::Event, right);
     compare_judge(shape, masks, moves, u)
 }
 
@@ -242,9 +236,9 @@ pub fn compare_run(
     let number = start_in(shape, masks, moves, &mut held, run.size, numbers, &mut told);
     if room(run.size) < 1 {
         let right = (number == 10) & (told[0] == 0) & holds(&held, 77, 88);
-        return counted(expected(run, START, right), REFUSED_STARTS);
+        return counted(expected(run, Counted::Start, right), Counted::RefusedStarts);
     }
-    let begun = expected(run, START, (number == 0) & (told[0] == 0));
+    let begun = expected(run, Counted::Start, (number == 0) & (told[0] == 0));
     let left = compare_left(shape, masks, moves, &held, numbers, begun);
     compare_calls(shape, masks, moves, seed, many, &mut held, numbers, left)
 }

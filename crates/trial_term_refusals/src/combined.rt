@@ -9,7 +9,7 @@ use trial::shapes::shape_of;
 use trial::tally;
 use trial::tally::Tally;
 use trial_terms::lent::judge_terms_in;
-use trial_terms::met::{BY_DAMAGE, COMBINED, REFUSAL};
+use trial_terms::met::{ByDamage, Met};
 
 pub const VARIANTS: usize = 12;
 
@@ -298,8 +298,8 @@ fn judge_with(
         &mut numbers,
     );
     let right = refused_right(answer, number, variant, &buffer, &numbers, size);
-    let counted = tally::count(tally::expect(t, REFUSAL, right), COMBINED);
-    tally::count(counted, plus(BY_DAMAGE, first))
+    let counted = tally::count(tally::expect(t, Met::Refusal, right), Met::Combined);
+    tally::count(counted, ByDamage(first))
 }
 
 fn combine(damages: usize, variant: usize, t: Tally) -> Tally {

@@ -6,7 +6,7 @@ use trial::tally;
 use trial::tally::Tally;
 use trial_terms::calendar::later;
 use trial_terms::dated::{put_days, put_terms};
-use trial_terms::met::{LIST, LISTS, NOT_AS_MANY, OUTSIDE, OUTSIDE_WRONG, RIGHT_LISTS};
+use trial_terms::met::Met;
 use trial_terms::spans::{NO_TERM, term_of, terms_right};
 
 // What stands in the place of number i of the list: a day later, two later, the number of another place, or no date.
@@ -44,9 +44,9 @@ fn try_list(terms: &[u32], t: Tally) -> Tally {
     let right = terms_right(terms);
     let number = if right { 0 } else { 15 };
     let agrees = refused_or_not(&no_days, terms, &nothing, number);
-    let counted = tally::count(tally::expect(t, LIST, agrees), LISTS);
+    let counted = tally::count(tally::expect(t, Met::List, agrees), Met::Lists);
     if right {
-        tally::count(counted, RIGHT_LISTS)
+        tally::count(counted, Met::RightLists)
     } else {
         counted
     }
@@ -73,9 +73,9 @@ fn try_outside(terms: &[u32], days: &[u32], day: u32, t: Tally) -> Tally {
         0
     };
     let agrees = refused_or_not(days, terms, &log, number);
-    let counted = tally::expect(t, OUTSIDE_WRONG, agrees);
+    let counted = tally::expect(t, Met::OutsideWrong, agrees);
     if number == 16 {
-        tally::count(counted, OUTSIDE)
+        tally::count(counted, Met::Outside)
     } else {
         counted
     }
@@ -101,7 +101,7 @@ fn try_lengths(given: usize, n: usize, t: Tally) -> Tally {
     let log = [0u8; 4];
     let number = if given == n { 0 } else { 14 };
     let agrees = refused_or_not(part_of(&days, 0, given), &all, part_of(&log, 0, n), number);
-    tally::count(tally::expect(t, OUTSIDE_WRONG, agrees), NOT_AS_MANY)
+    tally::count(tally::expect(t, Met::OutsideWrong, agrees), Met::NotAsMany)
 }
 
 fn all_lengths(t: Tally) -> Tally {

@@ -8,7 +8,7 @@ use trial::tally;
 use trial::tally::Tally;
 use trial_terms::calendar::{day_number, is_date, is_day};
 use trial_terms::lent::judge_terms_in;
-use trial_terms::met::{DATES, DAY, DAYS};
+use trial_terms::met::Met;
 
 // One letter, one state that is start and final: every log is accepted.
 fn any_log() -> Shape {
@@ -52,9 +52,9 @@ fn try_number(number: u32, right: bool, t: Tally) -> Tally {
     let by_term = if right { 0 } else { 15 };
     let agrees = refused_or_not(&day, &all, &log, by_day)
         & refused_or_not(&no_days, &term, &nothing, by_term);
-    let counted = tally::count(tally::expect(t, DAY, agrees), DAYS);
+    let counted = tally::count(tally::expect(t, Met::Day, agrees), Met::Days);
     if right {
-        tally::count(counted, DATES)
+        tally::count(counted, Met::Dates)
     } else {
         counted
     }

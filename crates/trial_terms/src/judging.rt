@@ -1,10 +1,7 @@
 // The judge with terms against the listing: the verdict, the earliest accepted listed log, P, looks, every record, and the numbers and bytes that stay.
 use crate::exchanges::{put_event_masks, put_letters, some_fall, some_turn};
 use crate::lent::judge_terms_in;
-use crate::met::{
-    ACCEPTED, BUFFER, FALLS, FEWER, JUDGE, LOGS, ONE_TERM, ONE_WAY, OTHER_VERDICT, REACHABLE,
-    RECORDS, SAME_AS_JUDGE, SHORT_ORDERS, SHORT_TABLES, TURNS, TWELVE,
-};
+use crate::met::Met;
 use profile::Shape;
 use trial::answers::{is_refusal, is_unchanged, is_verdict};
 use trial::calls::{BYTES, NUMBERS, judge_in, table_part};
@@ -207,10 +204,10 @@ fn expect_log(shape: Shape, event_masks: &[u16], moves: &[u32], log: &[u8]) -> E
 
 // Counts a judged log; a listing that did not fit has no rows and is wrong.
 fn count_judged(t: Tally, right: bool, expected: Expected) -> Tally {
-    let judged = tally::expect(tally::count(t, LOGS), JUDGE, right & (0 < expected.count));
-    let accepted = tally::count_if(judged, ACCEPTED, expected.verdict);
-    let listed = tally::count_many(accepted, REACHABLE, expected.count);
-    tally::count_many(listed, RECORDS, expected.prefixes)
+    let judged = tally::expect(tally::count(t, Met::Logs), Met::Judge, right & (0 < expected.count));
+    let accepted = tally::count_if(judged, Met::Accepted, expected.verdict);
+    let listed = tally::count_many(accepted, Met::Reachable, expected.count);
+    tally::count_many(listed, Met::Records, expected.prefixes)
 }
 
 // Judges a log into an order buffer of `room` bytes and a table of `size` numbers, which are enough.
@@ -276,11 +273,11 @@ fn refuse(
     );
     let right = is_refusal(answer, number, 0, 0) & is_unchanged(number, &buffer, &numbers, size);
     let which = if number == 9 {
-        SHORT_ORDERS
+        Met::ShortOrders
     } else {
-        SHORT_TABLES
+        Met::ShortTables
     };
-    tally::count(tally::expect(t, BUFFER, right), which)
+    tally::count(tally::expect(t, Met::Buffer, right), which)
 }
 
 // An order buffer that is one byte short, also where the table is too short; a table that is short by up to eleven numbers.
@@ -319,15 +316,15 @@ fn count_kind(
     let mut buffer = [u8::GUARD; 32];
     let mut numbers = [u32::GUARD; 1416];
     let plain = judge_in(shape, masks, moves, log, 8, 1400, &mut buffer, &mut numbers);
-    let way = tally::count_if(t, ONE_WAY, one_way(masks));
-    let turns = tally::count_if(way, TURNS, some_turn(days, terms));
-    let falls = tally::count_if(turns, FALLS, some_fall(days));
+    let way = tally::count_if(t, Met::OneWay, one_way(masks));
+    let turns = tally::count_if(way, Met::Turns, some_turn(days, terms));
+    let falls = tally::count_if(turns, Met::Falls, some_fall(days));
     let Some(Ok(told)) = plain else {
-        return tally::count(falls, JUDGE);
+        return tally::count(falls, Met::Judge);
     };
-    let fewer = tally::count_if(falls, FEWER, expected.prefixes < told.prefixes);
-    let other = tally::count_if(fewer, OTHER_VERDICT, told.verdict != Some(expected.verdict));
-    tally::count_if(other, TWELVE, terms.len() == 24)
+    let fewer = tally::count_if(falls, Met::Fewer, expected.prefixes < told.prefixes);
+    let other = tally::count_if(fewer, Met::OtherVerdict, told.verdict != Some(expected.verdict));
+    tally::count_if(other, Met::Twelve, terms.len() == 24)
 }
 
 // Compares the judge with terms on one log; `extra` varies how much longer or shorter than needed the lent buffers are.
@@ -412,5 +409,5 @@ pub fn compare_one_term(
         & (with == plain)
         & (buffer == plain_buffer)
         & (numbers == plain_numbers);
-    tally::count(tally::expect(t, SAME_AS_JUDGE, right), ONE_TERM)
+    tally::count(tally::expect(t, Met::SameAsJudge, right), Met::OneTerm)
 }

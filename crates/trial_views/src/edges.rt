@@ -1,6 +1,6 @@
 // Refusals of a view, one at a time and in pairs, and the edges of its buffers, by hand: Alt of document 01.
 use crate::lent::view_in;
-use crate::one_view::{EDGE, EDGES, is_cleared};
+use crate::one_view::{Counted, is_cleared};
 use profile::Shape;
 use trial::answers::{is_refusal, is_verdict};
 use trial::cells::{Cell, part_of, untouched};
@@ -48,8 +48,8 @@ pub fn compare(asked: Ask, masks: &[u16], moves: &[u32], log: &[u8], t: Tally) -
     if asked.number == 0 {
         let looks = if 0 < asked.place { asked.place - 1 } else { 0 };
         return tally::count(
-            tally::expect(t, EDGE, is_verdict(answer, true, asked.place, looks)),
-            EDGES,
+            tally::expect(t, Counted::Edge, is_verdict(answer, true, asked.place, looks)),
+            Counted::Edges,
         );
     }
     let refused = is_refusal(answer, asked.number, asked.place, 0);
@@ -58,7 +58,7 @@ pub fn compare(asked: Ask, masks: &[u16], moves: &[u32], log: &[u8], t: Tally) -
     } else {
         untouched(&buffer, 0, 0) & untouched(&numbers, 0, 0)
     };
-    tally::count(tally::expect(t, EDGE, refused & left), EDGES)
+    tally::count(tally::expect(t, Counted::Edge, refused & left), Counted::Edges)
 }
 
 fn with(shape: Shape, asked: Ask) -> Ask {

@@ -7,43 +7,37 @@ use trial::calls::{BYTES, NUMBERS, judge_in, table_part};
 use trial::cells::{Cell, holds, part_of, plus, untouched, value_at, wide};
 use trial::record_numbers::{BACKWARD, FORWARD, RECORD, record_at, set_of, total_of};
 use trial::tally;
-use trial::tally::Tally;
+use trial::tally::{Counter, Tally};
 use trial_logs::place_keys::{key_of, place_of, put_keys};
 use trial_logs::prefixes::{closed, look_count, marks_of, prefix_count};
 
 // Counters, in the order in which they are printed.
-pub const VIEWS: usize = 0;
+#[derive(Clone, Copy)]
+pub enum Counted {
+    Views,
+    Hiding,
+    Accepted,
+    NotSoJudged,
+    Records,
+    Short,
+    Full,
+    Secrets,
+    Judges,
+    Edges,
+    // Wrong comparisons.
+    Answer,
+    Table,
+    Refusal,
+    Secret,
+    Judge,
+    Edge,
+}
 
-pub const HIDING: usize = 1;
-
-pub const ACCEPTED: usize = 2;
-
-pub const NOT_SO_JUDGED: usize = 3;
-
-pub const RECORDS: usize = 4;
-
-pub const SHORT: usize = 5;
-
-pub const FULL: usize = 6;
-
-pub const SECRETS: usize = 7;
-
-pub const JUDGES: usize = 8;
-
-pub const EDGES: usize = 9;
-
-// Wrong comparisons.
-pub const ANSWER: usize = 10;
-
-pub const TABLE: usize = 11;
-
-pub const REFUSAL: usize = 12;
-
-pub const SECRET: usize = 13;
-
-pub const JUDGE: usize = 14;
-
-pub const EDGE: usize = 15;
+impl Counter for Counted {
+    fn place(self) -> usize {
+        self as usize
+    }
+}
 
 // The mask as the call gets it.
 pub fn mask_of(visible: usize) -> u32 {
@@ -186,19 +180,19 @@ fn compare_answer(
     let order = part_of(&letters, 0, seen.len());
     let told = tally::expect(
         t,
-        ANSWER,
+        Counted::Answer,
         answer_right(masks, seen, best.found, order, answer, buffer),
     );
     let filled = tally::expect(
         told,
-        TABLE,
+        Counted::Table,
         table_right(view, masks, moves, seen, numbers, prefixes),
     );
-    let counted = tally::count_many(filled, RECORDS, prefixes);
+    let counted = tally::count_many(filled, Counted::Records, prefixes);
     let other = judged(view.shape, masks, moves, seen) != Some(best.found);
     tally::count_if(
-        tally::count_if(counted, ACCEPTED, best.found),
-        NOT_SO_JUDGED,
+        tally::count_if(counted, Counted::Accepted, best.found),
+        Counted::NotSoJudged,
         other,
     )
 }
@@ -247,16 +241,16 @@ pub fn compare_view(
         &mut buffer,
         &mut numbers,
     );
-    let u = tally::count_if(tally::count(t, VIEWS), HIDING, n != log.len());
+    let u = tally::count_if(tally::count(t, Counted::Views), Counted::Hiding, n != log.len());
     if room < n {
         let right = is_refusal(answer, 9, 0, 0)
             & untouched(&buffer, 0, 0)
             & untouched(&numbers, 0, 0);
-        return tally::count(tally::expect(u, REFUSAL, right), SHORT);
+        return tally::count(tally::expect(u, Counted::Refusal, right), Counted::Short);
     }
     if size < record_at(prefix_count(masks, seen)) {
         let right = is_refusal(answer, 10, 0, 0) & is_cleared(&buffer, &numbers, size);
-        return tally::count(tally::expect(u, REFUSAL, right), FULL);
+        return tally::count(tally::expect(u, Counted::Refusal, right), Counted::Full);
     }
     compare_answer(view, masks, moves, seen, answer, &buffer, &numbers, u)
 }
@@ -300,7 +294,7 @@ pub fn compare_secret(
         &mut others,
     );
     let right = one.is_some() & (one == two) & (first == second) & (numbers == others);
-    tally::count(tally::expect(t, SECRET, right), SECRETS)
+    tally::count(tally::expect(t, Counted::Secret, right), Counted::Secrets)
 }
 
 // With all letters visible: the judge's answer, order and table.
@@ -339,5 +333,5 @@ pub fn compare_judge(
         &mut others,
     );
     let right = one.is_some() & (one == two) & (first == second) & (numbers == others);
-    tally::count(tally::expect(t, JUDGE, right), JUDGES)
+    tally::count(tally::expect(t, Counted::Judge, right), Counted::Judges)
 }
