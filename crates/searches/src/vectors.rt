@@ -39,11 +39,7 @@ pub fn change(vector: &mut [u8], x: usize, up: bool) {
 
 // The key of the vector, by which the listing orders prefixes.
 pub fn key_of(vector: &[u8]) -> usize {
-    let mut key = 0;
-    for x in 0..16 {
-        key = plus(key, times(byte_at(vector, x), weight(x)));
-    }
-    key
+    (0..16).fold(0, |key, x| plus(key, times(byte_at(vector, x), weight(x))))
 }
 
 // Number i of the counts: "letter i in number i div 2, the even letter in the low half".

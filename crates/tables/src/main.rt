@@ -5,22 +5,12 @@
 use profile::Shape;
 use std::io;
 
-fn say(rt: &impl Print, n: u64) -> io::Result<()> {
-    print!(rt; "{n} ")
-}
-
-fn wide(n: u32) -> u64 {
-    n as u64
-}
-
 fn say_table(rt: &impl Print, numbers: &[u32]) -> io::Result<()> {
-    let mut i = 0;
-    while i < numbers.len() {
-        say(rt, wide(numbers[i]))?;
+    for (i, number) in numbers.iter().enumerate() {
+        print!(rt; "{number} ")?;
         if i % 10 == 9 {
             println!(rt;)?;
         }
-        i += 1;
     }
     Ok(())
 }
@@ -31,15 +21,13 @@ fn show(rt: &impl Print, shape: Shape, masks: &[u16], moves: &[u32], log: &[u8])
     match built {
         Err(r) => {
             let number = refusals::number(r);
-            print!(rt; "refused ")?;
-            say(rt, wide(number))?;
+            print!(rt; "refused {number} ")?;
             if number == 10 {
                 return println!(rt;);
             }
         }
         Ok(filled) => {
-            say(rt, filled.prefixes as u64)?;
-            say(rt, filled.looks)?;
+            print!(rt; "{} {} ", filled.prefixes, filled.looks)?;
         }
     }
     println!(rt;)?;
@@ -98,10 +86,8 @@ fn sixteen_letters(rt: &impl Print) -> io::Result<()> {
 // One letter that leads from each of 32 states to the next, and from the last to the first and to itself.
 fn thirty_two_states(rt: &impl Print) -> io::Result<()> {
     let mut moves = [0u32; 32];
-    let mut q = 0;
-    while q < 31 {
+    for q in 0..31 {
         moves[q] = 2u32 << q;
-        q += 1;
     }
     moves[31] = 2147483649;
     show(

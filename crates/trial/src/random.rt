@@ -1,5 +1,5 @@
 // Numbers from a seed, with no state: number i of a seed is mixed from the two (xorshift). Profiles and logs made of them.
-use crate::cells::{byte, one16, one32, plus, put, rest, times};
+use crate::cells::{byte, one16, one32, plus, put, rest};
 use crate::shapes::shape_of;
 use profile::Shape;
 
@@ -50,11 +50,7 @@ fn related(seed: usize, part: usize, i: usize, j: usize) -> u16 {
 }
 
 fn mask_of(seed: usize, k: usize, part: usize, i: usize) -> u16 {
-    let mut mask = 0;
-    for j in 0..k {
-        mask = mask | related(seed, part, i, j);
-    }
-    mask
+    (0..k).fold(0, |mask, j| mask | related(seed, part, i, j))
 }
 
 // Masks of k letters, of which about `part` of 8 pairs may be exchanged.

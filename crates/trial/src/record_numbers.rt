@@ -22,11 +22,7 @@ pub fn count_of(table: &[u32], r: usize, letter: usize) -> usize {
 
 // The total of record r.
 pub fn total_of(table: &[u32], r: usize) -> usize {
-    let mut sum = 0;
-    for x in 0..16 {
-        sum = plus(sum, count_of(table, r, x));
-    }
-    sum
+    (0..16).fold(0, |sum, x| plus(sum, count_of(table, r, x)))
 }
 
 // The set of states of record r that is the number FORWARD or BACKWARD.

@@ -1,69 +1,41 @@
 // The rules of the groups and the ceiling, in the paper's words.
-use trial::cells::{bit, byte_at, plus, times, value_at};
+use trial::cells::{bit, plus, times, wide};
 use trial_logs::listing::commute;
 
-// Letter x is in group i.
-fn in_group(groups: &[u16], i: usize, x: usize) -> bool {
-    bit(value_at(groups, i) as usize, x)
+// Letter x is in the group.
+fn in_group(group: u16, x: usize) -> bool {
+    bit(wide(group), x)
 }
 
 // "hold a bit from k on"
-fn bit_from(k: usize, groups: &[u16], i: usize) -> bool {
-    for x in k..16 {
-        if in_group(groups, i, x) {
-            return true;
-        }
-    }
-    false
+fn bit_from(k: usize, group: u16) -> bool {
+    (k..16).any(|x| in_group(group, x))
 }
 
-// A letter of group i that may be exchanged with x, which is in it too, in either direction.
-fn exchanged_with(masks: &[u16], groups: &[u16], i: usize, x: usize) -> bool {
-    for y in 0..16 {
-        if in_group(groups, i, y) & (commute(masks, x, y) | commute(masks, y, x)) {
-            return true;
-        }
-    }
-    false
+// A letter of the group that may be exchanged with x, which is in it too, in either direction.
+fn exchanged_with(masks: &[u16], group: u16, x: usize) -> bool {
+    (0..16).any(|y| in_group(group, y) & (commute(masks, x, y) | commute(masks, y, x)))
 }
 
 // "no two letters of one group may be exchanged in either direction"
-fn exchanged(masks: &[u16], groups: &[u16], i: usize) -> bool {
-    for x in 0..16 {
-        if in_group(groups, i, x) & exchanged_with(masks, groups, i, x) {
-            return true;
-        }
-    }
-    false
+fn exchanged(masks: &[u16], group: u16) -> bool {
+    (0..16).any(|x| in_group(group, x) & exchanged_with(masks, group, x))
 }
 
 // Some group breaks a rule of its own.
 fn some_wrong(k: usize, masks: &[u16], groups: &[u16]) -> bool {
-    for i in 0..groups.len() {
-        if bit_from(k, groups, i) | exchanged(masks, groups, i) {
-            return true;
-        }
-    }
-    false
+    groups
+        .iter()
+        .any(|group| bit_from(k, *group) | exchanged(masks, *group))
 }
 
 fn in_some(groups: &[u16], x: usize) -> bool {
-    for i in 0..groups.len() {
-        if in_group(groups, i, x) {
-            return true;
-        }
-    }
-    false
+    groups.iter().any(|group| in_group(*group, x))
 }
 
 // "together they hold every letter"
 fn hold_every(k: usize, groups: &[u16]) -> bool {
-    for x in 0..k {
-        if !in_some(groups, x) {
-            return false;
-        }
-    }
-    true
+    (0..k).all(|x| in_some(groups, x))
 }
 
 // 18: "when the groups break these rules, are none or above 16, or hold a bit from k on"
@@ -75,21 +47,15 @@ pub fn wrong_groups(k: usize, masks: &[u16], groups: &[u16]) -> bool {
 }
 
 // "the number of events in that group"
-fn events_of(log: &[u8], groups: &[u16], i: usize) -> usize {
-    let mut sum = 0;
-    for at in 0..log.len() {
-        if in_group(groups, i, byte_at(log, at)) {
-            sum = plus(sum, 1);
-        }
-    }
-    sum
+fn events_of(log: &[u8], group: u16) -> usize {
+    log.iter()
+        .filter(|letter| in_group(group, wide(**letter)))
+        .count()
 }
 
 // "the product, over the groups, of one plus the number of events in that group"; here far below 64 bits.
 pub fn product_of(log: &[u8], groups: &[u16]) -> usize {
-    let mut product = 1;
-    for i in 0..groups.len() {
-        product = times(plus(1, events_of(log, groups, i)), product);
-    }
-    product
+    groups.iter().fold(1, |product, group| {
+        times(plus(1, events_of(log, *group)), product)
+    })
 }

@@ -6,7 +6,7 @@
 #![tactic(auto)]
 
 use trial::calls::table_part;
-use trial::cells::{Cell, byte, byte_at, minus, part_of, plus, put_run, times, value_at};
+use trial::cells::{Cell, byte, byte_at, minus, part_of, plus, put_run, times};
 use trial::tally;
 use trial::tally::Tally;
 use trial_courses::answers::{is_refused, make_in, profile_in};

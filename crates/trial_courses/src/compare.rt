@@ -35,11 +35,7 @@ fn same_letters(u: usize, v: usize) -> bool {
 
 // The set of the arrangements of log number v.
 fn arrangements(v: usize) -> usize {
-    let mut all = 0;
-    for u in 0..ALL {
-        all = all | when(same_letters(u, v), one(u));
-    }
-    all
+    (0..ALL).fold(0, |all, u| all | when(same_letters(u, v), one(u)))
 }
 
 // Log number v has no b.

@@ -35,19 +35,11 @@ fn state_if(test: bool, q: usize) -> u32 {
 
 // The letters that may come after q, of 1 to s - 1.
 fn successors(k: usize, text: &[u8], s: usize, q: usize, table: &mut [usize]) -> u32 {
-    let mut all = 0;
-    for r in 1..s {
-        all = all | state_if(comes(k, text, q, r, table), r);
-    }
-    all
+    (1..s).fold(0, |all, r| all | state_if(comes(k, text, q, r, table), r))
 }
 
 fn final_states(k: usize, text: &[u8], s: usize, table: &mut [usize]) -> u32 {
-    let mut all = 0;
-    for q in 0..s {
-        all = all | state_if(may_end(k, text, q, table), q);
-    }
-    all
+    (0..s).fold(0, |all, q| all | state_if(may_end(k, text, q, table), q))
 }
 
 // The states of the letters typed that are a.
@@ -63,12 +55,7 @@ fn typed_as(k: usize, text: &[u8], a: usize) -> u32 {
 
 // The k moves from a state, at `at` and behind.
 fn row_right(k: usize, text: &[u8], next: u32, moves: &[u32], at: usize) -> bool {
-    for a in 0..k {
-        if value_at(moves, plus(at, a)) != next & typed_as(k, text, a) {
-            return false;
-        }
-    }
-    true
+    (0..k).all(|a| value_at(moves, plus(at, a)) == next & typed_as(k, text, a))
 }
 
 fn rows_right(k: usize, text: &[u8], s: usize, moves: &[u32], table: &mut [usize]) -> bool {
@@ -82,11 +69,9 @@ fn rows_right(k: usize, text: &[u8], s: usize, moves: &[u32], table: &mut [usize
 
 // The bits that are set.
 fn bits_set(moves: &[u32]) -> usize {
-    let mut sum = 0;
-    for i in 0..moves.len() {
-        sum = plus(sum, wide(u32::count_ones(value_at(moves, i))));
-    }
-    sum
+    moves
+        .iter()
+        .fold(0, |sum, set| plus(sum, wide(set.count_ones())))
 }
 
 // Compares the s × k moves and the final set.

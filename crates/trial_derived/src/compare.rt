@@ -57,12 +57,8 @@ fn record_right(
 fn records_right(masks: &[u16], log: &[u8], table: &[u32], prefixes: usize) -> bool {
     let mut keys = [0usize; 256];
     let listed = put_keys(masks, log, &mut keys);
-    for r in 0..prefixes {
-        if !record_right(masks, log, table, r, &keys, prefixes) {
-            return false;
-        }
-    }
-    listed == prefixes
+    (0..prefixes).all(|r| record_right(masks, log, table, r, &keys, prefixes))
+        && listed == prefixes
 }
 
 fn told_right(told: &[u64; 4], verdict: usize, prefixes: usize, looks: usize) -> bool {

@@ -1,6 +1,6 @@
 // "can be derived", by the paper's words, of one log: for each of its parts the names from which the part can be derived, the short parts first. A rule is
 // read by its bits.
-use trial::cells::{bit, byte_at, minus, one16, plus, put, value_at};
+use trial::cells::{bit, byte_at, minus, one16, plus, put, value_at, wide};
 use trial_logs::listing::row;
 
 // The parts of a log of at most eight letters: that of n letters from place i on.
@@ -31,19 +31,15 @@ fn by_names(x: usize, left: usize, right: usize) -> u16 {
 }
 
 fn letter_names(rules: &[u16], letter: usize) -> u16 {
-    let mut names = 0;
-    for r in 0..rules.len() {
-        names = names | by_letter(value_at(rules, r) as usize, letter);
-    }
-    names
+    rules
+        .iter()
+        .fold(0, |names, rule| names | by_letter(wide(*rule), letter))
 }
 
 fn pair_names(rules: &[u16], left: u16, right: u16) -> u16 {
-    let mut names = 0;
-    for r in 0..rules.len() {
-        names = names | by_names(value_at(rules, r) as usize, left as usize, right as usize);
-    }
-    names
+    rules.iter().fold(0, |names, rule| {
+        names | by_names(wide(*rule), wide(left), wide(right))
+    })
 }
 
 // The names of a part of several letters, over every cut of it.
@@ -88,11 +84,5 @@ pub fn derived(rules: &[u16], log: &[u8]) -> bool {
 
 // How many of the listed logs can be derived.
 pub fn derived_rows(rules: &[u16], rows: &[u8], count: usize, n: usize) -> usize {
-    let mut sum = 0;
-    for r in 0..count {
-        if derived(rules, row(rows, r, n)) {
-            sum = plus(sum, 1);
-        }
-    }
-    sum
+    (0..count).filter(|&r| derived(rules, row(rows, r, n))).count()
 }

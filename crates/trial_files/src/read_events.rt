@@ -16,12 +16,7 @@ fn step_right(log: &[u8], i: usize) -> bool {
 
 // The log to its end, and twice at or past it.
 fn steps_right(log: &[u8]) -> bool {
-    for i in 0..plus(log.len(), 2) {
-        if !step_right(log, i) {
-            return false;
-        }
-    }
-    true
+    (0..plus(log.len(), 2)).all(|i| step_right(log, i))
 }
 
 pub fn compare_events(log: &[u8], t: Tally) -> Tally {

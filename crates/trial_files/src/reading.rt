@@ -44,21 +44,13 @@ fn answer_right(file: &[u8], reading: Result<(Shape, usize), Refusal>, number: u
 
 // The first masks of the lent part, which begins at 2, are those of the file, and the others stay.
 fn masks_right(file: &[u8], masks: &[u16]) -> bool {
-    for i in 0..field(file, 0) {
-        if value_at(masks, plus(2, i)) as usize != mask(file, i) {
-            return false;
-        }
-    }
-    untouched(masks, 2, field(file, 0))
+    (0..field(file, 0)).all(|i| value_at(masks, plus(2, i)) as usize == mask(file, i))
+        && untouched(masks, 2, field(file, 0))
 }
 
 fn moves_right(file: &[u8], moves: &[u32]) -> bool {
-    for i in 0..move_count(file) {
-        if wide(value_at(moves, plus(2, i))) != move_set(file, i) {
-            return false;
-        }
-    }
-    untouched(moves, 2, move_count(file))
+    (0..move_count(file)).all(|i| wide(value_at(moves, plus(2, i))) == move_set(file, i))
+        && untouched(moves, 2, move_count(file))
 }
 
 // Both buffers are filled, or unchanged where the call is refused.

@@ -80,23 +80,13 @@ fn far_section(file: &[u8]) -> bool {
 // 4.
 fn bad_mask(file: &[u8]) -> bool {
     let k = field(file, 0);
-    for i in 0..k {
-        if bit_from(mask(file, i), k) | bit(mask(file, i), i) {
-            return true;
-        }
-    }
-    false
+    (0..k).any(|i| bit_from(mask(file, i), k) | bit(mask(file, i), i))
 }
 
 // 6.
 fn bad_set(file: &[u8]) -> bool {
     let s = field(file, 1);
-    for i in 0..move_count(file) {
-        if bit_from(move_set(file, i), s) {
-            return true;
-        }
-    }
-    bit_from(finals(file), s)
+    (0..move_count(file)).any(|i| bit_from(move_set(file, i), s)) || bit_from(finals(file), s)
 }
 
 // 8: the first place whose byte is k or more; n where there is none.

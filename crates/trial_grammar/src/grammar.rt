@@ -11,8 +11,8 @@ const EXPRESSION: usize = 128;
 // The ends with a star behind them, and another.
 fn starred(text: &[u8], ends: usize) -> usize {
     let mut all = ends;
-    for j in 0..text.len() {
-        if bit(all, j) & (byte_at(text, j) == 42) {
+    for (j, c) in text.iter().enumerate() {
+        if bit(all, j) & (*c == b'*') {
             all = all | one(plus(j, 1));
         }
     }
@@ -21,13 +21,10 @@ fn starred(text: &[u8], ends: usize) -> usize {
 
 // The places behind a closing bracket that stands at one of the ends.
 fn closed(text: &[u8], ends: usize) -> usize {
-    let mut all = 0;
-    for j in 0..text.len() {
-        if bit(ends, j) & (byte_at(text, j) == 41) {
-            all = all | one(plus(j, 1));
-        }
-    }
-    all
+    text.iter()
+        .enumerate()
+        .filter(|(j, c)| bit(ends, *j) & (**c == b')'))
+        .fold(0, |all, (j, _)| all | one(plus(j, 1)))
 }
 
 // Where a factor ends that begins at i.
@@ -43,24 +40,17 @@ fn factor_ends(k: usize, text: &[u8], i: usize, rows: &[usize]) -> usize {
 
 // The ends of the factors, and of the sequences that begin there.
 fn sequence_ends(text: &[u8], factors: usize, rows: &[usize]) -> usize {
-    let mut all = factors;
-    for j in 0..text.len() {
-        if bit(factors, j) {
-            all = all | value_at(rows, plus(SEQUENCE, j));
-        }
-    }
-    all
+    (0..text.len())
+        .filter(|&j| bit(factors, j))
+        .fold(factors, |all, j| all | value_at(rows, plus(SEQUENCE, j)))
 }
 
 // The ends of the sequences, and of the expressions behind a `|` that stands there.
 fn expression_ends(text: &[u8], sequences: usize, rows: &[usize]) -> usize {
-    let mut all = sequences;
-    for j in 0..text.len() {
-        if bit(sequences, j) & (byte_at(text, j) == 124) {
-            all = all | value_at(rows, plus(EXPRESSION, plus(j, 1)));
-        }
-    }
-    all
+    text.iter()
+        .enumerate()
+        .filter(|(j, c)| bit(sequences, *j) & (**c == b'|'))
+        .fold(sequences, |all, (j, _)| all | value_at(rows, plus(EXPRESSION, plus(j, 1))))
 }
 
 // Writes the rows of place i, where those of the later places stand.

@@ -3,7 +3,7 @@
 // or from node n.
 use crate::parts::{LOGS, PATHS, meaning_of};
 use crate::words::{is_letter, letter_at, one, one_if, when};
-use trial::cells::{bit, byte_at, plus, put};
+use trial::cells::{bit, plus, put, wide};
 
 // What may come around the list: nothing, anything before it, anything behind it, or both.
 pub const ALONE: usize = 0;
@@ -31,11 +31,10 @@ fn loops(around: usize, n: usize) -> usize {
 
 // The paths of a member of the list.
 fn paths_of(member: usize, list: &[u8], around: usize) -> usize {
-    let mut all = loops(around, list.len());
-    for p in 0..list.len() {
-        all = all | when(byte_at(list, p) == member, next_node(p));
-    }
-    all
+    list.iter()
+        .enumerate()
+        .filter(|(_, x)| wide(**x) == member)
+        .fold(loops(around, list.len()), |all, (p, _)| all | next_node(p))
 }
 
 fn member_of(members: usize, k: usize, text: &[u8], i: usize, number: usize) -> usize {

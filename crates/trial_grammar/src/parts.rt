@@ -69,24 +69,16 @@ fn joined(u: usize, v: usize) -> usize {
 
 // Log u and then each of the set.
 fn log_and(u: usize, set: usize) -> usize {
-    let mut all = 0;
-    for v in 0..31 {
-        if bit(set, v) {
-            all = all | joined(u, v);
-        }
-    }
-    all
+    (0..31)
+        .filter(|&v| bit(set, v))
+        .fold(0, |all, v| all | joined(u, v))
 }
 
 // Each log of one set and then each of the other.
 fn logs_follow(x: usize, y: usize) -> usize {
-    let mut all = 0;
-    for u in 0..31 {
-        if bit(x, u) {
-            all = all | log_and(u, y);
-        }
-    }
-    all
+    (0..31)
+        .filter(|&u| bit(x, u))
+        .fold(0, |all, u| all | log_and(u, y))
 }
 
 // The paths from node p to m and on as y leads from m; c is 8 p + m.
@@ -97,13 +89,9 @@ fn path_and(c: usize, y: usize) -> usize {
 }
 
 fn paths_follow(x: usize, y: usize) -> usize {
-    let mut all = 0;
-    for c in 0..64 {
-        if bit(x, c) {
-            all = all | path_and(c, y);
-        }
-    }
-    all
+    (0..64)
+        .filter(|&c| bit(x, c))
+        .fold(0, |all, c| all | path_and(c, y))
 }
 
 // One after the other.
@@ -131,11 +119,8 @@ fn repeated(kind: usize, x: usize) -> usize {
     if !is_part(x) {
         return 0;
     }
-    let mut all = PART | (if kind == LOGS { 1 } else { NOTHING });
-    for _ in 0..ROUNDS {
-        all = all | follow(kind, x, all);
-    }
-    all
+    let alone = if kind == LOGS { 1 } else { NOTHING };
+    (0..ROUNDS).fold(PART | alone, |all, _| all | follow(kind, x, all))
 }
 
 // A letter.

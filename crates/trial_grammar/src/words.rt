@@ -1,5 +1,5 @@
 // Sets as the bits of a number, and the letters of a text.
-use trial::cells::{byte_at, plus};
+use trial::cells::byte_at;
 
 // The set of i alone.
 pub fn one(i: usize) -> usize {
@@ -30,9 +30,7 @@ pub fn is_letter(k: usize, text: &[u8], i: usize) -> bool {
 
 // How many letters are typed.
 pub fn letter_count(k: usize, text: &[u8]) -> usize {
-    let mut n = 0;
-    for i in 0..text.len() {
-        n = plus(n, one_if(is_letter(k, text, i)));
-    }
-    n
+    (0..text.len())
+        .filter(|&i| is_letter(k, text, i))
+        .count()
 }

@@ -1,6 +1,6 @@
 // The listing of the logs reachable from a log: exchanges of neighbouring letters, tried on every listed log until nothing new appears; and of the logs
 // from which it is reachable. A listed log is a row of eight bytes; the mask test is this crate's own.
-use trial::cells::{bit, byte, byte_at, copy, minus, one16, part_of, plus, put, value_at};
+use trial::cells::{bit, byte, byte_at, copy, one16, part_of, plus, put, value_at};
 
 // Rows of a listing, the last of which is left for an exchange that is tried.
 pub const MOST: usize = 2048;
@@ -43,12 +43,7 @@ fn put_exchanged(rows: &mut [u8], from: usize, to: usize, n: usize, i: usize) {
 
 // A log of the first `count` rows.
 pub fn listed(rows: &[u8], count: usize, log: &[u8]) -> bool {
-    for r in 0..count {
-        if (row(rows, r, log.len()) == log) {
-            return true;
-        }
-    }
-    false
+    (0..count).any(|r| row(rows, r, log.len()) == log)
 }
 
 // The number of rows with row `count`, where it is new.
@@ -106,13 +101,9 @@ pub fn list(masks: &[u16], log: &[u8], rows: &mut [u8]) -> usize {
 
 // The mask of letter j with bit i set where bit j of mask i is.
 fn turned_mask(masks: &[u16], j: usize) -> u16 {
-    let mut mask = 0;
-    for i in 0..masks.len() {
-        if commute(masks, i, j) {
-            mask = mask | one16(i);
-        }
-    }
-    mask
+    (0..masks.len())
+        .filter(|&i| commute(masks, i, j))
+        .fold(0, |mask, i| mask | one16(i))
 }
 
 // The masks turned round, by which exchanges are undone.
@@ -124,12 +115,10 @@ fn turn_masks(masks: &[u16], turned: &mut [u16]) {
 
 // Some pair may be exchanged one way and not the other.
 pub fn one_way(masks: &[u16]) -> bool {
-    for j in 0..masks.len() {
-        if turned_mask(masks, j) != value_at(masks, j) {
-            return true;
-        }
-    }
-    false
+    masks
+        .iter()
+        .enumerate()
+        .any(|(j, mask)| turned_mask(masks, j) != *mask)
 }
 
 // Lists the logs from which the log is reachable.
@@ -141,12 +130,7 @@ pub fn list_back(masks: &[u16], log: &[u8], rows: &mut [u8]) -> usize {
 
 // Log a comes before log b: at the first place where they differ its letter is smaller.
 pub fn earlier(a: &[u8], b: &[u8]) -> bool {
-    for i in 0..a.len() {
-        if byte_at(a, i) != byte_at(b, i) {
-            return byte_at(a, i) < byte_at(b, i);
-        }
-    }
-    false
+    a < b
 }
 
 // The row of the earliest listed log.

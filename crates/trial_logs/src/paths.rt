@@ -1,7 +1,7 @@
 // Paths of the automaton, state by state: where a log leads, and whether it is accepted.
 use crate::listing::{earlier, row};
 use profile::Shape;
-use trial::cells::{bit, byte_at, one32, plus, value_at, wide};
+use trial::cells::{bit, one32, plus, value_at, wide};
 
 // The states to which the move at place `at` leads from state q, where q is in the set.
 fn leads(moves: &[u32], set: u32, q: usize, at: usize) -> u32 {
@@ -27,11 +27,8 @@ fn moved(k: usize, s: usize, moves: &[u32], set: u32, a: usize) -> u32 {
 pub fn ends(shape: Shape, moves: &[u32], set: u32, word: &[u8]) -> u32 {
     let k = shape.k;
     let s = shape.s;
-    let mut now = set;
-    for i in 0..word.len() {
-        now = moved(k, s, moves, now, byte_at(word, i));
-    }
-    now
+    word.iter()
+        .fold(set, |now, letter| moved(k, s, moves, now, wide(*letter)))
 }
 
 // Some path from state q spells the word and ends in a final state.
@@ -42,32 +39,20 @@ fn finishes(shape: Shape, moves: &[u32], q: usize, word: &[u8]) -> bool {
 // The states to which some listed log leads from the start.
 pub fn forward(shape: Shape, moves: &[u32], rows: &[u8], count: usize, n: usize) -> u32 {
     let start = one32(shape.start);
-    let mut out = 0;
-    for r in 0..count {
-        out = out | ends(shape, moves, start, row(rows, r, n));
-    }
-    out
+    (0..count).fold(0, |out, r| out | ends(shape, moves, start, row(rows, r, n)))
 }
 
 // The states from which the word leads to a final state.
 fn beginnings(shape: Shape, moves: &[u32], word: &[u8]) -> u32 {
     let s = shape.s;
-    let mut out = 0;
-    for q in 0..s {
-        if finishes(shape, moves, q, word) {
-            out = out | one32(q);
-        }
-    }
-    out
+    (0..s)
+        .filter(|&q| finishes(shape, moves, q, word))
+        .fold(0, |out, q| out | one32(q))
 }
 
 // The states from which some listed log leads to a final state.
 pub fn backward(shape: Shape, moves: &[u32], rows: &[u8], count: usize, n: usize) -> u32 {
-    let mut out = 0;
-    for r in 0..count {
-        out = out | beginnings(shape, moves, row(rows, r, n));
-    }
-    out
+    (0..count).fold(0, |out, r| out | beginnings(shape, moves, row(rows, r, n)))
 }
 
 // Row r is earlier than row `best`, or nothing was found yet.

@@ -2,7 +2,7 @@
 // A total and its counts are one number, four bits each, the total highest, then letter 0 and so on: the order of these keys is that of records. Letter 15
 // has no bits of its own, as its count follows from the others. Totals and counts here are below 16.
 use crate::prefixes::is_prefix;
-use trial::cells::{bit, byte_at, plus};
+use trial::cells::{bit, plus, put, wide};
 
 // What one event of the letter adds to a key.
 pub fn weight(letter: usize) -> usize {
@@ -16,19 +16,10 @@ pub fn weight(letter: usize) -> usize {
 
 // The key of the marked events.
 pub fn key_of(log: &[u8], marks: usize) -> usize {
-    let mut key = 0;
-    for i in 0..log.len() {
-        if bit(marks, i) {
-            key = plus(key, weight(byte_at(log, i)));
-        }
-    }
-    key
-}
-
-fn put_key(keys: &mut [usize], i: usize, key: usize) {
-    if i < keys.len() {
-        keys[i] = key;
-    }
+    log.iter()
+        .enumerate()
+        .filter(|(i, _)| bit(marks, *i))
+        .fold(0, |key, (_, letter)| plus(key, weight(wide(*letter))))
 }
 
 // Adds the key of the marks where they are a prefix; the new number of keys.
@@ -36,12 +27,8 @@ fn take_key(masks: &[u16], log: &[u8], marks: usize, keys: &mut [usize], n: usiz
     if !is_prefix(masks, log, marks) {
         return n;
     }
-    put_key(keys, n, key_of(log, marks));
+    put(keys, n, key_of(log, marks));
     plus(n, 1)
-}
-
-fn key_at(keys: &[usize], i: usize) -> usize {
-    if i < keys.len() { keys[i] } else { 0 }
 }
 
 // The keys of all prefixes, by trying every set of marks; how many they are.
@@ -55,11 +42,5 @@ pub fn put_keys(masks: &[u16], log: &[u8], keys: &mut [usize]) -> usize {
 
 // How many of the first n keys are smaller: the place of the key among them.
 pub fn place_of(keys: &[usize], n: usize, key: usize) -> usize {
-    let mut sum = 0;
-    for i in 0..n {
-        if key_at(keys, i) < key {
-            sum = plus(sum, 1);
-        }
-    }
-    sum
+    keys.iter().take(n).filter(|x| **x < key).count()
 }

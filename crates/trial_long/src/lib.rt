@@ -4,7 +4,7 @@
 
 use trial::answers::{Answer, is_refusal, is_told, is_unchanged, is_verdict, of_compared, verdict_of};
 use trial::calls::{BYTES, NUMBERS, build_in, first_order_in, judge_in, table_part};
-use trial::cells::{Cell, byte, byte_at, holds, minus, one32, part_of, plus, put, put_run, times, untouched};
+use trial::cells::{Cell, byte, holds, minus, one32, part_of, plus, put, put_run, times, untouched, wide};
 use trial::record_numbers::{BACKWARD, FORWARD, count_of, record_at, set_of, total_of};
 use trial::shapes::{alt, shape_of};
 use trial::tally;
@@ -26,12 +26,7 @@ fn line_record(table: &[u32], letter: usize, n: usize, r: usize) -> bool {
 }
 
 fn line_records(table: &[u32], letter: usize, n: usize) -> bool {
-    for r in 0..plus(n, 1) {
-        if !line_record(table, letter, n, r) {
-            return false;
-        }
-    }
-    true
+    (0..plus(n, 1)).all(|r| line_record(table, letter, n, r))
 }
 
 // n + 1 records and nothing else written; one letter can be added to each but the last. Or the refusal.
@@ -172,21 +167,14 @@ fn square_record(table: &[u32], r: usize, a: usize, b: usize) -> bool {
 }
 
 fn square_records(table: &[u32], records: usize, a: usize, b: usize) -> bool {
-    for r in 0..records {
-        if !square_record(table, r, a, b) {
-            return false;
-        }
-    }
-    true
+    (0..records).all(|r| square_record(table, r, a, b))
 }
 
 fn alternates(order: &[u8]) -> bool {
-    for i in 0..order.len() {
-        if byte_at(order, i) != i % 2 {
-            return false;
-        }
-    }
-    true
+    order
+        .iter()
+        .enumerate()
+        .all(|(i, letter)| wide(*letter) == i % 2)
 }
 
 // Verdict 1 comes with abab to the end, verdict 0 with no order.

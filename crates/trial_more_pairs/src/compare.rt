@@ -1,6 +1,6 @@
 // The judge on one log under two nested lists of pairs, each answer against the listing, and the two beside each other.
 use profile::Shape;
-use trial::cells::{copy, part_of, value_at};
+use trial::cells::{copy, part_of};
 use trial::tally;
 use trial::tally::{Counter, Tally};
 use trial_logs::judging::compare_judge;

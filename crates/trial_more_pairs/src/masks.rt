@@ -41,11 +41,7 @@ fn pair_bit(code: usize, k: usize, longer: bool, i: usize, j: usize) -> u16 {
 }
 
 fn mask_of(code: usize, k: usize, longer: bool, i: usize) -> u16 {
-    let mut mask = 0;
-    for j in 0..k {
-        mask = mask | pair_bit(code, k, longer, i, j);
-    }
-    mask
+    (0..k).fold(0, |mask, j| mask | pair_bit(code, k, longer, i, j))
 }
 
 // The masks of the longer list, or of the other.

@@ -2,19 +2,16 @@
 use crate::arrivals::set_at;
 use profile::Shape;
 use trial::calls::{NUMBERS, table_part};
-use trial::cells::{Cell, bit, byte_at, minus, plus, untouched, value_at};
+use trial::cells::{Cell, bit, minus, plus, untouched, value_at, wide};
 use trial::record_numbers::{FORWARD, RECORD, record_at};
 use trial_logs::judging::forward_of;
 
 // How many events of the set have the letter.
 fn events_of(log: &[u8], set: usize, letter: usize) -> usize {
-    let mut sum = 0;
-    for i in 0..log.len() {
-        if bit(set, i) & (byte_at(log, i) == letter) {
-            sum = plus(sum, 1);
-        }
-    }
-    sum
+    log.iter()
+        .enumerate()
+        .filter(|(i, x)| bit(set, *i) & (wide(**x) == letter))
+        .count()
 }
 
 // Number j of the counts.

@@ -17,13 +17,9 @@ fn may_pass(masks: &[u16], log: &[u8], days: &[u32], terms: &[u32], i: usize, j:
 }
 
 fn event_mask(masks: &[u16], log: &[u8], days: &[u32], terms: &[u32], i: usize) -> u16 {
-    let mut mask = 0;
-    for j in 0..log.len() {
-        if may_pass(masks, log, days, terms, i, j) {
-            mask = mask | one16(j);
-        }
-    }
-    mask
+    (0..log.len())
+        .filter(|&j| may_pass(masks, log, days, terms, i, j))
+        .fold(0, |mask, j| mask | one16(j))
 }
 
 // The masks of all events.
@@ -49,20 +45,10 @@ pub fn put_letters(log: &[u8], rows: &mut [u8], count: usize) {
 
 // Some event is in another term than the one before it.
 pub fn some_turn(days: &[u32], terms: &[u32]) -> bool {
-    for i in 1..days.len() {
-        if !in_one_term(days, terms, minus(i, 1), i) {
-            return true;
-        }
-    }
-    false
+    (1..days.len()).any(|i| !in_one_term(days, terms, minus(i, 1), i))
 }
 
 // Some event is of an earlier day than the one before it.
 pub fn some_fall(days: &[u32]) -> bool {
-    for i in 1..days.len() {
-        if value_at(days, i) < value_at(days, minus(i, 1)) {
-            return true;
-        }
-    }
-    false
+    (1..days.len()).any(|i| value_at(days, i) < value_at(days, minus(i, 1)))
 }

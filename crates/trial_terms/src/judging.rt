@@ -5,7 +5,7 @@ use crate::met::Met;
 use profile::Shape;
 use trial::answers::{is_refusal, is_unchanged, is_verdict};
 use trial::calls::{BYTES, NUMBERS, judge_in, table_part};
-use trial::cells::{Cell, copy, holds, minus, part_of, plus, untouched, value_at, wide};
+use trial::cells::{Cell, copy, holds, minus, part_of, plus, untouched, wide};
 use trial::record_numbers::{BACKWARD, FORWARD, record_at, set_of, total_of};
 use trial::tally;
 use trial::tally::Tally;
@@ -132,12 +132,7 @@ fn each_right(
     keys: &[usize],
     prefixes: usize,
 ) -> bool {
-    for r in 0..prefixes {
-        if !record_right(shape, event_masks, moves, log, table, r, keys, prefixes) {
-            return false;
-        }
-    }
-    true
+    (0..prefixes).all(|r| record_right(shape, event_masks, moves, log, table, r, keys, prefixes))
 }
 
 // The records of all prefixes, and nothing else, stand in the table that begins behind the margin.

@@ -29,12 +29,8 @@ pub fn term_of(terms: &[u32], day: u32) -> usize {
 
 // Every later term begins after term i has ended.
 fn ends_before(terms: &[u32], i: usize) -> bool {
-    for j in 0..terms.len() / 2 {
-        if (i < j) & no_later(first_of(terms, j), last_of(terms, i)) {
-            return false;
-        }
-    }
-    true
+    (0..terms.len() / 2)
+        .all(|j| (j <= i) | !no_later(first_of(terms, j), last_of(terms, i)))
 }
 
 fn term_right(terms: &[u32], i: usize) -> bool {
@@ -44,12 +40,7 @@ fn term_right(terms: &[u32], i: usize) -> bool {
 }
 
 fn each_right(terms: &[u32]) -> bool {
-    for i in 0..terms.len() / 2 {
-        if !term_right(terms, i) {
-            return false;
-        }
-    }
-    true
+    (0..terms.len() / 2).all(|i| term_right(terms, i))
 }
 
 // The terms keep the rules; a first day without a last breaks them.

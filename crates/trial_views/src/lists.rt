@@ -1,7 +1,7 @@
 // Every list of letters up to a length: its visible part, and where it leads. Document 02, Paper 12: "some list of letters, of any length, that leads the
 // profile from its start to a final state has a visible part reachable from that part".
 use profile::Shape;
-use trial::cells::{bit, byte, byte_at, one32, part_of, plus, put};
+use trial::cells::{bit, one32, part_of, plus, put, wide};
 use trial::logs::put_log_number;
 use trial_logs::listing::{earlier, list, listed};
 use trial_logs::paths::ends;
@@ -30,19 +30,14 @@ pub struct Best {
     pub letters: [u8; 8],
 }
 
-fn take_visible(visible: usize, letter: usize, out: &mut [u8], n: usize) -> usize {
-    if !bit(visible, letter) {
-        return n;
-    }
-    put(out, n, byte(letter));
-    plus(n, 1)
-}
-
 // The letters of the list that the mask has, in their order; how many they are.
 pub fn put_visible(visible: usize, letters: &[u8], out: &mut [u8]) -> usize {
     let mut n = 0;
-    for i in 0..letters.len() {
-        n = take_visible(visible, byte_at(letters, i), out, n);
+    for letter in letters {
+        if bit(visible, wide(*letter)) {
+            put(out, n, *letter);
+            n = plus(n, 1);
+        }
     }
     n
 }
@@ -83,11 +78,7 @@ fn led_by(view: View, moves: &[u32], rows: &[u8], count: usize, n: usize, v: usi
 
 // The states to which lists lead from the start that show a log of the class.
 pub fn led(view: View, moves: &[u32], rows: &[u8], count: usize, n: usize) -> u32 {
-    let mut out = 0;
-    for v in 0..view.lists {
-        out = out | led_by(view, moves, rows, count, n, v);
-    }
-    out
+    (0..view.lists).fold(0, |out, v| out | led_by(view, moves, rows, count, n, v))
 }
 
 // State q alone, where the letters lead from it to a final state.
@@ -100,11 +91,7 @@ fn beginning(shape: Shape, moves: &[u32], q: usize, word: &[u8]) -> u32 {
 }
 
 fn beginnings(shape: Shape, moves: &[u32], word: &[u8]) -> u32 {
-    let mut out = 0;
-    for q in 0..shape.s {
-        out = out | beginning(shape, moves, q, word);
-    }
-    out
+    (0..shape.s).fold(0, |out, q| out | beginning(shape, moves, q, word))
 }
 
 fn leading_by(view: View, moves: &[u32], rows: &[u8], count: usize, n: usize, v: usize) -> u32 {
@@ -120,11 +107,7 @@ fn leading_by(view: View, moves: &[u32], rows: &[u8], count: usize, n: usize, v:
 
 // The states from which lists lead to a final state that show a log of the class.
 pub fn leading(view: View, moves: &[u32], rows: &[u8], count: usize, n: usize) -> u32 {
-    let mut out = 0;
-    for v in 0..view.lists {
-        out = out | leading_by(view, moves, rows, count, n, v);
-    }
-    out
+    (0..view.lists).fold(0, |out, v| out | leading_by(view, moves, rows, count, n, v))
 }
 
 // The earlier of what was found and of the n letters.

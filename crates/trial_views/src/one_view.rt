@@ -199,12 +199,7 @@ fn compare_answer(
 
 // Each number from `from` on is 0, n of them.
 fn zero32(numbers: &[u32], from: usize, n: usize) -> bool {
-    for i in 0..n {
-        if value_at(numbers, plus(from, i)) != 0 {
-            return false;
-        }
-    }
-    true
+    (0..n).all(|i| value_at(numbers, plus(from, i)) == 0)
 }
 
 // After 10 the usable part is 0, and the rest stays.
