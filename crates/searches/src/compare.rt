@@ -59,7 +59,11 @@ fn search_part(
     let found = search::find(part_of(table, first, end), counts_of(vector));
     let number = place_in(place, first, end);
     let right = found == if present { Ok(number) } else { Err(number) };
-    let counted = tally::count_if(tally::count(t, Counted::Searches), Counted::Present, present);
+    let counted = tally::count_if(
+        tally::count(t, Counted::Searches),
+        Counted::Present,
+        present,
+    );
     tally::expect(counted, Counted::Wrong, right)
 }
 

@@ -97,8 +97,5 @@ fn main(rt: HostRuntime) -> io::Result<()> {
         t.of(Counted::Searches),
         t.of(Counted::Present)
     )?;
-    println!(rt;
-        "wrong: search {}",
-        t.of(Counted::Wrong)
-    )
+    println!(rt; "wrong: search {}", t.of(Counted::Wrong))
 }

@@ -1,5 +1,5 @@
 // Numbers from a seed, with no state: number i of a seed is mixed from the two (xorshift). Profiles and logs made of them.
-use crate::cells::{byte, one16, one32, plus, put, rest};
+use crate::cells::{byte, one16, one32, plus, put, rest, times};
 use crate::shapes::shape_of;
 use profile::Shape;
 

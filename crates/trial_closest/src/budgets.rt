@@ -86,7 +86,7 @@ fn compare_budget(
     );
     let right = told_right(answer, expected, call.lent.budget)
         & order_right(&buffer, expected, call.lent.budget, log.len())
-        & (numbers == judged)
+        & (numbers.as_slice() == judged)
         & untouched(&costs, NUMBERS, call.lent.costs);
     count_floor(expected, call.lent.budget, tally::expect(t, Met::Budget, right))
 }

@@ -4,7 +4,7 @@ use profile::Shape;
 use trial::cells::{byte, one32, part_of, plus, times, value_at, wide};
 use trial::tally;
 use trial::tally::Tally;
-use trial_grammar::meanings::{ALONE, BEGINS, ENDS, INSIDE, TYPED, describes};
+use trial_grammar::meanings::{Around, Members, describes};
 use trial_grammar::words::{is_letter, letter_at, one_if};
 
 // "may come directly after the q-th letter typed, or first for q = 0": letter r.
@@ -13,9 +13,9 @@ fn comes(k: usize, text: &[u8], q: usize, r: usize, table: &mut [usize]) -> bool
     list[0] = byte(q);
     list[1] = byte(r);
     if q == 0 {
-        describes(TYPED, k, text, part_of(&list, 1, 1), BEGINS, table)
+        describes(Members::Typed, k, text, part_of(&list, 1, 1), Around::Begins, table)
     } else {
-        describes(TYPED, k, text, &list, INSIDE, table)
+        describes(Members::Typed, k, text, &list, Around::Inside, table)
     }
 }
 
@@ -23,9 +23,9 @@ fn comes(k: usize, text: &[u8], q: usize, r: usize, table: &mut [usize]) -> bool
 fn may_end(k: usize, text: &[u8], q: usize, table: &mut [usize]) -> bool {
     let list = [byte(q); 1];
     if q == 0 {
-        describes(TYPED, k, text, part_of(&list, 0, 0), ALONE, table)
+        describes(Members::Typed, k, text, part_of(&list, 0, 0), Around::Alone, table)
     } else {
-        describes(TYPED, k, text, &list, ENDS, table)
+        describes(Members::Typed, k, text, &list, Around::Ends, table)
     }
 }
 

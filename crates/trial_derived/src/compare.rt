@@ -61,7 +61,7 @@ fn records_right(masks: &[u16], log: &[u8], table: &[u32], prefixes: usize) -> b
         && listed == prefixes
 }
 
-fn told_right(told: &[u64; 4], verdict: usize, prefixes: usize, looks: usize) -> bool {
+fn told_right(told: &[u64; 4], verdict: bool, prefixes: usize, looks: usize) -> bool {
     (told[0] == 0)
         & (told[1] == (verdict as u64))
         & (told[2] == (prefixes as u64))
@@ -74,30 +74,22 @@ fn order_right(
     rows: &[u8],
     count: usize,
     n: usize,
-    verdict: usize,
+    verdict: bool,
     buffer: &[u8],
 ) -> bool {
-    if verdict == 0 {
+    if !verdict {
         return untouched(buffer, 0, 0);
     }
     let order = part_of(buffer, BYTES, n);
     untouched(buffer, BYTES, n) & listed(rows, count, order) & derived(rules, order)
 }
 
-fn verdict_of(derivable: usize) -> usize {
-    if 0 < derivable { 1 } else { 0 }
-}
-
 fn count_case(masks: &[u16], count: usize, derivable: usize, prefixes: usize, t: Tally) -> Tally {
     let a = tally::count_many(tally::count(t, Counted::Cases), Counted::Reachable, count);
     let b = tally::count_many(a, Counted::Derivable, derivable);
     let c = tally::count_many(b, Counted::Records, prefixes);
-    let d = tally::count_many(c, Counted::Accepted, verdict_of(derivable));
-    if one_way(masks) {
-        tally::count(d, Counted::OneWay)
-    } else {
-        d
-    }
+    let d = tally::count_if(c, Counted::Accepted, 0 < derivable);
+    tally::count_if(d, Counted::OneWay, one_way(masks))
 }
 
 // What the call must be lent, and `extra` more.
@@ -124,7 +116,7 @@ fn compare_answer(
     masks: &[u16],
     rules: &[u16],
     log: &[u8],
-    number: u32,
+    number: Option<u32>,
     told: &[u64; 4],
     buffer: &[u8],
     prefixes: usize,
@@ -134,8 +126,8 @@ fn compare_answer(
     let n = log.len();
     let count = list(masks, log, &mut rows);
     let derivable = derived_rows(rules, &rows, count, n);
-    let verdict = verdict_of(derivable);
-    let answered = (number == 0)
+    let verdict = 0 < derivable;
+    let answered = (number == Some(0))
         & (0 < count)
         & told_right(told, verdict, prefixes, look_count(masks, log));
     let ordered = order_right(rules, &rows, count, n, verdict, buffer);

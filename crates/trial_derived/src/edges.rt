@@ -51,7 +51,7 @@ fn edge(t: Tally, right: bool) -> Tally {
 }
 
 // The number that a case is refused by, with a log of its own.
-fn number_of(case: Case, log: &[u8]) -> u32 {
+fn number_of(case: Case, log: &[u8]) -> Option<u32> {
     let mut buffer = [u8::GUARD; 24];
     let mut numbers = [u32::GUARD; 700];
     let mut sets = [u16::GUARD; 4128];
@@ -73,7 +73,7 @@ fn number_of(case: Case, log: &[u8]) -> u32 {
 // 4,000 letters pass 7: the next that applies is 9.
 fn longest(t: Tally) -> Tally {
     let log = [0u8; 4000];
-    edge(t, number_of(nested_case(), &log) == 9)
+    edge(t, number_of(nested_case(), &log) == Some(9))
 }
 
 // A case with so many names and rules, all of the rule 0: name 0 gives letter 0.
@@ -87,7 +87,7 @@ fn limited(names: usize, many: usize) -> Case {
 
 fn limit(names: usize, many: usize, number: u32, t: Tally) -> Tally {
     let log = [0u8; 1];
-    edge(t, number_of(limited(names, many), &log) == number)
+    edge(t, number_of(limited(names, many), &log) == Some(number))
 }
 
 // One rule, with k letters and some names.
@@ -97,7 +97,7 @@ fn one_rule(k: usize, names: usize, rule: u16, number: u32, t: Tally) -> Tally {
     c.k = k;
     c.letters = k;
     c.rules[0] = rule;
-    edge(t, number_of(c, &log) == number)
+    edge(t, number_of(c, &log) == Some(number))
 }
 
 // 1 to 16 names and up to 64 rules.

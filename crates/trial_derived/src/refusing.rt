@@ -198,7 +198,7 @@ fn compare_call(
         &mut sets,
         &mut told,
     );
-    let right = (number == number_of(defect))
+    let right = (number == Some(number_of(defect)))
         & place_right(&told, defect, place)
         & untouched(&buffer, 0, 0)
         & untouched(&sets, 0, 0)

@@ -3,11 +3,19 @@
 use crate::words::{is_letter, one, when};
 use trial::cells::{bit, byte_at, minus, plus, put, value_at};
 
-// A set of logs: bit v is log number v of those of up to four letters a and b.
-pub const LOGS: usize = 0;
+// A set of logs: bit v is log number v of those of up to four letters a and b. Or a set of paths: bit 8 p + q says that the part leads from node p to node q.
+#[derive(Clone, Copy, PartialEq, Eq)]
+pub enum Kind {
+    Logs,
+    Paths,
+}
 
-// A set of paths: bit 8 p + q says that the part leads from node p to node q.
-pub const PATHS: usize = 1;
+#[derive(Clone, Copy)]
+enum Level {
+    Factor,
+    Sequence,
+    Expression,
+}
 
 // The mark of a meaning. No path leads back, from node 7 to node 0.
 pub const PART: usize = 72057594037927936;
@@ -15,20 +23,14 @@ pub const PART: usize = 72057594037927936;
 // Every node leads to itself by nothing.
 const NOTHING: usize = 9241421688590303745;
 
-const FACTOR: usize = 0;
-
-const SEQUENCE: usize = 1;
-
-const EXPRESSION: usize = 2;
-
 // Where the meaning of the part from i to j stands; i and j are below 64.
-fn cell(level: usize, i: usize, j: usize) -> usize {
-    (level << 12) | (i << 6) | j
+fn cell(level: Level, i: usize, j: usize) -> usize {
+    ((level as usize) << 12) | (i << 6) | j
 }
 
 pub const CELLS: usize = 12288;
 
-fn meaning(table: &[usize], level: usize, i: usize, j: usize) -> usize {
+fn meaning(table: &[usize], level: Level, i: usize, j: usize) -> usize {
     value_at(table, cell(level, i, j))
 }
 
@@ -95,11 +97,11 @@ fn paths_follow(x: usize, y: usize) -> usize {
 }
 
 // One after the other.
-fn follow(kind: usize, x: usize, y: usize) -> usize {
+fn follow(kind: Kind, x: usize, y: usize) -> usize {
     if !(is_part(x) & is_part(y)) {
         return 0;
     }
-    if kind == LOGS {
+    if kind == Kind::Logs {
         PART | logs_follow(plain(x), plain(y))
     } else {
         PART | paths_follow(plain(x), plain(y))
@@ -115,11 +117,11 @@ fn either(x: usize, y: usize) -> usize {
 const ROUNDS: usize = 8;
 
 // "repeats what it follows zero or more times".
-fn repeated(kind: usize, x: usize) -> usize {
+fn repeated(kind: Kind, x: usize) -> usize {
     if !is_part(x) {
         return 0;
     }
-    let alone = if kind == LOGS { 1 } else { NOTHING };
+    let alone = if kind == Kind::Logs { 1 } else { NOTHING };
     (0..ROUNDS).fold(PART | alone, |all, _| all | follow(kind, x, all))
 }
 
@@ -136,28 +138,28 @@ fn bracket_factor(text: &[u8], table: &[usize], i: usize, j: usize) -> usize {
     let last = minus(j, 1);
     when(
         (byte_at(text, i) == 40) & (byte_at(text, last) == 41),
-        meaning(table, EXPRESSION, plus(i, 1), last),
+        meaning(table, Level::Expression, plus(i, 1), last),
     )
 }
 
 // A factor and `*`.
-fn star_factor(kind: usize, text: &[u8], table: &[usize], i: usize, j: usize) -> usize {
+fn star_factor(kind: Kind, text: &[u8], table: &[usize], i: usize, j: usize) -> usize {
     let last = minus(j, 1);
     if byte_at(text, last) != 42 {
         return 0;
     }
-    repeated(kind, meaning(table, FACTOR, i, last))
+    repeated(kind, meaning(table, Level::Factor, i, last))
 }
 
 // A factor, and a factor and a sequence, split at every place.
-fn sequence_of(kind: usize, table: &[usize], i: usize, j: usize) -> usize {
-    let mut all = meaning(table, FACTOR, i, j);
+fn sequence_of(kind: Kind, table: &[usize], i: usize, j: usize) -> usize {
+    let mut all = meaning(table, Level::Factor, i, j);
     for m in i..j {
         all = all
             | follow(
                 kind,
-                meaning(table, FACTOR, i, m),
-                meaning(table, SEQUENCE, m, j),
+                meaning(table, Level::Factor, i, m),
+                meaning(table, Level::Sequence, m, j),
             );
     }
     all
@@ -165,13 +167,13 @@ fn sequence_of(kind: usize, table: &[usize], i: usize, j: usize) -> usize {
 
 // A sequence, and a sequence, `|` and an expression, split at every place.
 fn expression_of(text: &[u8], table: &[usize], i: usize, j: usize) -> usize {
-    let mut all = meaning(table, SEQUENCE, i, j);
+    let mut all = meaning(table, Level::Sequence, i, j);
     for m in i..j {
         if byte_at(text, m) == 124 {
             all = all
                 | either(
-                    meaning(table, SEQUENCE, i, m),
-                    meaning(table, EXPRESSION, plus(m, 1), j),
+                    meaning(table, Level::Sequence, i, m),
+                    meaning(table, Level::Expression, plus(m, 1), j),
                 );
         }
     }
@@ -180,7 +182,7 @@ fn expression_of(text: &[u8], table: &[usize], i: usize, j: usize) -> usize {
 
 // Writes the meanings of the part from i to j, where those of the shorter parts stand.
 fn put_part(
-    kind: usize,
+    kind: Kind,
     k: usize,
     text: &[u8],
     letters: &[usize],
@@ -191,15 +193,15 @@ fn put_part(
     let factor = letter_factor(k, text, letters, i, j)
         | bracket_factor(text, table, i, j)
         | star_factor(kind, text, table, i, j);
-    put(table, cell(FACTOR, i, j), factor);
+    put(table, cell(Level::Factor, i, j), factor);
     let sequence = sequence_of(kind, table, i, j);
-    put(table, cell(SEQUENCE, i, j), sequence);
+    put(table, cell(Level::Sequence, i, j), sequence);
     let expression = expression_of(text, table, i, j);
-    put(table, cell(EXPRESSION, i, j), expression);
+    put(table, cell(Level::Expression, i, j), expression);
 }
 
 // The parts of n bytes.
-fn put_parts(kind: usize, k: usize, text: &[u8], letters: &[usize], n: usize, table: &mut [usize]) {
+fn put_parts(kind: Kind, k: usize, text: &[u8], letters: &[usize], n: usize, table: &mut [usize]) {
     for i in 0..minus(plus(text.len(), 1), n) {
         put_part(kind, k, text, letters, i, plus(i, n), table);
     }
@@ -207,7 +209,7 @@ fn put_parts(kind: usize, k: usize, text: &[u8], letters: &[usize], n: usize, ta
 
 // What the whole text means, of up to 63 bytes; `letters` has the meaning of the letter at each place. The table may have been used before, with other texts.
 pub fn meaning_of(
-    kind: usize,
+    kind: Kind,
     k: usize,
     text: &[u8],
     letters: &[usize],
@@ -216,5 +218,5 @@ pub fn meaning_of(
     for n in 0..text.len() {
         put_parts(kind, k, text, letters, plus(n, 1), table);
     }
-    meaning(table, EXPRESSION, 0, text.len())
+    meaning(table, Level::Expression, 0, text.len())
 }

@@ -124,7 +124,10 @@ pub fn compare_build(
     let answer = build_in(shape, masks, moves, log, size, &mut numbers);
     let right = table_right(shape, masks, moves, log, answer, None, prefixes, &numbers);
     let counted = tally::count_many(t, Counted::Records, prefixes);
-    tally::count(tally::expect(counted, Counted::Table, right), Counted::Tables)
+    tally::count(
+        tally::expect(counted, Counted::Table, right),
+        Counted::Tables,
+    )
 }
 
 // The order buffer is the guard but for the expected order, which stands at the lent part's start; with verdict 0 it is the guard.
@@ -139,7 +142,11 @@ fn order_right(buffer: &[u8], verdict: bool, order: &[u8]) -> bool {
 // Counts a judged log; a listing that did not fit has no rows and is wrong.
 fn count_judged(t: Tally, right: bool, verdict: bool, count: usize) -> Tally {
     let judged = tally::expect(t, Counted::Judge, right & (0 < count));
-    let accepted = tally::count_if(tally::count(judged, Counted::Logs), Counted::Accepted, verdict);
+    let accepted = tally::count_if(
+        tally::count(judged, Counted::Logs),
+        Counted::Accepted,
+        verdict,
+    );
     tally::count_many(accepted, Counted::Reachable, count)
 }
 
@@ -172,7 +179,14 @@ pub fn compare_judge(
         &mut numbers,
     );
     let right = table_right(
-        shape, masks, moves, log, answer, Some(verdict), prefixes, &numbers,
+        shape,
+        masks,
+        moves,
+        log,
+        answer,
+        Some(verdict),
+        prefixes,
+        &numbers,
     ) & order_right(&buffer, verdict, row(&rows, best, n));
     count_judged(t, right, verdict, count)
 }

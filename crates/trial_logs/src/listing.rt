@@ -1,6 +1,6 @@
 // The listing of the logs reachable from a log: exchanges of neighbouring letters, tried on every listed log until nothing new appears; and of the logs
 // from which it is reachable. A listed log is a row of eight bytes; the mask test is this crate's own.
-use trial::cells::{bit, byte, byte_at, copy, one16, part_of, plus, put, value_at};
+use trial::cells::{bit, byte, byte_at, copy, minus, one16, part_of, plus, put, value_at};
 
 // Rows of a listing, the last of which is left for an exchange that is tried.
 pub const MOST: usize = 2048;

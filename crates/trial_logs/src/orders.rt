@@ -78,7 +78,10 @@ fn compare_first(
     let mut buffer = [u8::GUARD; 32];
     let answer = first_order_in(k, masks, log, room, &mut buffer);
     let right = is_told(answer, None, 0, 0) & holds(&buffer, BYTES, order);
-    let counted = tally::count(tally::expect(t, Counted::First, right), Counted::FirstOrders);
+    let counted = tally::count(
+        tally::expect(t, Counted::First, right),
+        Counted::FirstOrders,
+    );
     if (log == order) {
         counted
     } else {

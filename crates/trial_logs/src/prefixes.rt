@@ -36,7 +36,9 @@ pub fn is_prefix(masks: &[u16], log: &[u8], marks: usize) -> bool {
 
 // P, by trying every set of marks.
 pub fn prefix_count(masks: &[u16], log: &[u8]) -> usize {
-    (0..256).filter(|&marks| is_prefix(masks, log, marks)).count()
+    (0..256)
+        .filter(|&marks| is_prefix(masks, log, marks))
+        .count()
 }
 
 // The letters of which one can be added to the marks. Only a letter's first unmarked event can be marked beside them, so it stands for its letter.

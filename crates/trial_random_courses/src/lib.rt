@@ -16,7 +16,7 @@ use trial_courses::counters;
 use trial_courses::counters::Counted;
 use trial_courses::moves::compare_moves;
 use trial_grammar::grammar::{is_right, place_of};
-use trial_grammar::meanings::{ALONE, BEGINS, LETTERS, describes};
+use trial_grammar::meanings::{Around, Members, describes};
 use trial_grammar::parts::CELLS;
 use trial_grammar::words::{letter_at, letter_count};
 
@@ -31,7 +31,7 @@ fn compare_log(
 ) -> Tally {
     let k = shape.k;
     let masks = [0u16; 16];
-    let described = describes(LETTERS, k, text, log, ALONE, table);
+    let described = describes(Members::Letters, k, text, log, Around::Alone, table);
     let verdict = verdict_of(shape, part_of(&masks, 0, k), moves, log);
     counters::judged(t, Counted::RandomLogs, Counted::DescribedRandomLogs, described, verdict)
 }
@@ -40,7 +40,7 @@ fn compare_log(
 fn grow(seed: usize, k: usize, text: &[u8], i: usize, log: &mut [u8], table: &mut [usize]) -> bool {
     for x in 0..6 {
         put(log, i, byte(letter_at(k, text, below(seed, x, text.len()))));
-        if describes(LETTERS, k, text, part_of(log, 0, plus(i, 1)), BEGINS, table) {
+        if describes(Members::Letters, k, text, part_of(log, 0, plus(i, 1)), Around::Begins, table) {
             return true;
         }
     }
@@ -59,7 +59,7 @@ fn is_grown(
     if i < least {
         return false;
     }
-    describes(LETTERS, k, text, part_of(log, 0, i), ALONE, table)
+    describes(Members::Letters, k, text, part_of(log, 0, i), Around::Alone, table)
 }
 
 // Writes a log that begins as a described one, letter by letter, and tells its length: `least` or more, where it is described, if that is found.

@@ -47,11 +47,11 @@ pub fn put_numbers(seed: usize, size: usize, numbers: &mut [u32]) {
 }
 
 // The answer is the refusal that the record alone gives; else it is none, or 10 of an event.
-fn answered(number: u32, early: u32, event: bool) -> bool {
+fn answered(number: Option<u32>, early: u32, event: bool) -> bool {
     if early != 0 {
-        return number == early;
+        return number == Some(early);
     }
-    (number == 0) | (event & (number == 10))
+    (number == Some(0)) | (event & (number == Some(10)))
 }
 
 fn early(shape: Shape, letter: u8, held: &[u64; 2], size: usize) -> u32 {

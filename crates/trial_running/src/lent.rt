@@ -1,17 +1,7 @@
-// The calls of the running judge on a lent part of a guarded buffer, as numbers: 99 where the buffer is too small for the part.
+// The calls of the running judge on a lent part of a guarded buffer, each with its number; none where the buffer is too small for the part.
 use profile::Shape;
-use trial::calls::NUMBERS;
-
-const NO_CALL: u32 = 99;
-
-// Where a part of `size` numbers ends; 0 where the buffer is too small for it.
-fn end_of(numbers: &[u32], size: usize) -> usize {
-    if 1000000 < size {
-        return 0;
-    }
-    let end = NUMBERS + size;
-    if numbers.len() < end { 0 } else { end }
-}
+use trial::calls::{NUMBERS, lent};
+use trial::cells::part_of;
 
 pub fn start_in(
     shape: Shape,
@@ -21,15 +11,9 @@ pub fn start_in(
     size: usize,
     numbers: &mut [u32],
     told: &mut [u64; 1],
-) -> u32 {
-    let end = end_of(numbers, size);
-    if end < NUMBERS {
-        return NO_CALL;
-    }
-    if numbers.len() < end {
-        return NO_CALL;
-    }
-    calls::start(shape, masks, moves, held, &mut numbers[8..end], told)
+) -> Option<u32> {
+    let table = lent(numbers, NUMBERS, size)?;
+    Some(calls::start(shape, masks, moves, held, table, told))
 }
 
 pub fn event_in(
@@ -41,23 +25,11 @@ pub fn event_in(
     size: usize,
     numbers: &mut [u32],
     told: &mut [u64; 1],
-) -> u32 {
-    let end = end_of(numbers, size);
-    if end < NUMBERS {
-        return NO_CALL;
-    }
-    if numbers.len() < end {
-        return NO_CALL;
-    }
-    calls::event(
-        shape,
-        masks,
-        moves,
-        letter,
-        held,
-        &mut numbers[8..end],
-        told,
-    )
+) -> Option<u32> {
+    let table = lent(numbers, NUMBERS, size)?;
+    Some(calls::event(
+        shape, masks, moves, letter, held, table, told,
+    ))
 }
 
 pub fn question_in(
@@ -68,13 +40,10 @@ pub fn question_in(
     size: usize,
     numbers: &[u32],
     told: &mut [u64; 4],
-) -> u32 {
-    let end = end_of(numbers, size);
-    if end < NUMBERS {
-        return NO_CALL;
+) -> Option<u32> {
+    let table = part_of(numbers, NUMBERS, size);
+    if table.len() < size {
+        return None;
     }
-    if numbers.len() < end {
-        return NO_CALL;
-    }
-    calls::question(shape, masks, moves, held, &numbers[8..end], told)
+    Some(calls::question(shape, masks, moves, held, table, told))
 }

@@ -113,19 +113,15 @@ fn ask(
     let mut told = [99u64; 4];
     let letters = run.log;
     let log = part_of(&letters, 0, run.taken);
-    let verdict = if accepted(shape, masks, moves, log) {
-        1u64
-    } else {
-        0u64
-    };
+    let verdict = accepted(shape, masks, moves, log);
     let number = question_in(shape, masks, moves, held, run.size, numbers, &mut told);
-    let right = (number == 0)
+    let right = (number == Some(0))
         & (told[0] == 0)
-        & (told[1] == verdict)
+        & (told[1] == (verdict as u64))
         & (told[2] == (prefix_count(masks, log) as u64))
         & (told[3] == (run.taken as u64));
     let mut u = counted(expected(run, Counted::Question, right), Counted::Questions);
-    u.tally = tally::count_many(u.tally, Counted::Accepted, verdict as usize);
+    u.tally = tally::count_if(u.tally, Counted::Accepted, verdict);
     u
 }
 
@@ -176,7 +172,7 @@ fn give(
     let number = event_in(
         shape, masks, moves, letter, held, run.size, numbers, &mut told,
     );
-    let right = (number == refused) & (told[0] == place);
+    let right = (number == Some(refused)) & (told[0] == place);
     let u = expected(noted(run, after, refused), Counted::Event, right);
     compare_judge(shape, masks, moves, u)
 }
@@ -235,10 +231,10 @@ pub fn compare_run(
     let mut told = [99u64; 1];
     let number = start_in(shape, masks, moves, &mut held, run.size, numbers, &mut told);
     if room(run.size) < 1 {
-        let right = (number == 10) & (told[0] == 0) & holds(&held, 77, 88);
+        let right = (number == Some(10)) & (told[0] == 0) & holds(&held, 77, 88);
         return counted(expected(run, Counted::Start, right), Counted::RefusedStarts);
     }
-    let begun = expected(run, Counted::Start, (number == 0) & (told[0] == 0));
+    let begun = expected(run, Counted::Start, (number == Some(0)) & (told[0] == 0));
     let left = compare_left(shape, masks, moves, &held, numbers, begun);
     compare_calls(shape, masks, moves, seed, many, &mut held, numbers, left)
 }

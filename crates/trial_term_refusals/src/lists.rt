@@ -7,7 +7,7 @@ use trial::tally::Tally;
 use trial_terms::calendar::later;
 use trial_terms::dated::{put_days, put_terms};
 use trial_terms::met::Met;
-use trial_terms::spans::{NO_TERM, term_of, terms_right};
+use trial_terms::spans::{term_of, terms_right};
 
 // What stands in the place of number i of the list: a day later, two later, the number of another place, or no date.
 fn changed(seed: usize, n: usize, terms: &[u32], i: usize) -> u32 {
@@ -67,7 +67,7 @@ fn one_list(seed: usize, t: Tally) -> Tally {
 // All days but one are in terms, or all are: 16 or no refusal.
 fn try_outside(terms: &[u32], days: &[u32], day: u32, t: Tally) -> Tally {
     let log = [0u8; 3];
-    let number = if term_of(terms, day) == NO_TERM {
+    let number = if term_of(terms, day).is_none() {
         16
     } else {
         0

@@ -15,16 +15,9 @@ fn has_day(terms: &[u32], i: usize, day: u32) -> bool {
     no_later(first_of(terms, i), day) & no_later(day, last_of(terms, i))
 }
 
-pub const NO_TERM: usize = 99;
-
 // The term that the day is in.
-pub fn term_of(terms: &[u32], day: u32) -> usize {
-    for i in 0..terms.len() / 2 {
-        if has_day(terms, i, day) {
-            return i;
-        }
-    }
-    NO_TERM
+pub fn term_of(terms: &[u32], day: u32) -> Option<usize> {
+    (0..terms.len() / 2).find(|&i| has_day(terms, i, day))
 }
 
 // Every later term begins after term i has ended.
