@@ -7,6 +7,7 @@ ghost use Rattle.swaps.specs.Closest.{after, smaller, sorted};
 ghost use Rattle.costcells.specs.Cells.{Least, at_most, none_cost, pair_costs};
 
 // There is no way.
+// Kept: the cells are 32-bit numbers of a table that the caller lends, so that there is no way has to be one of them.
 pub const NONE: u32 = 4294967295;
 
 // A cost and what is added to it; none where there is none, or where the sum is too large.
