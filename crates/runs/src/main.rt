@@ -91,10 +91,7 @@ fn main(rt: HostRuntime) -> io::Result<()> {
         t.of(Counted::Accepted),
         t.of(Counted::Records)
     )?;
-    println!(rt;
-        "record or table not as left: {}",
-        t.of(Counted::Damaged)
-    )?;
+    println!(rt; "record or table not as left: {}", t.of(Counted::Damaged))?;
     println!(rt;
         "wrong: start {}, event {}, question {}, table {}, judge {}, listing {}, not as left {}",
         t.of(Counted::Start),

@@ -176,10 +176,7 @@ fn print(rt: &impl Print, t: Tally) -> io::Result<()> {
         t.of(Met::NotAsMany),
         t.of(Met::Outside)
     )?;
-    println!(rt;
-        "refusals combined {}",
-        t.of(Met::Combined)
-    )?;
+    println!(rt; "refusals combined {}", t.of(Met::Combined))?;
     println!(rt;
         "wrong: judge {}, one term {}, short buffer {}, number {}, list {}, length or day in no term {}, combined {}",
         t.of(Met::Judge),

@@ -52,11 +52,17 @@ pub fn compare_groups(
     let counted = tally::count(t, Counted::Calls);
     if wrong_groups(k, masks, groups) {
         let right = tells(k, masks, log, groups, 18, 0, 0);
-        return tally::count(tally::expect(counted, Counted::Answer, right), Counted::BadGroups);
+        return tally::count(
+            tally::expect(counted, Counted::Answer, right),
+            Counted::BadGroups,
+        );
     }
     let ceiling = product_of(log, groups);
     let right = tells(k, masks, log, groups, 0, 0, ceiling as u64);
-    let told = tally::count(tally::expect(counted, Counted::Answer, right), Counted::Told);
+    let told = tally::count(
+        tally::expect(counted, Counted::Answer, right),
+        Counted::Told,
+    );
     let within = tally::expect(told, Counted::Exceeded, prefixes <= ceiling);
     if prefixes == ceiling {
         tally::count(within, Counted::Met)

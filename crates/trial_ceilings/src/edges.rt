@@ -27,14 +27,26 @@ fn compare_numbers(t: Tally) -> Tally {
     let singles = SINGLES;
     let log = [3u8, 0, 15];
     let none = edge(t, tells(16, &masks, &log, part_of(&groups, 0, 0), 18, 0, 0));
-    let one = edge(none, tells(16, &masks, &log, part_of(&groups, 0, 1), 0, 0, 4));
-    let two = edge(one, tells(16, &masks, &log, part_of(&groups, 0, 2), 0, 0, 16));
+    let one = edge(
+        none,
+        tells(16, &masks, &log, part_of(&groups, 0, 1), 0, 0, 4),
+    );
+    let two = edge(
+        one,
+        tells(16, &masks, &log, part_of(&groups, 0, 2), 0, 0, 16),
+    );
     let most = edge(
         two,
         tells(16, &masks, &log, part_of(&groups, 0, 15), 0, 0, 1073741824),
     );
-    let high = edge(most, tells(16, &masks, &log, part_of(&groups, 0, 16), 19, 0, 0));
-    let seventeen = edge(high, tells(16, &masks, &log, part_of(&groups, 0, 17), 18, 0, 0));
+    let high = edge(
+        most,
+        tells(16, &masks, &log, part_of(&groups, 0, 16), 19, 0, 0),
+    );
+    let seventeen = edge(
+        high,
+        tells(16, &masks, &log, part_of(&groups, 0, 17), 18, 0, 0),
+    );
     let right = edge(seventeen, tells(16, &masks, &log, &singles, 0, 0, 8));
     edge(
         right,
@@ -148,7 +160,10 @@ fn compare_combination(which: usize, t: Tally) -> Tally {
         place as u64,
         ceiling as u64,
     );
-    tally::count(tally::expect(t, Counted::Combination, right), Counted::Combined)
+    tally::count(
+        tally::expect(t, Counted::Combination, right),
+        Counted::Combined,
+    )
 }
 
 pub fn compare_combinations(t: Tally) -> Tally {

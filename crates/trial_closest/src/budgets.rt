@@ -88,7 +88,11 @@ fn compare_budget(
         & order_right(&buffer, expected, call.lent.budget, log.len())
         & (numbers.as_slice() == judged)
         & untouched(&costs, NUMBERS, call.lent.costs);
-    count_floor(expected, call.lent.budget, tally::expect(t, Met::Budget, right))
+    count_floor(
+        expected,
+        call.lent.budget,
+        tally::expect(t, Met::Budget, right),
+    )
 }
 
 fn with_budget(call: Call, budget: u64) -> Call {

@@ -108,12 +108,60 @@ fn compare_bbaa(t: Tally) -> Tally {
     let moves = [2u32, 0, 0, 1];
     let log = [1u8, 1, 0, 0];
     let order = [0u8, 1, 0, 1];
-    let a = compare(alt(), &moves, &log, 0, case_of(true, 9, 12, 3, 0), &order, t);
-    let b = compare(alt(), &moves, &log, 1, case_of(true, 9, 12, 3, 2), &order, a);
-    let c = compare(alt(), &moves, &log, 2, case_of(true, 9, 12, 3, 2), &order, b);
-    let d = compare(alt(), &moves, &log, 3, case_of(true, 9, 12, 3, 3), &order, c);
-    let e = compare(alt(), &moves, &log, 4, case_of(true, 9, 12, 3, 3), &order, d);
-    compare(alt(), &moves, &log, 5, case_of(true, 9, 12, 3, 3), &order, e)
+    let a = compare(
+        alt(),
+        &moves,
+        &log,
+        0,
+        case_of(true, 9, 12, 3, 0),
+        &order,
+        t,
+    );
+    let b = compare(
+        alt(),
+        &moves,
+        &log,
+        1,
+        case_of(true, 9, 12, 3, 2),
+        &order,
+        a,
+    );
+    let c = compare(
+        alt(),
+        &moves,
+        &log,
+        2,
+        case_of(true, 9, 12, 3, 2),
+        &order,
+        b,
+    );
+    let d = compare(
+        alt(),
+        &moves,
+        &log,
+        3,
+        case_of(true, 9, 12, 3, 3),
+        &order,
+        c,
+    );
+    let e = compare(
+        alt(),
+        &moves,
+        &log,
+        4,
+        case_of(true, 9, 12, 3, 3),
+        &order,
+        d,
+    );
+    compare(
+        alt(),
+        &moves,
+        &log,
+        5,
+        case_of(true, 9, 12, 3, 3),
+        &order,
+        e,
+    )
 }
 
 // One state that accepts everything, on ba: the empty prefix, b and ab at 0 swaps, a at 1. With three pairs the order is the judge's.
@@ -133,8 +181,24 @@ fn compare_none(t: Tally) -> Tally {
     let moves = [2u32, 0, 0, 1];
     let log = [1u8, 0, 1];
     let nothing = part_of(&log, 0, 0);
-    let a = compare(alt(), &moves, &log, 0, case_of(false, 6, 7, 0, 0), nothing, t);
-    let b = compare(alt(), &moves, &log, 99, case_of(false, 6, 7, 0, 0), nothing, a);
+    let a = compare(
+        alt(),
+        &moves,
+        &log,
+        0,
+        case_of(false, 6, 7, 0, 0),
+        nothing,
+        t,
+    );
+    let b = compare(
+        alt(),
+        &moves,
+        &log,
+        99,
+        case_of(false, 6, 7, 0, 0),
+        nothing,
+        a,
+    );
     let c = compare(
         alt(),
         &moves,
@@ -254,7 +318,16 @@ fn compare_apart(t: Tally) -> Tally {
         &judged,
         t,
     );
-    let b = compare_dated(any, &moves, &log, two, 7, case_of(true, 7, 8, 0, 0), &log, a);
+    let b = compare_dated(
+        any,
+        &moves,
+        &log,
+        two,
+        7,
+        case_of(true, 7, 8, 0, 0),
+        &log,
+        a,
+    );
     compare_dated(
         any,
         &moves,

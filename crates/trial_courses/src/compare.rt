@@ -4,12 +4,11 @@ use crate::counters;
 use crate::counters::Counted;
 use crate::moves::compare_moves;
 use profile::Shape;
-use trial::answers;
 use trial::calls::{judge_in, table_part};
 use trial::cells::{Cell, bit, minus, part_of, plus, times};
 use trial::logs::put_log_number;
-use trial::tally;
 use trial::tally::{Counter, Tally};
+use trial::{answers, tally};
 use trial_grammar::grammar::{is_right, place_of};
 use trial_grammar::meanings::described_logs;
 use trial_grammar::parts::is_part;
@@ -56,7 +55,13 @@ fn compare_pair(shape: Shape, moves: &[u32], log: &[u8], described: bool, t: Tal
     masks[0] = 2;
     masks[1] = 1;
     let verdict = verdict_of(shape, part_of(&masks, 0, shape.k), moves, log);
-    counters::judged(t, Counted::PairLogs, Counted::DescribedPairLogs, described, verdict)
+    counters::judged(
+        t,
+        Counted::PairLogs,
+        Counted::DescribedPairLogs,
+        described,
+        verdict,
+    )
 }
 
 // Log number v, where its letters are below k; `set` has the described logs.

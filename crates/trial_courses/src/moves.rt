@@ -13,7 +13,14 @@ fn comes(k: usize, text: &[u8], q: usize, r: usize, table: &mut [usize]) -> bool
     list[0] = byte(q);
     list[1] = byte(r);
     if q == 0 {
-        describes(Members::Typed, k, text, part_of(&list, 1, 1), Around::Begins, table)
+        describes(
+            Members::Typed,
+            k,
+            text,
+            part_of(&list, 1, 1),
+            Around::Begins,
+            table,
+        )
     } else {
         describes(Members::Typed, k, text, &list, Around::Inside, table)
     }
@@ -23,7 +30,14 @@ fn comes(k: usize, text: &[u8], q: usize, r: usize, table: &mut [usize]) -> bool
 fn may_end(k: usize, text: &[u8], q: usize, table: &mut [usize]) -> bool {
     let list = [byte(q); 1];
     if q == 0 {
-        describes(Members::Typed, k, text, part_of(&list, 0, 0), Around::Alone, table)
+        describes(
+            Members::Typed,
+            k,
+            text,
+            part_of(&list, 0, 0),
+            Around::Alone,
+            table,
+        )
     } else {
         describes(Members::Typed, k, text, &list, Around::Ends, table)
     }

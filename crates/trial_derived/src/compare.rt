@@ -57,8 +57,7 @@ fn record_right(
 fn records_right(masks: &[u16], log: &[u8], table: &[u32], prefixes: usize) -> bool {
     let mut keys = [0usize; 256];
     let listed = put_keys(masks, log, &mut keys);
-    (0..prefixes).all(|r| record_right(masks, log, table, r, &keys, prefixes))
-        && listed == prefixes
+    (0..prefixes).all(|r| record_right(masks, log, table, r, &keys, prefixes)) && listed == prefixes
 }
 
 fn told_right(told: &[u64; 4], verdict: bool, prefixes: usize, looks: usize) -> bool {
@@ -97,7 +96,10 @@ pub fn with_room(case: Case, extra: usize) -> Case {
     let mut c = case;
     let masks = case.masks;
     let log = case.log;
-    let prefixes = prefix_count(part_of(&masks, 0, case.letters), part_of(&log, 0, case.events));
+    let prefixes = prefix_count(
+        part_of(&masks, 0, case.letters),
+        part_of(&log, 0, case.events),
+    );
     c.room = plus(case.events, extra % 3);
     c.size = plus(record_at(prefixes), extra % 12);
     c.sets = plus(times(prefixes, prefixes), extra % 5);
@@ -131,7 +133,11 @@ fn compare_answer(
         & (0 < count)
         & told_right(told, verdict, prefixes, look_count(masks, log));
     let ordered = order_right(rules, &rows, count, n, verdict, buffer);
-    let u = tally::expect(tally::expect(t, Counted::Verdict, answered), Counted::Order, ordered);
+    let u = tally::expect(
+        tally::expect(t, Counted::Verdict, answered),
+        Counted::Order,
+        ordered,
+    );
     count_case(masks, count, derivable, prefixes, u)
 }
 

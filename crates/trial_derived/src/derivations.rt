@@ -84,5 +84,7 @@ pub fn derived(rules: &[u16], log: &[u8]) -> bool {
 
 // How many of the listed logs can be derived.
 pub fn derived_rows(rules: &[u16], rows: &[u8], count: usize, n: usize) -> usize {
-    (0..count).filter(|&r| derived(rules, row(rows, r, n))).count()
+    (0..count)
+        .filter(|&r| derived(rules, row(rows, r, n)))
+        .count()
 }

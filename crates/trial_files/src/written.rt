@@ -62,9 +62,6 @@ pub fn file_byte(shape: Shape, masks: &[u16], moves: &[u32], log: &[u8], i: usiz
 
 // The file has these bytes.
 pub fn bytes_right(shape: Shape, masks: &[u16], moves: &[u32], log: &[u8], file: &[u8]) -> bool {
-    file
-        .iter()
-        .enumerate()
-        .all(|(i, x)| wide(*x) == file_byte(shape, masks, moves, log, i))
+    file.iter().enumerate().all(|(i, x)| wide(*x) == file_byte(shape, masks, moves, log, i))
         && file.len() == file_size(shape, log.len())
 }

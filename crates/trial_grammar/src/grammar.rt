@@ -33,7 +33,10 @@ fn factor_ends(k: usize, text: &[u8], i: usize, rows: &[usize]) -> usize {
         return starred(text, one(plus(i, 1)));
     }
     if byte_at(text, i) == 40 {
-        return starred(text, closed(text, value_at(rows, plus(EXPRESSION, plus(i, 1)))));
+        return starred(
+            text,
+            closed(text, value_at(rows, plus(EXPRESSION, plus(i, 1)))),
+        );
     }
     0
 }
@@ -50,7 +53,10 @@ fn expression_ends(text: &[u8], sequences: usize, rows: &[usize]) -> usize {
     text.iter()
         .enumerate()
         .filter(|(j, c)| bit(sequences, *j) & (**c == b'|'))
-        .fold(sequences, |all, (j, _)| all | value_at(rows, plus(EXPRESSION, plus(j, 1))))
+        .fold(
+            sequences,
+            |all, (j, _)| all | value_at(rows, plus(EXPRESSION, plus(j, 1))),
+        )
 }
 
 // Writes the rows of place i, where those of the later places stand.

@@ -82,7 +82,10 @@ pub fn describes(
 ) -> bool {
     let mut letters = [0usize; 64];
     put_paths(members, k, text, list, around, &mut letters);
-    bit(meaning_of(Kind::Paths, k, text, &letters, table), list.len())
+    bit(
+        meaning_of(Kind::Paths, k, text, &letters, table),
+        list.len(),
+    )
 }
 
 // The log of the letter alone; no log for the letters behind a and b.

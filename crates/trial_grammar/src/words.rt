@@ -30,7 +30,5 @@ pub fn is_letter(k: usize, text: &[u8], i: usize) -> bool {
 
 // How many letters are typed.
 pub fn letter_count(k: usize, text: &[u8]) -> usize {
-    (0..text.len())
-        .filter(|&i| is_letter(k, text, i))
-        .count()
+    (0..text.len()).filter(|&i| is_letter(k, text, i)).count()
 }

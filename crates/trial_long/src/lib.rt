@@ -2,9 +2,13 @@
 // whose records have a closed form.
 #![tactic(auto)]
 
-use trial::answers::{Answer, is_refusal, is_told, is_unchanged, is_verdict, of_compared, verdict_of};
+use trial::answers::{
+    Answer, is_refusal, is_told, is_unchanged, is_verdict, of_compared, verdict_of,
+};
 use trial::calls::{BYTES, NUMBERS, build_in, first_order_in, judge_in, table_part};
-use trial::cells::{Cell, byte, holds, minus, one32, part_of, plus, put, put_run, times, untouched, wide};
+use trial::cells::{
+    Cell, byte, holds, minus, one32, part_of, plus, put, put_run, times, untouched, wide,
+};
 use trial::record_numbers::{BACKWARD, FORWARD, count_of, record_at, set_of, total_of};
 use trial::shapes::{alt, shape_of};
 use trial::tally;

@@ -33,14 +33,27 @@ fn compare_log(
     let masks = [0u16; 16];
     let described = describes(Members::Letters, k, text, log, Around::Alone, table);
     let verdict = verdict_of(shape, part_of(&masks, 0, k), moves, log);
-    counters::judged(t, Counted::RandomLogs, Counted::DescribedRandomLogs, described, verdict)
+    counters::judged(
+        t,
+        Counted::RandomLogs,
+        Counted::DescribedRandomLogs,
+        described,
+        verdict,
+    )
 }
 
 // Letter i of the log is the letter typed at a random place, where some described log begins so; whether one of six did.
 fn grow(seed: usize, k: usize, text: &[u8], i: usize, log: &mut [u8], table: &mut [usize]) -> bool {
     for x in 0..6 {
         put(log, i, byte(letter_at(k, text, below(seed, x, text.len()))));
-        if describes(Members::Letters, k, text, part_of(log, 0, plus(i, 1)), Around::Begins, table) {
+        if describes(
+            Members::Letters,
+            k,
+            text,
+            part_of(log, 0, plus(i, 1)),
+            Around::Begins,
+            table,
+        ) {
             return true;
         }
     }
@@ -59,7 +72,14 @@ fn is_grown(
     if i < least {
         return false;
     }
-    describes(Members::Letters, k, text, part_of(log, 0, i), Around::Alone, table)
+    describes(
+        Members::Letters,
+        k,
+        text,
+        part_of(log, 0, i),
+        Around::Alone,
+        table,
+    )
 }
 
 // Writes a log that begins as a described one, letter by letter, and tells its length: `least` or more, where it is described, if that is found.

@@ -87,7 +87,11 @@ fn damage(seed: usize, n: usize, text: &mut [u8]) -> usize {
         return minus(n, 1);
     }
     if kind < 12 {
-        put(text, below(seed, 43, n), byte(byte_at(b" ()*|aqp`{+", kind)));
+        put(
+            text,
+            below(seed, 43, n),
+            byte(byte_at(b" ()*|aqp`{+", kind)),
+        );
     }
     n
 }

@@ -27,9 +27,7 @@ pub fn event_in(
     told: &mut [u64; 1],
 ) -> Option<u32> {
     let table = lent(numbers, NUMBERS, size)?;
-    Some(calls::event(
-        shape, masks, moves, letter, held, table, told,
-    ))
+    Some(calls::event(shape, masks, moves, letter, held, table, told))
 }
 
 pub fn question_in(

@@ -67,11 +67,7 @@ fn one_list(seed: usize, t: Tally) -> Tally {
 // All days but one are in terms, or all are: 16 or no refusal.
 fn try_outside(terms: &[u32], days: &[u32], day: u32, t: Tally) -> Tally {
     let log = [0u8; 3];
-    let number = if term_of(terms, day).is_none() {
-        16
-    } else {
-        0
-    };
+    let number = if term_of(terms, day).is_none() { 16 } else { 0 };
     let agrees = refused_or_not(days, terms, &log, number);
     let counted = tally::expect(t, Met::OutsideWrong, agrees);
     if number == 16 {

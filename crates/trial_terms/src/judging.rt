@@ -199,7 +199,11 @@ fn expect_log(shape: Shape, event_masks: &[u16], moves: &[u32], log: &[u8]) -> E
 
 // Counts a judged log; a listing that did not fit has no rows and is wrong.
 fn count_judged(t: Tally, right: bool, expected: Expected) -> Tally {
-    let judged = tally::expect(tally::count(t, Met::Logs), Met::Judge, right & (0 < expected.count));
+    let judged = tally::expect(
+        tally::count(t, Met::Logs),
+        Met::Judge,
+        right & (0 < expected.count),
+    );
     let accepted = tally::count_if(judged, Met::Accepted, expected.verdict);
     let listed = tally::count_many(accepted, Met::Reachable, expected.count);
     tally::count_many(listed, Met::Records, expected.prefixes)
@@ -318,7 +322,11 @@ fn count_kind(
         return tally::count(falls, Met::Judge);
     };
     let fewer = tally::count_if(falls, Met::Fewer, expected.prefixes < told.prefixes);
-    let other = tally::count_if(fewer, Met::OtherVerdict, told.verdict != Some(expected.verdict));
+    let other = tally::count_if(
+        fewer,
+        Met::OtherVerdict,
+        told.verdict != Some(expected.verdict),
+    );
     tally::count_if(other, Met::Twelve, terms.len() == 24)
 }
 

@@ -17,15 +17,6 @@ pub fn judge_terms_in(
 ) -> Answer {
     let order = lent(buffer, BYTES, room)?;
     let table = lent(numbers, NUMBERS, size)?;
-    let judged = termed_judge::judge(
-        shape,
-        masks,
-        moves,
-        log,
-        days,
-        terms,
-        order,
-        table,
-    );
+    let judged = termed_judge::judge(shape, masks, moves, log, days, terms, order, table);
     of_judged(judged)
 }

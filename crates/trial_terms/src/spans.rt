@@ -22,8 +22,7 @@ pub fn term_of(terms: &[u32], day: u32) -> Option<usize> {
 
 // Every later term begins after term i has ended.
 fn ends_before(terms: &[u32], i: usize) -> bool {
-    (0..terms.len() / 2)
-        .all(|j| (j <= i) | !no_later(first_of(terms, j), last_of(terms, i)))
+    (0..terms.len() / 2).all(|j| (j <= i) | !no_later(first_of(terms, j), last_of(terms, i)))
 }
 
 fn term_right(terms: &[u32], i: usize) -> bool {

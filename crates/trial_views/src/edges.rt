@@ -48,7 +48,11 @@ pub fn compare(asked: Ask, masks: &[u16], moves: &[u32], log: &[u8], t: Tally) -
     if asked.number == 0 {
         let looks = if 0 < asked.place { asked.place - 1 } else { 0 };
         return tally::count(
-            tally::expect(t, Counted::Edge, is_verdict(answer, true, asked.place, looks)),
+            tally::expect(
+                t,
+                Counted::Edge,
+                is_verdict(answer, true, asked.place, looks),
+            ),
             Counted::Edges,
         );
     }
@@ -58,7 +62,10 @@ pub fn compare(asked: Ask, masks: &[u16], moves: &[u32], log: &[u8], t: Tally) -
     } else {
         untouched(&buffer, 0, 0) & untouched(&numbers, 0, 0)
     };
-    tally::count(tally::expect(t, Counted::Edge, refused & left), Counted::Edges)
+    tally::count(
+        tally::expect(t, Counted::Edge, refused & left),
+        Counted::Edges,
+    )
 }
 
 fn with(shape: Shape, asked: Ask) -> Ask {

@@ -37,15 +37,6 @@ pub fn view_in(
     let order = lent(buffer, BYTES, room)?;
     let table = lent(numbers, NUMBERS, size)?;
     let mut told = [99u64; 4];
-    let number = view_calls::view(
-        shape,
-        visible,
-        masks,
-        moves,
-        log,
-        order,
-        table,
-        &mut told,
-    );
+    let number = view_calls::view(shape, visible, masks, moves, log, order, table, &mut told);
     answer_of(number, told)
 }

@@ -205,9 +205,7 @@ fn zero32(numbers: &[u32], from: usize, n: usize) -> bool {
 // After 10 the usable part is 0, and the rest stays.
 pub fn is_cleared(buffer: &[u8], numbers: &[u32], size: usize) -> bool {
     let usable = record_at(size / RECORD);
-    untouched(buffer, 0, 0)
-        & untouched(numbers, NUMBERS, usable)
-        & zero32(numbers, NUMBERS, usable)
+    untouched(buffer, 0, 0) & untouched(numbers, NUMBERS, usable) & zero32(numbers, NUMBERS, usable)
 }
 
 // A view in an order buffer of `room` bytes and a table of `size` numbers, which are enough or not.
@@ -236,7 +234,11 @@ pub fn compare_view(
         &mut buffer,
         &mut numbers,
     );
-    let u = tally::count_if(tally::count(t, Counted::Views), Counted::Hiding, n != log.len());
+    let u = tally::count_if(
+        tally::count(t, Counted::Views),
+        Counted::Hiding,
+        n != log.len(),
+    );
     if room < n {
         let right = is_refusal(answer, 9, 0, 0)
             & untouched(&buffer, 0, 0)
