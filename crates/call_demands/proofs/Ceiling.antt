@@ -1,4 +1,5 @@
 -- Paper 11 over the numbers of `fumarehi_ceiling` and `fumarehi_judge`: "P never exceeds it", and a table of that many records is long enough.
+use Rattle.std.specs.Prelude.{Result, Ok, Err}
 use mathlib.Core.Path.{◌≡◌, sym, ap}
 use mathlib.Core.Logic.{◌≢◌}
 use mathlib.Core.List.{List, ◌∷◌}
@@ -9,17 +10,16 @@ use Rattle.profile.specs.Automata.{Profile}
 use Rattle.profile.specs.Limits.{record_numbers, usable_numbers}
 use Rattle.capi.specs.Numbers.{Judging}
 use Rattle.ceiling.specs.Ceiling.{bounded_values, bounding, told_ceiling}
-use Rattle.ceiling.specs.declared.Bounded.{Bounded}
-use Rattle.ceiling.specs.declared.Bounded.TheVariants.{Ceiling, Refused}
+use Rattle.profile.specs.declared.Refusal.{Refusal}
 use Rattle.ceiling_calls.specs.CeilingCalls.{Bounding}
 use Rattle.within.proofs.Within.{table_suffices, within_judged}
 use Rattle.call_demands.specs.Told.{prefixes_in}
 use Rattle.call_demands.proofs.Numbers.{code_ten, code_zero, told_count, zero_unused}
 
 -- where 0 is returned, the second number told is the ceiling
-ceiling_in : (b : Bounded) (told : List ℕ) → 0 ∷ told ≡ bounded_values b → told_ceiling b ≡ some (get_or told 1 0)
-ceiling_in (Ceiling n) told e = ap some (sym (ap (λ l. get_or l 2 0) e))
-ceiling_in (Refused r) told e = absurd (zero_unused r (sym (ap (λ l. get_or l 0 0) e)))
+ceiling_in : (b : Result ℕ Refusal) (told : List ℕ) → 0 ∷ told ≡ bounded_values b → told_ceiling b ≡ some (get_or told 1 0)
+ceiling_in (Ok n) told e = ap some (sym (ap (λ l. get_or l 2 0) e))
+ceiling_in (Err r) told e = absurd (zero_unused r (sym (ap (λ l. get_or l 0 0) e)))
 
 module _ (p : Profile) (w groups told : List ℕ) (bound : Bounding p.k p.masks w groups 0 told)
     (order order' table table' : List ℕ) (code : ℕ) (told' : List ℕ) (call : Judging p w order order' table table' code told') where

@@ -1,5 +1,6 @@
 -- The demands over the numbers of `fumarehi_closest` and `fumarehi_closest_terms` (Paper 10): `Closing …` and `TermClosing …` are what holds of a call that returned
 -- `code` and told `told`: place, verdict, P, looks, swaps, floor.
+use Rattle.std.specs.Prelude.{Result, Ok, Err}
 use mathlib.Core.Path.{◌≡◌, refl, sym, ◌∙◌, ap, subst}
 use mathlib.Core.Bool.{Bool}
 use mathlib.Core.Logic.{◌↔◌}
@@ -20,7 +21,7 @@ use Rattle.terms.specs.Terms.{events, with_terms}
 use Rattle.swaps.specs.Swaps.{swaps}
 use Rattle.closestanswer.specs.Answers.{PromiseBy, closest_refusals, refused_by}
 use Rattle.closestanswer.specs.declared.Closest.{Closest}
-use Rattle.closestanswer.specs.declared.Closest.TheVariants.{NoOrder, Order, Refused}
+use Rattle.closestanswer.specs.declared.Closest.TheVariants.{NoOrder, Order}
 use Rattle.closestanswer.proofs.Promises.{floor_holds_by, no_order_told_by, order_accepted_by, refused_exactly_by}
 use Rattle.closestterms.specs.Dated.{dated_closest_refusals}
 use Rattle.closest_calls.specs.Calls.{Closing, TermClosing, closest_code, closest_told}
@@ -29,39 +30,39 @@ use Rattle.demands.proofs.Admission.{full?, or_none, ten_exactly, ten_full, unre
 use Rattle.call_demands.specs.Told.{floor_in, swaps_in, verdict_in}
 use Rattle.call_demands.proofs.Numbers.{zero_unused}
 
-zero_none : (a : Closest) → (closest_code a ≡ 0) ↔ (refused_by a ≡ none)
-zero_none (Refused r) = ((λ e. absurd (zero_unused r e)), λ e. absurd (some-ne-none r e))
-zero_none (NoOrder P n) = ((λ e. refl), λ e. refl)
-zero_none (Order P n c f) = ((λ e. refl), λ e. refl)
+zero_none : (a : Result Closest Refusal) → (closest_code a ≡ 0) ↔ (refused_by a ≡ none)
+zero_none (Err r) = ((λ e. absurd (zero_unused r e)), λ e. absurd (some-ne-none r e))
+zero_none (Ok (NoOrder P n)) = ((λ e. refl), λ e. refl)
+zero_none (Ok (Order P n c f)) = ((λ e. refl), λ e. refl)
 
-ten_refused : (a : Closest) → (closest_code a ≡ 10) ↔ (a ≡ Refused FullTable)
-ten_refused (Refused r) = ((λ e. ap Refused (ten_full r (subst (λ n. T (eqb n 10)) (sym e) tt))), λ e. ap closest_code e)
-ten_refused (NoOrder P n) = ((λ e. absurd (omega arith)), λ e. ap closest_code e)
-ten_refused (Order P n c f) = ((λ e. absurd (omega arith)), λ e. ap closest_code e)
+ten_refused : (a : Result Closest Refusal) → (closest_code a ≡ 10) ↔ (a ≡ Err FullTable)
+ten_refused (Err r) = ((λ e. ap Err (ten_full r (subst (λ n. T (eqb n 10)) (sym e) tt))), λ e. ap closest_code e)
+ten_refused (Ok (NoOrder P n)) = ((λ e. absurd (omega arith)), λ e. ap closest_code e)
+ten_refused (Ok (Order P n c f)) = ((λ e. absurd (omega arith)), λ e. ap closest_code e)
 
 -- ---- any rules, and the refusals l of the call
 
 module _ (r : Rules) (w : List ℕ) (B : ℕ) (order order' table table' costs costs' : List ℕ) (l : List (Bool × Refusal))
     (tenth : full? l ≡ full_table (prefixes_by r w) (length table)) where
   -- what an answer that is no refusal tells
-  no_order_in : (a : Closest) → PromiseBy r w B order order' table table' costs costs' (lowest l) a → refused_by a ≡ none
+  no_order_in : (a : Result Closest Refusal) → PromiseBy r w B order order' table table' costs costs' (lowest l) a → refused_by a ≡ none
       → (verdict_in (closest_told a) ≡ 0) ↔ ((v : List ℕ) → WitnessBy r w v → ⊥)
-  no_order_in (Refused x) h e = absurd (some-ne-none x e)
-  no_order_in (NoOrder P n) h e = ((λ z. no_order_told_by r w B order order' table table' costs costs' (lowest l) P n h), λ f. refl)
-  no_order_in (Order P n c f) h e =
+  no_order_in (Err x) h e = absurd (some-ne-none x e)
+  no_order_in (Ok (NoOrder P n)) h e = ((λ z. no_order_told_by r w B order order' table table' costs costs' (lowest l) P n h), λ f. refl)
+  no_order_in (Ok (Order P n c f)) h e =
       let x = (order_accepted_by r w B order order' table table' costs costs' (lowest l) P n c f h).0 in
       ((λ z. absurd (omega arith)), λ g. absurd (g x.0 x.2))
 
-  order_in : (a : Closest) → PromiseBy r w B order order' table table' costs costs' (lowest l) a → verdict_in (closest_told a) ≡ 1
+  order_in : (a : Result Closest Refusal) → PromiseBy r w B order order' table table' costs costs' (lowest l) a → verdict_in (closest_told a) ≡ 1
       → ((x : List ℕ) × (map r.letter x ≡ take (length w) order') × WitnessBy r w x) × (swaps_in (closest_told a) ≡ swaps r.letter w (take (length w) order'))
       × ((u : List ℕ) → WitnessBy r w u → floor_in (closest_told a) ≤ swaps r.letter w (map r.letter u))
-  order_in (Refused x) h e = absurd (omega arith)
-  order_in (NoOrder P n) h e = absurd (omega arith)
-  order_in (Order P n c f) h e =
+  order_in (Err x) h e = absurd (omega arith)
+  order_in (Ok (NoOrder P n)) h e = absurd (omega arith)
+  order_in (Ok (Order P n c f)) h e =
       let x = order_accepted_by r w B order order' table table' costs costs' (lowest l) P n c f h in
       (x.0, x.1, floor_holds_by r w B order order' table table' costs costs' (lowest l) P n c f h)
 
-  module _ (code : ℕ) (told : List ℕ) (a : Closest) (call : PromiseBy r w B order order' table table' costs costs' (lowest l) a)
+  module _ (code : ℕ) (told : List ℕ) (a : Result Closest Refusal) (call : PromiseBy r w B order order' table table' costs costs' (lowest l) a)
       (code_is : code ≡ closest_code a) (told_is : told ≡ closest_told a) where
     -- 0 is returned exactly when the log is admitted, to which 17 must not apply, and its prefixes fit the work table
     pub zero_by : (code ≡ 0) ↔ AdmittedAndFits l (prefixes_by r w) (length table)

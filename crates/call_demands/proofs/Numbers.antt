@@ -1,4 +1,5 @@
 -- A judge's answer and the numbers that are returned and told of it.
+use Rattle.std.specs.Prelude.{Result, Ok, Err}
 use mathlib.Core.Path.{◌≡◌, refl, sym, ◌∙◌, ap, subst}
 use mathlib.Core.Logic.{◌↔◌, ◌≢◌}
 use mathlib.Core.List.{List}
@@ -11,7 +12,7 @@ use Rattle.profile.specs.declared.Refusal.{Refusal}
 use Rattle.profile.specs.declared.Refusal.TheVariants.{ShortFile, OutOfRange, Distance, MaskBit, StateBit, LongLog, BadLetter, ShortBuffer, FullTable, BadText, DeepText, LongText, BadDay, BadTerm, NoTerm, ShortCosts, BadGroups, HighCeiling, ViewBit, BadRule, ShortSets}
 use Rattle.verdict.specs.Verdict.{judged_code, judged_told, refused_by, verdict_number}
 use Rattle.verdict.specs.declared.Judged.{Judged}
-use Rattle.verdict.specs.declared.Judged.TheVariants.{NoOrder, Order, Refused}
+use Rattle.verdict.specs.declared.Judged.TheVariants.{NoOrder, Order}
 use Rattle.verdict.proofs.Promises.{told_looks, told_prefixes}
 use Rattle.demands.proofs.Admission.{ten_full}
 use Rattle.call_demands.specs.Told.{looks_in, prefixes_in, verdict_in}
@@ -40,28 +41,28 @@ zero_unused ViewBit e = omega arith
 zero_unused BadRule e = omega arith
 zero_unused ShortSets e = omega arith
 
-zero_none : (j : Judged) → (judged_code j ≡ 0) ↔ (refused_by j ≡ none)
-zero_none (Refused r) = ((λ e. absurd (zero_unused r e)), λ e. absurd (some-ne-none r e))
-zero_none (NoOrder P n) = ((λ e. refl), λ e. refl)
-zero_none (Order P n) = ((λ e. refl), λ e. refl)
+zero_none : (j : Result Judged Refusal) → (judged_code j ≡ 0) ↔ (refused_by j ≡ none)
+zero_none (Err r) = ((λ e. absurd (zero_unused r e)), λ e. absurd (some-ne-none r e))
+zero_none (Ok (NoOrder P n)) = ((λ e. refl), λ e. refl)
+zero_none (Ok (Order P n)) = ((λ e. refl), λ e. refl)
 
-ten_refused : (j : Judged) → (judged_code j ≡ 10) ↔ (j ≡ Refused FullTable)
-ten_refused (Refused r) = ((λ e. ap Refused (ten_full r (subst (λ n. T (eqb n 10)) (sym e) tt))), λ e. ap judged_code e)
-ten_refused (NoOrder P n) = ((λ e. absurd (omega arith)), λ e. ap judged_code e)
-ten_refused (Order P n) = ((λ e. absurd (omega arith)), λ e. ap judged_code e)
+ten_refused : (j : Result Judged Refusal) → (judged_code j ≡ 10) ↔ (j ≡ Err FullTable)
+ten_refused (Err r) = ((λ e. ap Err (ten_full r (subst (λ n. T (eqb n 10)) (sym e) tt))), λ e. ap judged_code e)
+ten_refused (Ok (NoOrder P n)) = ((λ e. absurd (omega arith)), λ e. ap judged_code e)
+ten_refused (Ok (Order P n)) = ((λ e. absurd (omega arith)), λ e. ap judged_code e)
 
-told_in : (j : Judged) → refused_by j ≡ none
+told_in : (j : Result Judged Refusal) → refused_by j ≡ none
     → (verdict_number j ≡ some (verdict_in (judged_told j))) × (told_prefixes j ≡ some (prefixes_in (judged_told j))) × (told_looks j ≡ some (looks_in (judged_told j)))
-told_in (Refused r) e = absurd (some-ne-none r e)
-told_in (NoOrder P n) e = (refl, refl, refl)
-told_in (Order P n) e = (refl, refl, refl)
+told_in (Err r) e = absurd (some-ne-none r e)
+told_in (Ok (NoOrder P n)) e = (refl, refl, refl)
+told_in (Ok (Order P n)) e = (refl, refl, refl)
 
-module _ (j : Judged) (code : ℕ) (told : List ℕ) (code_is : code ≡ judged_code j) (told_is : told ≡ judged_told j) where
+module _ (j : Result Judged Refusal) (code : ℕ) (told : List ℕ) (code_is : code ≡ judged_code j) (told_is : told ≡ judged_told j) where
   -- the number returned is 0 where there is no refusal, 10 where that is given
   pub code_zero : (code ≡ 0) ↔ (refused_by j ≡ none)
   code_zero = (λ e. (zero_none j).0 (sym code_is ∙ e), λ e. code_is ∙ (zero_none j).1 e)
 
-  pub code_ten : (code ≡ 10) ↔ (j ≡ Refused FullTable)
+  pub code_ten : (code ≡ 10) ↔ (j ≡ Err FullTable)
   code_ten = (λ e. (ten_refused j).0 (sym code_is ∙ e), λ e. code_is ∙ (ten_refused j).1 e)
 
   -- the numbers told are the verdict, P and looks
@@ -79,7 +80,7 @@ module _ (j : Judged) (code : ℕ) (told : List ℕ) (code_is : code ≡ judged_
     verdict_is v = (λ e. told_verdict ∙ ap some e, λ e. some-injective _ _ (sym told_verdict ∙ e))
 
 -- two calls with the same answer tell the same
-module _ (i j : Judged) (code₁ code₂ : ℕ) (told₁ told₂ : List ℕ) (c₁ : code₁ ≡ judged_code i) (t₁ : told₁ ≡ judged_told i) (c₂ : code₂ ≡ judged_code j) (t₂ : told₂ ≡ judged_told j)
+module _ (i j : Result Judged Refusal) (code₁ code₂ : ℕ) (told₁ told₂ : List ℕ) (c₁ : code₁ ≡ judged_code i) (t₁ : told₁ ≡ judged_told i) (c₂ : code₂ ≡ judged_code j) (t₂ : told₂ ≡ judged_told j)
     (a₁ : refused_by i ≡ none) (a₂ : refused_by j ≡ none) where
   pub told_equal : (verdict_number i ≡ verdict_number j) → (told_prefixes i ≡ told_prefixes j) → (told_looks i ≡ told_looks j)
       → (verdict_in told₁ ≡ verdict_in told₂) × (prefixes_in told₁ ≡ prefixes_in told₂) × (looks_in told₁ ≡ looks_in told₂)

@@ -1,6 +1,7 @@
 -- Demand 2 over the numbers of `fumarehi_table`, `fumarehi_same` and `fumarehi_first_order`, where the masks are symmetric.
+use Rattle.std.specs.Prelude.{Result, Ok, Err}
 use mathlib.Core.Path.{◌≡◌, refl, sym, ◌∙◌, ap, subst}
-use mathlib.Core.Bool.{true, false}
+use mathlib.Core.Bool.{Bool, true, false}
 use mathlib.Core.Logic.{◌↔◌}
 use mathlib.Core.List.{List, [], ◌∷◌}
 use mathlib.Core.Option.{Option, none, some, some-ne-none}
@@ -9,16 +10,14 @@ use native.Mathlib.Omega.{arith}
 use lib.ListN.{length, get_or, take, drop}
 use Rattle.profile.specs.Automata.{Profile}
 use Rattle.profile.specs.Orders.{NoLater, same?}
-use Rattle.profile.specs.Refusals.{first_order_refusal, same_refusal}
+use Rattle.profile.specs.Refusals.{first_order_refusal, refused_by, same_refusal}
 use Rattle.profile.specs.Source.{Congruent}
 use Rattle.profile.specs.Traces.{Symmetric, independent}
 use Rattle.profile.specs.declared.Refusal.{Refusal}
 use Rattle.table.specs.Table as table
-use Rattle.table.specs.declared.Built.{Built}
-use Rattle.table.specs.declared.Built.TheVariants as built
+use Rattle.table.specs.declared.Filled.{Filled}
 use Rattle.comparison.specs.Comparison.{compared_as, comparison}
-use Rattle.comparison.specs.declared.Compared.{Compared}
-use Rattle.comparison.specs.declared.Compared.TheVariants as compared
+use Rattle.comparison.specs.declared.RefusedLog.{RefusedLog}
 use Rattle.order.specs.Order.{ordered_as, ordered_buffer, ordering}
 use Rattle.grammar_judge.specs.GrammarJudge.{grammar_refusals}
 use Rattle.capi.specs.Numbers.{Building, built_code, built_told, compared_code, compared_told, ordered_code}
@@ -30,14 +29,14 @@ use Rattle.call_demands.proofs.Numbers.{zero_unused}
 
 -- ---- the table
 
-zero_built : (b : Built) → (built_code b ≡ 0) ↔ (table.refused_by b ≡ none)
-zero_built (built.Refused r) = ((λ e. absurd (zero_unused r e)), λ e. absurd (some-ne-none r e))
-zero_built (built.Filled P n) = ((λ e. refl), λ e. refl)
+zero_built : (b : Result Filled Refusal) → (built_code b ≡ 0) ↔ (refused_by b ≡ none)
+zero_built (Err r) = ((λ e. absurd (zero_unused r e)), λ e. absurd (some-ne-none r e))
+zero_built (Ok f) = ((λ e. refl), λ e. refl)
 
-holds_built : (p : Profile) (symmetric : Symmetric (independent p.masks)) (w before after : List ℕ) (b : Built) → table.Promise p w before after b → built_code b ≡ 0
+holds_built : (p : Profile) (symmetric : Symmetric (independent p.masks)) (w before after : List ℕ) (b : Result Filled Refusal) → table.Promise p w before after b → built_code b ≡ 0
     → HoldsTraces p w after (get_or (built_told b) 1 0)
-holds_built p symmetric w before after (built.Refused r) h e = absurd (zero_unused r e)
-holds_built p symmetric w before after (built.Filled P n) h e = built_trace p symmetric w before after P n h
+holds_built p symmetric w before after (Err r) h e = absurd (zero_unused r e)
+holds_built p symmetric w before after (Ok f) h e = built_trace p symmetric w before after f h
 
 module _ (p : Profile) (w before after : List ℕ) (code : ℕ) (told : List ℕ) (call : Building p w before after code told) where
   -- 0 is returned exactly when the log is admitted and its prefixes fit the table
@@ -55,10 +54,10 @@ module _ (p : Profile) (w before after : List ℕ) (code : ℕ) (told : List ℕ
 -- ---- comparison
 
 -- the third number is 1 for yes
-one_equal : (c : Compared) → (get_or (compared_told c) 2 0 ≡ 1) ↔ (c ≡ compared.Equal)
-one_equal compared.Equal = ((λ e. refl), λ e. refl)
-one_equal compared.Different = ((λ e. absurd (omega arith)), λ e. ap (λ x. get_or (compared_told x) 2 0) e)
-one_equal (compared.Refused r n) = ((λ e. absurd (omega arith)), λ e. ap (λ x. get_or (compared_told x) 2 0) e)
+one_equal : (c : Result Bool RefusedLog) → (get_or (compared_told c) 2 0 ≡ 1) ↔ (c ≡ Ok true)
+one_equal (Ok true) = ((λ e. refl), λ e. refl)
+one_equal (Ok false) = ((λ e. absurd (omega arith)), λ e. ap (λ x. get_or (compared_told x) 2 0) e)
+one_equal (Err r) = ((λ e. absurd (omega arith)), λ e. ap (λ x. get_or (compared_told x) 2 0) e)
 
 module _ (k : ℕ) (masks : List ℕ) (symmetric : Symmetric (independent masks)) (v w : List ℕ) (code : ℕ) (told : List ℕ)
     (code_is : code ≡ compared_code (comparison k masks v w)) (told_is : told ≡ compared_told (comparison k masks v w)) where

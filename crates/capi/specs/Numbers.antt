@@ -1,16 +1,16 @@
 -- The promises of calls whose answers are given as numbers: the refusal's number, or 0, and what each call tells. The numbers of an answer are defined beside the
 -- answer.
-use Rattle.std.specs.Prelude.{◌≡◌, cond, ◌≢◌, List, [], ◌∷◌, ℕ, eqb, length}
+use Rattle.std.specs.Prelude.{Result, ◌≡◌, cond, ◌≢◌, List, [], ◌∷◌, ℕ, eqb, length}
 use Rattle.profile.specs.Automata.{Profile}
 use Rattle.profile.specs.Refusals.{refusal_number}
 use Rattle.profile.specs.Tables.{layout}
+use Rattle.profile.specs.declared.Refusal.{Refusal}
 use Rattle.profile.specs.declared.Refusal.TheVariants.{OutOfRange}
 use Rattle.table.specs.Table as table
 pub use Rattle.table.specs.Table.{built_code, built_told}
-use Rattle.table.specs.declared.Built.{Built}
+use Rattle.table.specs.declared.Filled.{Filled}
 use Rattle.search.specs.Search as search
 pub use Rattle.search.specs.Search.{found_told}
-use Rattle.search.specs.declared.Found.{Found}
 use Rattle.verdict.specs.Verdict as verdict
 pub use Rattle.verdict.specs.Verdict.{judged_code, judged_told}
 use Rattle.verdict.specs.declared.Judged.{Judged}
@@ -23,14 +23,14 @@ pub use Rattle.expression.specs.Making.{made_code, made_told}
 
 -- the judge's promise, of an answer given as numbers
 pub record Judging (p : Profile) (w order order' table table' : List ℕ) (code : ℕ) (told : List ℕ) : Type 0 where
-  pub answer : Judged
+  pub answer : Result Judged Refusal
   pub promise : verdict.Promise p w order order' table table' answer
   pub code_is : code ≡ judged_code answer
   pub told_is : told ≡ judged_told answer
 
 -- the table's promise, of an answer given as numbers
 pub record Building (p : Profile) (w before after : List ℕ) (code : ℕ) (told : List ℕ) : Type 0 where
-  pub answer : Built
+  pub answer : Result Filled Refusal
   pub promise : table.Promise p w before after answer
   pub code_is : code ≡ built_code answer
   pub told_is : told ≡ built_told answer
@@ -40,4 +40,4 @@ pub record Building (p : Profile) (w before after : List ℕ) (code : ℕ) (told
 pub record Finding (t c : List ℕ) (code : ℕ) (told : List ℕ) : Type 0 where
   pub code_is : code ≡ cond (eqb (length c) layout.numbers) 0 (refusal_number OutOfRange)
   pub refused : length c ≢ layout.numbers → told ≡ 0 ∷ 0 ∷ []
-  pub found : length c ≡ layout.numbers → (f : Found) × (told ≡ found_told f) × (search.Ordered t → f ≡ search.found_in t c)
+  pub found : length c ≡ layout.numbers → (f : Result ℕ ℕ) × (told ≡ found_told f) × (search.Ordered t → f ≡ search.found_in t c)

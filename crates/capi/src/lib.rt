@@ -4,7 +4,6 @@
 
 ghost use Rattle.std.specs.Prelude.{◌≡◌, length};
 ghost use Rattle.profile.specs.Automata.{profile_of};
-ghost use Rattle.profile.specs.Refusals.{refusal_place};
 ghost use Rattle.comparison.specs.Comparison.{comparison};
 ghost use Rattle.order.specs.Order.{ordered_buffer, ordering};
 ghost use Rattle.logfile.specs.Files.{file_masks, file_moves, file_shape, filled, log_location, log_length, read_refusal, reading};
@@ -19,22 +18,8 @@ ghost use Rattle.grammar_calls.specs.GrammarCalls.{Judging as GrammarJudging};
 ghost use Rattle.ceiling_calls.specs.CeilingCalls.{Bounding};
 ghost use Rattle.closest_calls.specs.Calls.{Closing, TermClosing};
 
-use comparison::Compared;
-use expression::Made;
-use filewriter::Writing;
-use logfile::{Located, Reading};
-use logreader::Event;
-use order::Ordered;
 use profile::{Refusal, Shape};
-use search::Found;
-use table::Built;
-
-// The place of a refusal, in 64 bits.
-fn place_of(r: Refusal) -> u64
-    ensures { result ≡ refusal_place r }
-{
-    refusals::place(r) as u64
-}
+use refusals::refuse;
 
 // The judge.
 pub fn fumarehi_judge(
@@ -81,14 +66,10 @@ pub fn fumarehi_table(
         start: start,
         finals: finals,
     };
-    let built = table::build(shape, masks, moves, log, table);
-    match built {
-        Built::Refused(r) => {
-            *told = [place_of(r), 0, 0];
-            refusals::number(r)
-        }
-        Built::Filled { prefixes, looks } => {
-            *told = [0, prefixes as u64, looks];
+    match table::build(shape, masks, moves, log, table) {
+        Err(unbuilt) => refuse(unbuilt, told),
+        Ok(filled) => {
+            *told = [0, filled.prefixes as u64, filled.looks];
             0
         }
     }
@@ -99,20 +80,13 @@ pub fn fumarehi_find(table: &[u32], counts: &[u32], told: &mut [u64; 2]) -> u32
     ensures { Finding table.now counts.now result told.new }
 {
     if counts.len() != counts::NUMBERS {
-        *told = [0, 0];
-        return refusals::number(Refusal::OutOfRange);
+        return refuse(Refusal::OutOfRange, told);
     }
-    let found = search::find(table, counts::from_numbers(counts));
-    match found {
-        Found::At(record) => {
-            *told = [1, record as u64];
-            0
-        }
-        Found::Absent(before) => {
-            *told = [0, before as u64];
-            0
-        }
-    }
+    *told = match search::find(table, counts::from_numbers(counts)) {
+        Ok(record) => [1, record as u64],
+        Err(before) => [0, before as u64],
+    };
+    0
 }
 
 // Same.
@@ -125,19 +99,15 @@ pub fn fumarehi_same(
 ) -> u32
     ensures { let c = comparison k masks.now first.now second.now in (result ≡ compared_code c) × (told.new ≡ compared_told c) }
 {
-    let compared = comparison::same(k, masks, first, second);
-    match compared {
-        Compared::Equal => {
-            *told = [0, 0, 1];
+    match comparison::same(k, masks, first, second) {
+        Ok(same) => {
+            *told = [0, 0, u64::from(same)];
             0
         }
-        Compared::Different => {
-            *told = [0, 0, 0];
-            0
-        }
-        Compared::Refused(r, log) => {
-            *told = [place_of(r), log as u64, 0];
-            refusals::number(r)
+        Err(refused) => {
+            let number = refuse(refused.refusal, told);
+            told[1] = refused.log as u64;
+            number
         }
     }
 }
@@ -153,15 +123,11 @@ pub fn fumarehi_first_order(
     ensures fact { let o = ordering k masks.now log.now (length order.old) in (result ≡ ordered_code o) × (told.new ≡ ordered_told o) }
     ensures order_after { order.new ≡ ordered_buffer k masks.now log.now order.old }
 {
-    let ordered = order::first_order(k, masks, log, order);
-    match ordered {
-        Ordered::Written => {
+    match order::first_order(k, masks, log, order) {
+        Err(unordered) => refuse(unordered, told),
+        Ok(()) => {
             *told = [0];
             0
-        }
-        Ordered::Refused(r) => {
-            *told = [place_of(r)];
-            refusals::number(r)
         }
     }
 }
@@ -178,13 +144,9 @@ pub fn fumarehi_read_file(
         (result ≡ reading_code a) × (told.new ≡ reading_told a) × (masks.new ≡ filled q (file_masks f) masks.old)
         × (moves.new ≡ filled q (file_moves f) moves.old) }
 {
-    let reading = logfile::read_file(file, masks, moves);
-    match reading {
-        Reading::Refused(r) => {
-            *told = [place_of(r), 0, 0, 0, 0, 0];
-            refusals::number(r)
-        }
-        Reading::Told(shape, n) => {
+    match logfile::read_file(file, masks, moves) {
+        Err(unread) => refuse(unread, told),
+        Ok((shape, n)) => {
             let k = shape.k as u64;
             let s = shape.s as u64;
             let start = shape.start as u64;
@@ -199,13 +161,9 @@ pub fn fumarehi_read_file(
 pub fn fumarehi_log_part(file: &[u8], told: &mut [u64; 3]) -> u32
     ensures { let a = log_location file.now in (result ≡ located_code a) × (told.new ≡ located_told a) }
 {
-    let located = logfile::locate_log(file);
-    match located {
-        Located::Refused(why) => {
-            *told = [place_of(why), 0, 0];
-            refusals::number(why)
-        }
-        Located::At(offset, n) => {
+    match logfile::locate_log(file) {
+        Err(why) => refuse(why, told),
+        Ok((offset, n)) => {
             *told = [0, offset as u64, n as u64];
             0
         }
@@ -234,13 +192,9 @@ pub fn fumarehi_write_file(
         start: start,
         finals: finals,
     };
-    let writing = filewriter::write_file(shape, masks, moves, log, file);
-    match writing {
-        Writing::Refused(r) => {
-            *told = [place_of(r), 0];
-            refusals::number(r)
-        }
-        Writing::Length(n) => {
+    match filewriter::write_file(shape, masks, moves, log, file) {
+        Err(unwritten) => refuse(unwritten, told),
+        Ok(n) => {
             *told = [0, n as u64];
             0
         }
@@ -256,8 +210,8 @@ pub fn fumarehi_next_event(log: &[u8], at: &mut usize) -> u32
     let event = logreader::event_at(log, from);
     *at = logreader::place_after(log, from);
     match event {
-        Event::Letter(letter) => letter as u32,
-        Event::End => 256,
+        Some(letter) => letter as u32,
+        None => 256,
     }
 }
 
@@ -266,13 +220,9 @@ pub fn fumarehi_expression(k: usize, text: &[u8], moves: &mut [u32], told: &mut 
     ensures { let a = making k text.now (length moves.old) in
         (result ≡ made_code a) × (told.new ≡ made_told a) × (moves.new ≡ made_buffer k text.now moves.old) }
 {
-    let made = expression::make(k, text, moves);
-    match made {
-        Made::Refused(r) => {
-            *told = [place_of(r), 0, 0, 0];
-            refusals::number(r)
-        }
-        Made::Profile(shape) => {
+    match expression::make(k, text, moves) {
+        Err(r) => refuse(r, told),
+        Ok(shape) => {
             let s = shape.s as u64;
             let start = shape.start as u64;
             let finals = shape.finals as u64;

@@ -1,6 +1,7 @@
 -- Demand 2 as theorems about what the calls promise, where the masks are symmetric: "Verdicts, prefix tables, comparison and first-order form agree with the trace
 -- languages of Avellone and Goldwurm (1998)". `Promise p w order order' table table' j` is what holds of a call of the judge with profile p and log w that
 -- was lent `order` and `table`, whatever these held, left `order'` and `table'`, and answered j.
+use Rattle.std.specs.Prelude.{Result, Ok, Err}
 use mathlib.Core.Path.{◌≡◌, refl, sym, ◌∙◌, ap, subst}
 use mathlib.Core.Bool.{Bool, true, false}
 use mathlib.Core.Logic.{⊎_elim, ◌↔◌, ◌≢◌}
@@ -29,15 +30,14 @@ use Rattle.theory.proofs.Profiles.{distinct}
 use Rattle.theory.proofs.Refusals.{GoodLog, GoodProfile, log_at, lowest_none, profile_at}
 use Rattle.theory.proofs.Tables.{Holds}
 use Rattle.table.specs.Table as table
-use Rattle.table.specs.declared.Built.TheVariants.{Filled}
+use Rattle.table.specs.declared.Filled.{Filled}
 use Rattle.verdict.specs.Verdict.{Promise, refused_by, verdict_number}
 use Rattle.verdict.specs.declared.Judged.{Judged}
-use Rattle.verdict.specs.declared.Judged.TheVariants.{NoOrder, Order, Refused}
+use Rattle.verdict.specs.declared.Judged.TheVariants.{NoOrder, Order}
 use Rattle.verdict.proofs.Judging.{admitted}
 use Rattle.verdict.proofs.Promises.{told_prefixes}
 use Rattle.verdict.proofs.Demands as judge
 use Rattle.comparison.specs.Comparison.{compared_as, compared_values, comparison}
-use Rattle.comparison.specs.declared.Compared.TheVariants.{Different, Equal}
 use Rattle.comparison.proofs.Answers.{compared_same}
 use Rattle.order.specs.Order.{first_letters, letters_or_none, ordered_buffer}
 use Rattle.order.proofs.Answers.{answers}
@@ -61,20 +61,20 @@ module _ (p : Profile) (symmetric : Symmetric (independent p.masks)) (w : List �
 -- ---- the judge
 
 -- P, as it is told, and the table of a call that is not refused
-told_count : (p : Profile) (w : List ℕ) {order order' table table' : List ℕ} (j : Judged) → Promise p w order order' table table' j → refused_by j ≡ none
+told_count : (p : Profile) (w : List ℕ) {order order' table table' : List ℕ} (j : Result Judged Refusal) → Promise p w order order' table table' j → refused_by j ≡ none
     → told_prefixes j ≡ some (prefixes_by (plain p) w)
-told_count p w (Refused r) h e = absurd (some-ne-none r e)
-told_count p w (NoOrder P n) h e = ap some h.told.2.prefixes
-told_count p w (Order P n) h e = ap some h.told.3.prefixes
+told_count p w (Err r) h e = absurd (some-ne-none r e)
+told_count p w (Ok (NoOrder P n)) h e = ap some h.told.2.prefixes
+told_count p w (Ok (Order P n)) h e = ap some h.told.3.prefixes
 
-held : (p : Profile) (w : List ℕ) {order order' table table' : List ℕ} → GoodLog p.k w → (j : Judged) → Promise p w order order' table table' j → refused_by j ≡ none
+held : (p : Profile) (w : List ℕ) {order order' table table' : List ℕ} → GoodLog p.k w → (j : Result Judged Refusal) → Promise p w order order' table table' j → refused_by j ≡ none
     → Holds layout (independent p.masks) (λ a. a) (automaton p) p.k w table table'
-held p w log (Refused r) h e = absurd (some-ne-none r e)
-held p w log (NoOrder P n) h e = record { letters = log.letters; written = h.told.2.table }
-held p w log (Order P n) h e = record { letters = log.letters; written = h.told.3.table }
+held p w log (Err r) h e = absurd (some-ne-none r e)
+held p w log (Ok (NoOrder P n)) h e = record { letters = log.letters; written = h.told.2.table }
+held p w log (Ok (Order P n)) h e = record { letters = log.letters; written = h.told.3.table }
 
 module _ (p : Profile) (symmetric : Symmetric (independent p.masks)) (w order order' table table' : List ℕ)
-    (j : Judged) (call : Promise p w order order' table table' j) (answered : refused_by j ≡ none) where
+    (j : Result Judged Refusal) (call : Promise p w order order' table table' j) (answered : refused_by j ≡ none) where
   unrefused : judge_refusal p w (length order) (length table) ≡ none
   unrefused = sym call.refused ∙ answered
 
@@ -127,7 +127,7 @@ module _ (p : Profile) (symmetric : Symmetric (independent p.masks)) (w order or
 
 -- ---- the table
 
-module _ (p : Profile) (symmetric : Symmetric (independent p.masks)) (w before after : List ℕ) (P n : ℕ) (call : table.Promise p w before after (Filled P n)) where
+module _ (p : Profile) (symmetric : Symmetric (independent p.masks)) (w before after : List ℕ) (f : Filled) (call : table.Promise p w before after (Ok f)) where
   tenth : List (Bool × Refusal)
   tenth = (full_table (prefixes_by (plain p) w) (length before), FullTable) ∷ []
 
@@ -142,10 +142,10 @@ module _ (p : Profile) (symmetric : Symmetric (independent p.masks)) (w before a
   unfolding tenth
   good_log = log_at p.k w ((lowest_none (log_refusals p.k w)).1 (λ c m. conditions c (Memᴰ.append_right (profile_refusals p) (Memᴰ.append_left tenth m))))
 
-  pub built_prefixes : (l : List (List ℕ)) → Representatives (independent p.masks) w l → length l ≡ P
+  pub built_prefixes : (l : List (List ℕ)) → Representatives (independent p.masks) w l → length l ≡ f.prefixes
   built_prefixes l r = count_of p symmetric w good_profile good_log l r ∙ sym call.table.0
 
-  pub built_trace : HoldsTraces p w after P
+  pub built_trace : HoldsTraces p w after f.prefixes
   built_trace = subst (HoldsTraces p w after) (sym call.table.0)
       (holds_traces p w before after good_profile good_log symmetric (record { letters = good_log.letters; written = call.table.2 }))
 
@@ -168,19 +168,19 @@ module _ (k : ℕ) (masks : List ℕ) (symmetric : Symmetric (independent masks)
       (Memᴰ.append_right (of_log 0 (relation_refusals k masks)) (Memᴰ.append_right (of_log 1 (log_refusals k v)) (Memᴰ.map (λ (d : Bool × Refusal). (d.0, (d.1, 2))) m))))
 
   -- `same` says yes exactly when the logs are congruent, no exactly when they are not
-  pub same_trace : (comparison k masks v w ≡ Equal) ↔ Congruent (independent masks) v w
+  pub same_trace : (comparison k masks v w ≡ Ok true) ↔ Congruent (independent masks) v w
   same_trace =
       let s = equal_same k masks good_relation v w good_first good_second in
       let c = same_congruent (independent masks) (λ a. a) symmetric v w in
       (λ e. c.0 (s.0 e), λ h. s.1 (c.1 h))
 
-  pub different_trace : (comparison k masks v w ≡ Different) ↔ (Congruent (independent masks) v w → ⊥)
+  pub different_trace : (comparison k masks v w ≡ Ok false) ↔ (Congruent (independent masks) v w → ⊥)
   different_trace = (
     λ d c. let z = ap (λ x. get_or (compared_values x) 0 2) (sym d ∙ same_trace.1 c) in absurd (omega arith),
     λ f. go (same? (independent masks) k v w) (compared_same k masks v w good_relation good_first good_second refl) f,
   )
     where
-      go : (b : Bool) → comparison k masks v w ≡ compared_as none b → (Congruent (independent masks) v w → ⊥) → comparison k masks v w ≡ Different
+      go : (b : Bool) → comparison k masks v w ≡ compared_as none b → (Congruent (independent masks) v w → ⊥) → comparison k masks v w ≡ Ok false
       go true e f = absurd (f (same_trace.0 e))
       go false e f = e
 

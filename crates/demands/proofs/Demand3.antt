@@ -1,5 +1,6 @@
 -- Demand 3 in its own words, "any lent buffers, whatever they held before, with which the log is admitted and its prefixes fit the table", over what the judge
 -- promises; and that a call gets no refusal exactly then, and an admitted log 10 exactly where its prefixes do not fit.
+use Rattle.std.specs.Prelude.{Result, Ok, Err}
 use mathlib.Core.Path.{◌≡◌, refl, sym, ◌∙◌}
 use mathlib.Core.Logic.{◌⊎◌, ◌↔◌, ◌≢◌}
 use mathlib.Core.List.{List}
@@ -12,14 +13,14 @@ use Rattle.profile.specs.Refusals.{admission_refusals, full_table, judge_refusal
 use Rattle.profile.specs.Rules.{plain, prefixes_by}
 use Rattle.profile.specs.Tables.{capacity, layout, record_length}
 use Rattle.profile.specs.Traces.{Reachable, independent, itself}
+use Rattle.profile.specs.declared.Refusal.{Refusal}
 use Rattle.profile.specs.declared.Refusal.TheVariants.{FullTable}
 use Rattle.theory.proofs.Demands.{Witness}
 use Rattle.theory.proofs.Refusals as known
 use Rattle.table.specs.Table as table
-use Rattle.table.specs.declared.Built.{Built}
+use Rattle.table.specs.declared.Filled.{Filled}
 use Rattle.verdict.specs.Verdict.{Promise, refused_by, verdict_number}
 use Rattle.verdict.specs.declared.Judged.{Judged}
-use Rattle.verdict.specs.declared.Judged.TheVariants.{Refused}
 use Rattle.verdict.proofs.Promises.{told_looks, told_prefixes}
 use Rattle.verdict.proofs.Demands as judge
 use Rattle.demands.specs.Admitted.{Admitted, Buildable, Judgeable}
@@ -42,24 +43,24 @@ admitted_known p w n m a = known.admitted_at p w n ((admitted_exactly p w n m).0
 pub judgeable : (p : Profile) (w : List ℕ) (n m : ℕ) → (judge_refusal p w n m ≡ none) ↔ Judgeable p w n m
 judgeable p w n m = unrefused_exactly (judge_refusals p w n m) (prefixes_by (plain p) w) m (or_none (full_table (prefixes_by (plain p) w) m))
 
-module _ (p : Profile) (w order order' table table' : List ℕ) (j : Judged) (call : Promise p w order order' table table' j) where
+module _ (p : Profile) (w order order' table table' : List ℕ) (j : Result Judged Refusal) (call : Promise p w order order' table table' j) where
   pub unrefused_admitted : (refused_by j ≡ none) ↔ Judgeable p w (length order) (length table)
   unrefused_admitted = let h = judgeable p w (length order) (length table) in (λ e. h.0 (sym call.refused ∙ e), λ a. call.refused ∙ h.1 a)
 
-  pub ten_admitted : Admitted (judge_refusals p w (length order) (length table)) → (j ≡ Refused FullTable) ↔ (capacity layout (length table) < prefixes_by (plain p) w)
+  pub ten_admitted : Admitted (judge_refusals p w (length order) (length table)) → (j ≡ Err FullTable) ↔ (capacity layout (length table) < prefixes_by (plain p) w)
   ten_admitted a =
       let h = ten_exactly (judge_refusals p w (length order) (length table)) (prefixes_by (plain p) w) (length table) (or_none (full_table (prefixes_by (plain p) w) (length table))) a in
       let r = judge.refused_exactly p w order order' table table' j call FullTable in
       (λ e. h.0 (r.0 e), λ lt. r.1 (h.1 lt))
 
 -- the same of `table::build`
-module _ (p : Profile) (w before after : List ℕ) (b : Built) (call : table.Promise p w before after b) where
-  pub built_admitted : (table.refused_by b ≡ none) ↔ Buildable p w (length before)
+module _ (p : Profile) (w before after : List ℕ) (b : Result Filled Refusal) (call : table.Promise p w before after b) where
+  pub built_admitted : (refused_by b ≡ none) ↔ Buildable p w (length before)
   built_admitted =
       let h = unrefused_exactly (table.build_refusals p w (length before)) (prefixes_by (plain p) w) (length before) (or_none (full_table (prefixes_by (plain p) w) (length before))) in
       (λ e. h.0 (sym call.refused ∙ e), λ a. call.refused ∙ h.1 a)
 
-  pub build_ten_admitted : Admitted (table.build_refusals p w (length before)) → (table.refused_by b ≡ some FullTable) ↔ (capacity layout (length before) < prefixes_by (plain p) w)
+  pub build_ten_admitted : Admitted (table.build_refusals p w (length before)) → (refused_by b ≡ some FullTable) ↔ (capacity layout (length before) < prefixes_by (plain p) w)
   build_ten_admitted a =
       let h = ten_exactly (table.build_refusals p w (length before)) (prefixes_by (plain p) w) (length before) (or_none (full_table (prefixes_by (plain p) w) (length before))) a in
       (λ e. h.0 (sym call.refused ∙ e), λ lt. call.refused ∙ h.1 lt)
@@ -67,7 +68,7 @@ module _ (p : Profile) (w before after : List ℕ) (b : Built) (call : table.Pro
 -- ---- demand 3
 
 module _ (p : Profile) (w order order' table table' : List ℕ) (ready : Judgeable p w (length order) (length table))
-    (j : Judged) (call : Promise p w order order' table table' j) where
+    (j : Result Judged Refusal) (call : Promise p w order order' table table' j) where
   unrefused : judge_refusal p w (length order) (length table) ≡ none
   unrefused = (judgeable p w (length order) (length table)).1 ready
 
@@ -88,7 +89,7 @@ module _ (p : Profile) (w order order' table table' : List ℕ) (ready : Judgeab
 -- two calls, whatever buffers each was lent
 module _ (p : Profile) (v w : List ℕ) (order₁ order₁' table₁ table₁' order₂ order₂' table₂ table₂' : List ℕ)
     (first : Judgeable p v (length order₁) (length table₁)) (second : Judgeable p w (length order₂) (length table₂))
-    (i j : Judged) (g : Promise p v order₁ order₁' table₁ table₁' i) (h : Promise p w order₂ order₂' table₂ table₂' j) where
+    (i j : Result Judged Refusal) (g : Promise p v order₁ order₁' table₁ table₁' i) (h : Promise p w order₂ order₂' table₂ table₂' j) where
   e₁ : judge_refusal p v (length order₁) (length table₁) ≡ none
   e₁ = (judgeable p v (length order₁) (length table₁)).1 first
 
@@ -118,7 +119,7 @@ module _ (p : Profile) (v w : List ℕ) (order₁ order₁' table₁ table₁' o
 -- "This holds for one log judged twice, so a larger table changes none of these three."
 module _ (p : Profile) (w : List ℕ) (order₁ order₁' table₁ table₁' order₂ order₂' table₂ table₂' : List ℕ)
     (first : Judgeable p w (length order₁) (length table₁)) (second : Judgeable p w (length order₂) (length table₂))
-    (i j : Judged) (g : Promise p w order₁ order₁' table₁ table₁' i) (h : Promise p w order₂ order₂' table₂ table₂' j) where
+    (i j : Result Judged Refusal) (g : Promise p w order₁ order₁' table₁ table₁' i) (h : Promise p w order₂ order₂' table₂ table₂' j) where
   pub judged_twice : (verdict_number i ≡ verdict_number j) × (told_prefixes i ≡ told_prefixes j) × (told_looks i ≡ told_looks j)
       × (verdict_number i ≡ some 1 → take (length w) order₁' ≡ take (length w) order₂')
   judged_twice = judged_same p w w order₁ order₁' table₁ table₁' order₂ order₂' table₂ table₂' first second i j g h (itself, itself)
