@@ -11,7 +11,7 @@ use native.Mathlib.Omega.{arith}
 use lib.Dec.{T, eqb}
 use lib.ListN.{length, take}
 use Rattle.profile.specs.Automata.{Profile}
-use Rattle.profile.specs.Refusals.{full_table, lowest, refusal_number, refusal_place}
+use Rattle.profile.specs.Refusals.{full_table, lowest, refusal_number, refusal_place, refused_by}
 use Rattle.profile.specs.Rules.{Rules, plain, prefixes_by}
 use Rattle.profile.specs.Tables.{capacity, layout}
 use Rattle.profile.specs.declared.Refusal.{Refusal}
@@ -19,7 +19,7 @@ use Rattle.profile.specs.declared.Refusal.TheVariants.{FullTable}
 use Rattle.theory.proofs.Calls.{WitnessBy}
 use Rattle.terms.specs.Terms.{events, with_terms}
 use Rattle.swaps.specs.Swaps.{swaps}
-use Rattle.closestanswer.specs.Answers.{PromiseBy, closest_refusals, refused_by}
+use Rattle.closestanswer.specs.Answers.{PromiseBy, closest_refusals}
 use Rattle.closestanswer.specs.declared.Closest.{Closest}
 use Rattle.closestanswer.specs.declared.Closest.TheVariants.{NoOrder, Order}
 use Rattle.closestanswer.proofs.Promises.{floor_holds_by, no_order_told_by, order_accepted_by, refused_exactly_by}
