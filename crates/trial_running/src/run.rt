@@ -49,7 +49,7 @@ pub struct Run {
     pub tally: Tally,
 }
 
-fn counted(run: Run, which: impl Counter) -> Run {
+fn one_more(run: Run, which: impl Counter) -> Run {
     let mut u = run;
     u.tally = tally::count(run.tally, which);
     u
@@ -120,7 +120,7 @@ fn ask(
         & (told[1] == (verdict as u64))
         & (told[2] == (prefix_count(masks, log) as u64))
         & (told[3] == (run.taken as u64));
-    let mut u = counted(expected(run, Counted::Question, right), Counted::Questions);
+    let mut u = one_more(expected(run, Counted::Question, right), Counted::Questions);
     u.tally = tally::count_if(u.tally, Counted::Accepted, verdict);
     u
 }
@@ -136,12 +136,12 @@ fn refusal_of(shape: Shape, letter: u8, many: usize, size: usize) -> u32 {
 // Counts an event by what is to be said of it; one that is taken stays in the log.
 fn noted(run: Run, after: Run, number: u32) -> Run {
     if number == 8 {
-        return counted(run, Counted::BadLetters);
+        return one_more(run, Counted::BadLetters);
     }
     if number == 10 {
-        return counted(run, Counted::FullTables);
+        return one_more(run, Counted::FullTables);
     }
-    counted(after, Counted::Events)
+    one_more(after, Counted::Events)
 }
 
 // The run with the letter behind its events.
@@ -232,7 +232,7 @@ pub fn compare_run(
     let number = start_in(shape, masks, moves, &mut held, run.size, numbers, &mut told);
     if room(run.size) < 1 {
         let right = (number == Some(10)) & (told[0] == 0) & holds(&held, 77, 88);
-        return counted(expected(run, Counted::Start, right), Counted::RefusedStarts);
+        return one_more(expected(run, Counted::Start, right), Counted::RefusedStarts);
     }
     let begun = expected(run, Counted::Start, (number == Some(0)) & (told[0] == 0));
     let left = compare_left(shape, masks, moves, &held, numbers, begun);
