@@ -3,14 +3,14 @@
 
 ghost use Rattle.std.specs.Prelude.{◌≡◌, ℕ, ◌+◌, ◌*◌, ◌<◌, ◌≤◌, ◌++◌, length, drop, slice_index};
 ghost use Rattle.profile.specs.Limits.{most_letters, most_states};
-ghost use Rattle.profile.specs.Automata.{profile_of};
+ghost use Rattle.profile.specs.Automata.{lent};
 ghost use Rattle.terms.specs.Coded.{rules_of};
 ghost use Rattle.profile.specs.Tables.{layout, record_length};
 ghost use Rattle.profile.specs.Traces.{bit};
 ghost use Rattle.rows.specs.Rows.{by_letter};
 ghost use Rattle.backward.specs.Backward.{Drafted, Inside, back_from, clear_at, cleared, done_at, filled_all, flag_before, flags as flags_in, moved, with_flags, without_flags};
 
-use profile::Shape;
+use profile::Profile;
 use profile::limits::{MOST_LETTERS, MOST_MOVES};
 use records::{RECORD, last_at};
 use rows::{backward_by, by_letter};
@@ -147,28 +147,28 @@ fn clear_flags(table: &mut [u32], records: usize)
 }
 
 // Puts the backward numbers of `records` records that hold the letters that can be added and those that can be taken away, from the last to the first.
-pub fn fill_backward(
-    table: &mut [u32],
-    records: usize,
-    shape: Shape,
-    masks: &[u16],
-    moves: &[u32],
-    log: &[u8],
-    termed: bool,
-)
-    requires { Drafted (rules_of (profile_of shape masks.now moves.now) termed) log.now table.old records }
+pub fn fill_backward(table: &mut [u32], records: usize, profile: &Profile, log: &[u8], termed: bool)
+    requires { Drafted (rules_of (lent profile.now) termed) log.now table.old records }
     ensures { table.new
-        ≡ filled_all (rules_of (profile_of shape masks.now moves.now) termed) log.now
+        ≡ filled_all (rules_of (lent profile.now) termed) log.now
         ++ drop (record_length layout * records) table.old }
 {
-    let finals = shape.finals;
+    let finals = profile.shape.finals;
     let mut rows = [0u32; MOST_MOVES];
-    by_letter(moves, shape.k, shape.s, &mut rows);
+    by_letter(profile.moves, profile.shape.k, profile.shape.s, &mut rows);
     let mut cursors = [records; MOST_LETTERS];
     let last = records - 1;
     put_done(table, last, finals);
     for j in (0..last).rev() {
-        let back = back_of(table, j, shape.k, shape.s, moves, &rows, &mut cursors);
+        let back = back_of(
+            table,
+            j,
+            profile.shape.k,
+            profile.shape.s,
+            profile.moves,
+            &rows,
+            &mut cursors,
+        );
         put_done(table, j, back);
     }
     clear_flags(table, records);

@@ -7,7 +7,7 @@ ghost use Rattle.profile.specs.Refusals.{log_refusals, lowest, relation_refusals
 ghost use Rattle.bare.specs.Bare.{BuiltIs};
 
 use profile::limits::{COUNT_NUMBERS, MOST_LETTERS};
-use profile::{Refusal, Shape};
+use profile::{Profile, Refusal, Shape};
 use table::Filled;
 
 // The table of prefixes with forward and backward 0: that of a profile with one state, no moves and no final state, and 0 for the start.
@@ -22,7 +22,15 @@ pub fn build(k: usize, masks: &[u16], log: &[u8], work: &mut [u32]) -> Result<Fi
         start: 0,
         finals: 0,
     };
-    let filled = table::build(shape, masks, &moves[0..k], log, work)?;
+    let filled = table::build(
+        &Profile {
+            shape,
+            masks,
+            moves: &moves[0..k],
+        },
+        log,
+        work,
+    )?;
     work[COUNT_NUMBERS] = 0;
     Ok(filled)
 }

@@ -2,24 +2,17 @@
 #![tactic(auto)]
 
 ghost use Rattle.std.specs.Prelude.{◌≡◌};
-ghost use Rattle.profile.specs.Automata.{profile_of};
+ghost use Rattle.profile.specs.Automata.{lent};
 ghost use Rattle.calls.specs.Calls.{Asking, Starting, Stepping};
 
-use profile::Shape;
+use profile::Profile;
 use running::Running;
 
 // A start: tells the place.
-pub fn start(
-    shape: Shape,
-    masks: &[u16],
-    moves: &[u32],
-    held: &mut [u64; 2],
-    table: &mut [u32],
-    told: &mut [u64; 1],
-) -> u32
-    ensures { Starting (profile_of shape masks.now moves.now) held.old held.new table.old table.new result told.new }
+pub fn start(profile: &Profile, held: &mut [u64; 2], table: &mut [u32], told: &mut [u64; 1]) -> u32
+    ensures { Starting (lent profile.now) held.old held.new table.old table.new result told.new }
 {
-    match running::start(shape, masks, moves, table) {
+    match running::start(profile, table) {
         Err(r) => {
             *told = [refusals::place(r) as u64];
             refusals::number(r)
@@ -36,21 +29,19 @@ pub fn start(
 
 // An event: tells the place.
 pub fn event(
-    shape: Shape,
-    masks: &[u16],
-    moves: &[u32],
+    profile: &Profile,
     letter: u8,
     held: &mut [u64; 2],
     table: &mut [u32],
     told: &mut [u64; 1],
 ) -> u32
-    ensures { Stepping (profile_of shape masks.now moves.now) letter held.old held.new table.old table.new result told.new }
+    ensures { Stepping (lent profile.now) letter held.old held.new table.old table.new result told.new }
 {
     let before = Running {
         prefixes: held[0] as usize,
         taken: held[1] as usize,
     };
-    let stepped = taking::step(before, shape, masks, moves, letter, table);
+    let stepped = taking::step(before, profile, letter, table);
     let prefixes = stepped.held.prefixes as u64;
     let taken = stepped.held.taken as u64;
     *held = [prefixes, taken];
@@ -67,21 +58,14 @@ pub fn event(
 }
 
 // A question: tells the place, the verdict, P and the number of events taken.
-pub fn question(
-    shape: Shape,
-    masks: &[u16],
-    moves: &[u32],
-    held: &[u64; 2],
-    table: &[u32],
-    told: &mut [u64; 4],
-) -> u32
-    ensures { Asking (profile_of shape masks.now moves.now) held.now table.now result told.new }
+pub fn question(profile: &Profile, held: &[u64; 2], table: &[u32], told: &mut [u64; 4]) -> u32
+    ensures { Asking (lent profile.now) held.now table.now result told.new }
 {
     let asked = Running {
         prefixes: held[0] as usize,
         taken: held[1] as usize,
     };
-    match running::question(asked, shape, masks, moves, table) {
+    match running::question(asked, profile, table) {
         Err(r) => {
             *told = [refusals::place(r) as u64, 0, 0, 0];
             refusals::number(r)

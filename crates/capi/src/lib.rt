@@ -18,7 +18,7 @@ ghost use Rattle.grammar_calls.specs.GrammarCalls.{Judging as GrammarJudging};
 ghost use Rattle.ceiling_calls.specs.CeilingCalls.{Bounding};
 ghost use Rattle.closest_calls.specs.Calls.{Closing, TermClosing};
 
-use profile::{Refusal, Shape};
+use profile::{Calendar, Profile, Refusal, Shape};
 use refusals::refuse;
 
 // The judge.
@@ -42,7 +42,16 @@ pub fn fumarehi_judge(
         start: start,
         finals: finals,
     };
-    let judged = verdict::judge(shape, masks, moves, log, order, work);
+    let judged = verdict::judge(
+        &Profile {
+            shape,
+            masks,
+            moves,
+        },
+        log,
+        order,
+        work,
+    );
     answers::tell_judged(judged, told)
 }
 
@@ -66,7 +75,15 @@ pub fn fumarehi_table(
         start: start,
         finals: finals,
     };
-    match table::build(shape, masks, moves, log, table) {
+    match table::build(
+        &Profile {
+            shape,
+            masks,
+            moves,
+        },
+        log,
+        table,
+    ) {
         Err(unbuilt) => refuse(unbuilt, told),
         Ok(filled) => {
             *told = [0, filled.prefixes as u64, filled.looks];
@@ -192,7 +209,15 @@ pub fn fumarehi_write_file(
         start: start,
         finals: finals,
     };
-    match filewriter::write_file(shape, masks, moves, log, file) {
+    match filewriter::write_file(
+        &Profile {
+            shape,
+            masks,
+            moves,
+        },
+        log,
+        file,
+    ) {
         Err(unwritten) => refuse(unwritten, told),
         Ok(n) => {
             *told = [0, n as u64];
@@ -252,7 +277,16 @@ pub fn fumarehi_run_start(
         start: start,
         finals: finals,
     };
-    calls::start(shape, masks, moves, held, table, told)
+    calls::start(
+        &Profile {
+            shape,
+            masks,
+            moves,
+        },
+        held,
+        table,
+        told,
+    )
 }
 
 // The running judge's event.
@@ -276,7 +310,17 @@ pub fn fumarehi_run_event(
         start: start,
         finals: finals,
     };
-    calls::event(shape, masks, moves, letter, held, table, told)
+    calls::event(
+        &Profile {
+            shape,
+            masks,
+            moves,
+        },
+        letter,
+        held,
+        table,
+        told,
+    )
 }
 
 // The running judge's question.
@@ -299,7 +343,16 @@ pub fn fumarehi_run_question(
         start: start,
         finals: finals,
     };
-    calls::question(shape, masks, moves, held, table, told)
+    calls::question(
+        &Profile {
+            shape,
+            masks,
+            moves,
+        },
+        held,
+        table,
+        told,
+    )
 }
 
 // The judge with terms: days and terms are numbers year × 10,000 + month × 100 + day, terms the first and the last day of each in turn.
@@ -311,13 +364,12 @@ pub fn fumarehi_judge_terms(
     masks: &[u16],
     moves: &[u32],
     log: &[u8],
-    days: &[u32],
-    terms: &[u32],
+    calendar: &Calendar,
     order: &mut [u8],
     work: &mut [u32],
     told: &mut [u64; 4],
 ) -> u32
-    ensures { TermJudging (profile_of (record { k = k; s = s; start = start; finals = finals }) masks.now moves.now) log.now days.now terms.now order.old order.new work.old work.new result told.new }
+    ensures { TermJudging (profile_of (record { k = k; s = s; start = start; finals = finals }) masks.now moves.now) log.now calendar.now.days.now calendar.now.terms.now order.old order.new work.old work.new result told.new }
 {
     let shape = Shape {
         k: k,
@@ -325,7 +377,18 @@ pub fn fumarehi_judge_terms(
         start: start,
         finals: finals,
     };
-    term_calls::judge(shape, masks, moves, log, days, terms, order, work, told)
+    term_calls::judge(
+        &Profile {
+            shape,
+            masks,
+            moves,
+        },
+        log,
+        calendar,
+        order,
+        work,
+        told,
+    )
 }
 
 // A teacher's view.
@@ -406,7 +469,19 @@ pub fn fumarehi_closest(
         start: start,
         finals: finals,
     };
-    closest_calls::closest(shape, masks, moves, log, order, work, costs, budget, told)
+    closest_calls::closest(
+        &Profile {
+            shape,
+            masks,
+            moves,
+        },
+        log,
+        order,
+        work,
+        costs,
+        budget,
+        told,
+    )
 }
 
 // The same for a log with terms; days and terms as the judge with terms has them.
@@ -418,15 +493,14 @@ pub fn fumarehi_closest_terms(
     masks: &[u16],
     moves: &[u32],
     log: &[u8],
-    days: &[u32],
-    terms: &[u32],
+    calendar: &Calendar,
     order: &mut [u8],
     work: &mut [u32],
     costs: &mut [u32],
     budget: u64,
     told: &mut [u64; 6],
 ) -> u32
-    ensures { TermClosing (profile_of (record { k = k; s = s; start = start; finals = finals }) masks.now moves.now) log.now days.now terms.now budget order.old order.new work.old work.new costs.old costs.new result told.new }
+    ensures { TermClosing (profile_of (record { k = k; s = s; start = start; finals = finals }) masks.now moves.now) log.now calendar.now.days.now calendar.now.terms.now budget order.old order.new work.old work.new costs.old costs.new result told.new }
 {
     let shape = Shape {
         k: k,
@@ -435,6 +509,17 @@ pub fn fumarehi_closest_terms(
         finals: finals,
     };
     closest_calls::closest_terms(
-        shape, masks, moves, log, days, terms, order, work, costs, budget, told,
+        &Profile {
+            shape,
+            masks,
+            moves,
+        },
+        log,
+        calendar,
+        order,
+        work,
+        costs,
+        budget,
+        told,
     )
 }

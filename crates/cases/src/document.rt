@@ -1,6 +1,6 @@
 // The cases of document 01 by their numbers, and every length of table for Alt.
 use crate::each::compare_log;
-use profile::Shape;
+use profile::{Profile, Shape};
 use trial::cells::{part_of, plus, times};
 use trial::shapes::alt;
 use trial::tally;
@@ -29,45 +29,31 @@ fn order_listed(
 }
 
 // The listing agrees with the case's reachable logs, its P, looks and order, so that what the library is compared with is itself right.
-fn listing_right(
-    shape: Shape,
-    masks: &[u16],
-    moves: &[u32],
-    log: &[u8],
-    order: &[u8],
-    text: &[u8],
-) -> bool {
+fn listing_right(profile: &Profile, log: &[u8], order: &[u8], text: &[u8]) -> bool {
     let mut rows = [0u8; 16384];
-    let count = list(masks, log, &mut rows);
+    let count = list(profile.masks, log, &mut rows);
     (count == digit(text, 1))
-        & (prefix_count(masks, log) == digit(text, 2))
-        & (look_count(masks, log) == digit(text, 3))
-        & order_listed(shape, moves, &rows, count, order, digit(text, 4))
+        & (prefix_count(profile.masks, log) == digit(text, 2))
+        & (look_count(profile.masks, log) == digit(text, 3))
+        & order_listed(
+            profile.shape,
+            profile.moves,
+            &rows,
+            count,
+            order,
+            digit(text, 4),
+        )
 }
 
 // A log with its order; the text has the log's length, the number of reachable logs, P, looks and the verdict.
-fn compare_case(shape: Shape, masks: &[u16], moves: &[u32], text: &[u8], t: Tally) -> Tally {
+fn compare_case(profile: &Profile, text: &[u8], t: Tally) -> Tally {
     let mut log = [0u8; 8];
     let mut order = [0u8; 8];
     let n = digit(text, 0);
     put_letters_in(text, 6, n, &mut log);
     put_letters_in(text, plus(7, n), n, &mut order);
-    let right = listing_right(
-        shape,
-        masks,
-        moves,
-        part_of(&log, 0, n),
-        part_of(&order, 0, n),
-        text,
-    );
-    compare_log(
-        shape,
-        masks,
-        moves,
-        part_of(&log, 0, n),
-        0,
-        tally::edge(t, right),
-    )
+    let right = listing_right(profile, part_of(&log, 0, n), part_of(&order, 0, n), text);
+    compare_log(profile, part_of(&log, 0, n), 0, tally::edge(t, right))
 }
 
 fn case(line: &[u8], t: Tally) -> Tally {
@@ -79,9 +65,11 @@ fn case(line: &[u8], t: Tally) -> Tally {
     put_masks_in(line, &mut masks);
     put_moves_in(line, many, &mut moves);
     compare_case(
-        shape,
-        part_of(&masks, 0, shape.k),
-        part_of(&moves, 0, many),
+        &Profile {
+            shape,
+            masks: part_of(&masks, 0, shape.k),
+            moves: part_of(&moves, 0, many),
+        },
         part_of(line, at, trial::cells::minus(line.len(), at)),
         t,
     )
@@ -122,7 +110,17 @@ fn table_lengths(log: &[u8], t: Tally) -> Tally {
     let mut u = t;
     for size in 0..51 {
         u = tally::count(
-            compare_table(alt(), &masks, &moves, log, log.len(), size, u),
+            compare_table(
+                &Profile {
+                    shape: alt(),
+                    masks: &masks,
+                    moves: &moves,
+                },
+                log,
+                log.len(),
+                size,
+                u,
+            ),
             Counted::Edges,
         );
     }

@@ -1,5 +1,5 @@
 // What is compared of each log of a profile, and every log up to a length.
-use profile::Shape;
+use profile::Profile;
 use trial::cells::{part_of, times};
 use trial::logs::{log_count, put_log_number};
 use trial::tally::Tally;
@@ -7,29 +7,22 @@ use trial::text_rows::{digit, put_masks_in, put_moves_in, rest_at, shape_in};
 use trial_logs::orders::compare_with;
 
 // All calls on a log, and its file.
-pub fn compare_log(
-    shape: Shape,
-    masks: &[u16],
-    moves: &[u32],
-    log: &[u8],
-    extra: usize,
-    t: Tally,
-) -> Tally {
-    let judged = trial_logs::compare::compare_log(shape, masks, moves, log, extra, t);
-    trial_files::compare::compare_log(shape, masks, moves, log, extra, judged)
+pub fn compare_log(profile: &Profile, log: &[u8], extra: usize, t: Tally) -> Tally {
+    let judged = trial_logs::compare::compare_log(profile, log, extra, t);
+    trial_files::compare::compare_log(profile, log, extra, judged)
 }
 
-fn compare_number(shape: Shape, masks: &[u16], moves: &[u32], v: usize, t: Tally) -> Tally {
+fn compare_number(profile: &Profile, v: usize, t: Tally) -> Tally {
     let mut log = [0u8; 8];
-    let n = put_log_number(shape.k, v, &mut log);
-    compare_log(shape, masks, moves, part_of(&log, 0, n), v, t)
+    let n = put_log_number(profile.shape.k, v, &mut log);
+    compare_log(profile, part_of(&log, 0, n), v, t)
 }
 
 // Every log of 0 to `longest` letters.
-fn compare_numbers(shape: Shape, masks: &[u16], moves: &[u32], longest: usize, t: Tally) -> Tally {
+fn compare_numbers(profile: &Profile, longest: usize, t: Tally) -> Tally {
     let mut u = t;
-    for v in 0..log_count(shape.k, longest) {
-        u = compare_number(shape, masks, moves, v, u);
+    for v in 0..log_count(profile.shape.k, longest) {
+        u = compare_number(profile, v, u);
     }
     u
 }
@@ -43,9 +36,11 @@ pub fn every_log(row: &[u8], t: Tally) -> Tally {
     put_masks_in(row, &mut masks);
     put_moves_in(row, many, &mut moves);
     compare_numbers(
-        shape,
-        part_of(&masks, 0, shape.k),
-        part_of(&moves, 0, many),
+        &Profile {
+            shape,
+            masks: part_of(&masks, 0, shape.k),
+            moves: part_of(&moves, 0, many),
+        },
         digit(row, rest_at(shape)),
         t,
     )

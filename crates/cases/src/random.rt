@@ -1,6 +1,6 @@
 // Random profiles, with random logs.
 use crate::each::compare_log;
-use profile::Shape;
+use profile::Profile;
 use trial::cells::{byte, byte_at, minus, part_of, plus, put, times};
 use trial::random::{below, put_log, put_masks, put_moves, random_shape, seed_of};
 use trial::tally::Tally;
@@ -38,34 +38,20 @@ fn compare_near(seed: usize, k: usize, masks: &[u16], log: &[u8], t: Tally) -> T
 }
 
 // A random log of up to `longest` letters, and one near it.
-fn random_log(
-    seed: usize,
-    shape: Shape,
-    masks: &[u16],
-    moves: &[u32],
-    longest: usize,
-    t: Tally,
-) -> Tally {
+fn random_log(seed: usize, profile: &Profile, longest: usize, t: Tally) -> Tally {
     let mut letters = [0u8; 8];
     let n = below(seed, 10, plus(longest, 1));
-    put_log(seed, shape.k, n, &mut letters);
+    put_log(seed, profile.shape.k, n, &mut letters);
     let log = part_of(&letters, 0, n);
-    let compared = compare_log(shape, masks, moves, log, below(seed, 11, 1000), t);
-    compare_near(seed, shape.k, masks, log, compared)
+    let compared = compare_log(profile, log, below(seed, 11, 1000), t);
+    compare_near(seed, profile.shape.k, profile.masks, log, compared)
 }
 
 // Four logs of a profile.
-fn random_logs(
-    seed: usize,
-    shape: Shape,
-    masks: &[u16],
-    moves: &[u32],
-    longest: usize,
-    t: Tally,
-) -> Tally {
+fn random_logs(seed: usize, profile: &Profile, longest: usize, t: Tally) -> Tally {
     let mut u = t;
     for i in 0..4 {
-        u = random_log(seed_of(seed, i), shape, masks, moves, longest, u);
+        u = random_log(seed_of(seed, i), profile, longest, u);
     }
     u
 }
@@ -78,9 +64,11 @@ fn random_profile(seed: usize, k: usize, s: usize, longest: usize, t: Tally) -> 
     put_moves(seed, s, k, &mut moves);
     random_logs(
         seed,
-        random_shape(seed, k, s),
-        part_of(&masks, 0, k),
-        part_of(&moves, 0, times(s, k)),
+        &Profile {
+            shape: random_shape(seed, k, s),
+            masks: part_of(&masks, 0, k),
+            moves: part_of(&moves, 0, times(s, k)),
+        },
         longest,
         t,
     )

@@ -3,12 +3,12 @@
 
 ghost use Rattle.std.specs.Prelude.{◌||◌, ◌≡◌};
 ghost use Rattle.profile.specs.Lists.{any};
-ghost use Rattle.profile.specs.Automata.{profile_of};
+ghost use Rattle.profile.specs.Automata.{lent};
 ghost use Rattle.profile.specs.Refusals.{bit_from, refused_by, letters_out_of_range, lowest, mask_bit, profile_refusals, relation_refusals};
 ghost use Rattle.profile.specs.Refusals.{profile_out_of_range as profile_out_of_range_by};
 
 use profile::limits::{MOST_LETTERS, MOST_STATES};
-use profile::{Refusal, Shape};
+use profile::{Profile, Refusal};
 
 // 2: k out of range, or the masks not exactly k long.
 fn relation_out_of_range(k: usize, masks: &[u16]) -> bool
@@ -24,13 +24,13 @@ fn relation_out_of_range(k: usize, masks: &[u16]) -> bool
 }
 
 // 2: k, s or start out of range, or masks or moves not exactly k and s × k long.
-fn profile_out_of_range(shape: Shape, masks: &[u16], moves: &[u32]) -> bool
-    ensures { result ≡ profile_out_of_range_by (profile_of shape masks.now moves.now) }
+fn profile_out_of_range(profile: &Profile) -> bool
+    ensures { result ≡ profile_out_of_range_by (lent profile.now) }
 {
-    let k = shape.k;
-    let s = shape.s;
-    let start = shape.start;
-    if relation_out_of_range(k, masks) {
+    let k = profile.shape.k;
+    let s = profile.shape.s;
+    let start = profile.shape.start;
+    if relation_out_of_range(k, profile.masks) {
         return true;
     }
     if s < 1 {
@@ -42,7 +42,7 @@ fn profile_out_of_range(shape: Shape, masks: &[u16], moves: &[u32]) -> bool
     if s <= start {
         return true;
     }
-    moves.len() != s * k
+    profile.moves.len() != s * k
 }
 
 // The set has a bit from n on.
@@ -101,19 +101,19 @@ pub fn check_relation(k: usize, masks: &[u16]) -> Result<(), Refusal>
 }
 
 // The lowest of refusals 2, 4 and 6 that applies to a profile.
-pub fn check_profile(shape: Shape, masks: &[u16], moves: &[u32]) -> Result<(), Refusal>
-    ensures { refused_by result ≡ lowest (profile_refusals (profile_of shape masks.now moves.now)) }
+pub fn check_profile(profile: &Profile) -> Result<(), Refusal>
+    ensures { refused_by result ≡ lowest (profile_refusals (lent profile.now)) }
 {
-    let k = shape.k;
-    let s = shape.s;
-    let finals = shape.finals;
-    if profile_out_of_range(shape, masks, moves) {
+    let k = profile.shape.k;
+    let s = profile.shape.s;
+    let finals = profile.shape.finals;
+    if profile_out_of_range(profile) {
         return Err(Refusal::OutOfRange);
     }
-    if mask_refused(k, masks) {
+    if mask_refused(k, profile.masks) {
         return Err(Refusal::MaskBit);
     }
-    if states_refused(finals, moves, s) {
+    if states_refused(finals, profile.moves, s) {
         return Err(Refusal::StateBit);
     }
     Ok(())

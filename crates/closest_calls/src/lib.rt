@@ -2,11 +2,11 @@
 #![tactic(auto)]
 
 ghost use Rattle.std.specs.Prelude.{◌≡◌};
-ghost use Rattle.profile.specs.Automata.{profile_of};
+ghost use Rattle.profile.specs.Automata.{lent};
 ghost use Rattle.closest_calls.specs.Calls.{Closing, TermClosing, closest_code, closest_told};
 
 use closestanswer::Closest;
-use profile::{Refusal, Shape};
+use profile::{Calendar, Profile, Refusal};
 
 // Tells the place, the verdict, P, looks, the order's swaps and the floor.
 fn tell_closest(answer: Result<Closest, Refusal>, told: &mut [u64; 6]) -> u32
@@ -37,9 +37,7 @@ fn tell_closest(answer: Result<Closest, Refusal>, told: &mut [u64; 6]) -> u32
 
 // The order closest to what was recorded.
 pub fn closest(
-    shape: Shape,
-    masks: &[u16],
-    moves: &[u32],
+    profile: &Profile,
     log: &[u8],
     order: &mut [u8],
     work: &mut [u32],
@@ -47,30 +45,25 @@ pub fn closest(
     budget: u64,
     told: &mut [u64; 6],
 ) -> u32
-    ensures { Closing (profile_of shape masks.now moves.now) log.now budget order.old order.new work.old work.new costs.old costs.new result told.new }
+    ensures { Closing (lent profile.now) log.now budget order.old order.new work.old work.new costs.old costs.new result told.new }
 {
-    let answer = closest::closest(shape, masks, moves, log, order, work, costs, budget);
+    let answer = closest::closest(profile, log, order, work, costs, budget);
     tell_closest(answer, told)
 }
 
 // The same of a log with a day for each event and with terms.
 pub fn closest_terms(
-    shape: Shape,
-    masks: &[u16],
-    moves: &[u32],
+    profile: &Profile,
     log: &[u8],
-    days: &[u32],
-    terms: &[u32],
+    calendar: &Calendar,
     order: &mut [u8],
     work: &mut [u32],
     costs: &mut [u32],
     budget: u64,
     told: &mut [u64; 6],
 ) -> u32
-    ensures { TermClosing (profile_of shape masks.now moves.now) log.now days.now terms.now budget order.old order.new work.old work.new costs.old costs.new result told.new }
+    ensures { TermClosing (lent profile.now) log.now calendar.now.days.now calendar.now.terms.now budget order.old order.new work.old work.new costs.old costs.new result told.new }
 {
-    let answer = termed_closest::closest(
-        shape, masks, moves, log, days, terms, order, work, costs, budget,
-    );
+    let answer = termed_closest::closest(profile, log, calendar, order, work, costs, budget);
     tell_closest(answer, told)
 }

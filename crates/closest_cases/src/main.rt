@@ -2,7 +2,7 @@
 // logs with terms. Prints how much was compared, what was refused, and how much was wrong.
 #![tactic(auto)]
 
-use profile::Shape;
+use profile::Profile;
 use std::io;
 use trial::cells::{part_of, plus, times};
 use trial::logs::{log_count, put_log_number};
@@ -73,21 +73,12 @@ fn dated_for(seed: usize, n: usize, with_terms: bool) -> Dated {
     }
 }
 
-fn with_log(
-    shape: Shape,
-    masks: &[u16],
-    moves: &[u32],
-    seed: usize,
-    with_terms: bool,
-    t: Tally,
-) -> Tally {
+fn with_log(profile: &Profile, seed: usize, with_terms: bool, t: Tally) -> Tally {
     let mut log = [0u8; 8];
-    let n = length_of(seed, shape.k, shape.s);
-    put_log(seed_of(seed, 1), shape.k, n, &mut log);
+    let n = length_of(seed, profile.shape.k, profile.shape.s);
+    put_log(seed_of(seed, 1), profile.shape.k, n, &mut log);
     compare_log(
-        shape,
-        masks,
-        moves,
+        profile,
         part_of(&log, 0, n),
         dated_for(seed, n, with_terms),
         below(seed, 15, 1000),
@@ -103,9 +94,11 @@ fn one_profile(seed: usize, with_terms: bool, t: Tally) -> Tally {
     put_masks(seed, k, plus(3, below(seed, 16, 6)), &mut masks);
     put_moves(seed, s, k, &mut moves);
     with_log(
-        random_shape(seed, k, s),
-        part_of(&masks, 0, k),
-        part_of(&moves, 0, times(s, k)),
+        &Profile {
+            shape: random_shape(seed, k, s),
+            masks: part_of(&masks, 0, k),
+            moves: part_of(&moves, 0, times(s, k)),
+        },
         seed,
         with_terms,
         t,
@@ -144,11 +137,23 @@ fn compare_two(v: usize, pairs: usize, dated: Dated, t: Tally) -> Tally {
     let masks = [((pairs % 2) * 2) as u16, (pairs / 2 % 2) as u16];
     let n = put_log_number(2, v, &mut log);
     let word = part_of(&log, 0, n);
-    let first = compare_log(alt(), &masks, &moves, word, dated, v, t);
+    let first = compare_log(
+        &Profile {
+            shape: alt(),
+            masks: &masks,
+            moves: &moves,
+        },
+        word,
+        dated,
+        v,
+        t,
+    );
     compare_log(
-        shape_of(2, 1, 0, 1),
-        &masks,
-        &all,
+        &Profile {
+            shape: shape_of(2, 1, 0, 1),
+            masks: &masks,
+            moves: &all,
+        },
         word,
         dated,
         plus(v, pairs),

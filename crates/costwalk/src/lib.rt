@@ -13,8 +13,8 @@ ghost use Rattle.orderswaps.specs.Arranged.{Arranged};
 ghost use Rattle.costwalk.specs.Walk.{Chooses, Known, Leads, Puts, Stands, Tested, Tries};
 
 use counts::Counts;
-use profile::Shape;
 use profile::limits::{COUNT_NUMBERS, Place};
+use profile::{Places, Profile};
 
 // The counts of the last record: those of the whole log.
 fn last_counts(t: &[u32]) -> [u32; COUNT_NUMBERS]
@@ -45,17 +45,16 @@ fn fits(
     r: usize,
     states: u32,
     left: u32,
-    shape: Shape,
-    moves: &[u32],
+    profile: &Profile,
     x: usize,
     more: usize,
 ) -> bool
-    requires k_le_most_letters { (shape.k ≤ most_letters) × (shape.s ≤ most_states) × (r * shape.s + shape.s ≤ length costs.now) }
-    requires x_bound { forward_step shape.k shape.s moves.now states x < 2 ^ shape.s }
-    ensures { Tested costs.now (r * shape.s) (forward_step shape.k shape.s moves.now states x) more left result }
+    requires k_le_most_letters { (profile.now.shape.k ≤ most_letters) × (profile.now.shape.s ≤ most_states) × (r * profile.now.shape.s + profile.now.shape.s ≤ length costs.now) }
+    requires x_bound { forward_step profile.now.shape.k profile.now.shape.s profile.now.moves.now states x < 2 ^ profile.now.shape.s }
+    ensures { Tested costs.now (r * profile.now.shape.s) (forward_step profile.now.shape.k profile.now.shape.s profile.now.moves.now states x) more left result }
 {
-    let s = shape.s;
-    let reached = steps::step_forward(moves, shape.k, s, states, x);
+    let s = profile.shape.s;
+    let reached = steps::step_forward(profile.moves, profile.shape.k, s, states, x);
     let least = costcells::least_in(costs, r * s, s, reached);
     costcells::plus(least, more) <= left
 }
@@ -64,27 +63,25 @@ fn fits(
 fn try_letter(
     t: &[u32],
     taken: Taken,
-    shape: Shape,
-    moves: &[u32],
+    profile: &Profile,
     log: &[u8],
-    starts: &[Place],
-    places: &[Place],
+    placed: &Places,
     costs: &[u32],
     x: usize,
 ) -> Option<usize>
-    requires stands { Stands shape moves.now t.now log.now starts.now places.now costs.now (words taken.counts) taken.left }
-    requires x_lt_k { x < shape.k }
-    ensures { Tries shape moves.now t.now log.now starts.now places.now costs.now (words taken.counts) taken.states taken.left x result }
+    requires stands { Stands profile.now.shape profile.now.moves.now t.now log.now placed.now.starts.now placed.now.places.now costs.now (words taken.counts) taken.left }
+    requires x_lt_k { x < profile.now.shape.k }
+    ensures { Tries profile.now.shape profile.now.moves.now t.now log.now placed.now.starts.now placed.now.places.now costs.now (words taken.counts) taken.states taken.left x result }
 {
     let c = taken.counts;
     let found = search::find(t, counts::one_more(c, x));
     if let Ok(r) = found {
         let n = counts::numbers(c);
         let whole = last_counts(t);
-        let more = stepcost::step_cost(log, &n, &whole, shape.k, starts, places, x);
+        let more = stepcost::step_cost(log, &n, &whole, profile.shape.k, placed, x);
         let states = taken.states;
         let left = taken.left;
-        if fits(costs, r, states, left, shape, moves, x, more) {
+        if fits(costs, r, states, left, profile, x, more) {
             return Some(more);
         }
     }
@@ -95,18 +92,16 @@ fn try_letter(
 fn choose(
     t: &[u32],
     taken: Taken,
-    shape: Shape,
-    moves: &[u32],
+    profile: &Profile,
     log: &[u8],
-    starts: &[Place],
-    places: &[Place],
+    placed: &Places,
     costs: &[u32],
 ) -> Choice
-    requires { Leads shape moves.now t.now log.now starts.now places.now costs.now (words taken.counts) taken.states taken.left }
-    ensures { Chooses shape moves.now t.now log.now starts.now places.now costs.now (words taken.counts) taken.states taken.left result }
+    requires { Leads profile.now.shape profile.now.moves.now t.now log.now placed.now.starts.now placed.now.places.now costs.now (words taken.counts) taken.states taken.left }
+    ensures { Chooses profile.now.shape profile.now.moves.now t.now log.now placed.now.starts.now placed.now.places.now costs.now (words taken.counts) taken.states taken.left result }
 {
-    for x in 0..shape.k {
-        let next = try_letter(t, taken, shape, moves, log, starts, places, costs, x);
+    for x in 0..profile.shape.k {
+        let next = try_letter(t, taken, profile, log, placed, costs, x);
         if let Some(cost) = next {
             return Choice { letter: x, cost };
         }
@@ -115,16 +110,16 @@ fn choose(
 }
 
 // Letter x, which costs `cost`, is taken next.
-fn take_letter(taken: Taken, shape: Shape, moves: &[u32], x: usize, cost: usize) -> Taken
-    requires { (shape.k ≤ most_letters) × (shape.s ≤ most_states) × (cost ≤ taken.left) }
+fn take_letter(taken: Taken, profile: &Profile, x: usize, cost: usize) -> Taken
+    requires { (profile.now.shape.k ≤ most_letters) × (profile.now.shape.s ≤ most_states) × (cost ≤ taken.left) }
     ensures counts_value { words result.counts ≡ add_count layout (words taken.counts) x }
-    ensures states_value { result.states ≡ forward_step shape.k shape.s moves.now taken.states x }
+    ensures states_value { result.states ≡ forward_step profile.now.shape.k profile.now.shape.s profile.now.moves.now taken.states x }
     ensures left_value { result.left ≡ taken.left - cost }
 {
     let states = taken.states;
     Taken {
         counts: counts::one_more(taken.counts, x),
-        states: steps::step_forward(moves, shape.k, shape.s, states, x),
+        states: steps::step_forward(profile.moves, profile.shape.k, profile.shape.s, states, x),
         left: taken.left - cost as u32,
     }
 }
@@ -132,46 +127,37 @@ fn take_letter(taken: Taken, shape: Shape, moves: &[u32], x: usize, cost: usize)
 // Writes the earliest order of `fewest` swaps, the fewest of any; the costs are those to an accepted end.
 pub fn put_closest(
     t: &[u32],
-    shape: Shape,
-    moves: &[u32],
+    profile: &Profile,
     log: &[u8],
-    starts: &[Place],
-    places: &[Place],
+    placed: &Places,
     costs: &[u32],
     fewest: u32,
     order: &mut [u8],
 )
-    requires known { Known shape moves.now t.now log.now starts.now places.now costs.now fewest }
+    requires known { Known profile.now.shape profile.now.moves.now t.now log.now placed.now.starts.now placed.now.places.now costs.now fewest }
     requires log_in_bounds { length log.now ≤ length order.old }
-    ensures { Puts shape moves.now t.now log.now starts.now places.now costs.now fewest order.old order.new }
+    ensures { Puts profile.now.shape profile.now.moves.now t.now log.now placed.now.starts.now placed.now.places.now costs.now fewest order.old order.new }
 {
     let mut taken = Taken {
         counts: counts::none_counted(),
-        states: 1u32 << shape.start,
+        states: 1u32 << profile.shape.start,
         left: fewest,
     };
     for i in 0..log.len() {
-        let choice = choose(t, taken, shape, moves, log, starts, places, costs);
+        let choice = choose(t, taken, profile, log, placed, costs);
         let x = choice.letter;
         order[i] = x as u8;
-        taken = take_letter(taken, shape, moves, x, choice.cost);
+        taken = take_letter(taken, profile, x, choice.cost);
     }
 }
 
 // The swaps of an order of the log; t has the records of all prefixes, the last that of the whole log.
-pub fn swaps_of(
-    t: &[u32],
-    k: usize,
-    log: &[u8],
-    starts: &[Place],
-    places: &[Place],
-    order: &[u8],
-) -> u32
+pub fn swaps_of(t: &[u32], k: usize, log: &[u8], placed: &Places, order: &[u8]) -> u32
     requires bound { 1 ≤ records_in t.now }
-    requires placed { Placed k log.now starts.now places.now }
+    requires placed { Placed k log.now placed.now.starts.now placed.now.places.now }
     requires arranged { Arranged k log.now (counts_at t.now (records_in t.now - 1)) order.now }
     ensures { result ≡ swaps (λ a. a) log.now (take (length log.now) order.now) }
 {
     let whole = last_counts(t);
-    orderswaps::swaps(log, &whole, k, starts, places, order)
+    orderswaps::swaps(log, &whole, k, placed, order)
 }

@@ -6,7 +6,7 @@ ghost use Rattle.profile.specs.Refusals.{refused_by, lowest};
 ghost use Rattle.terms.specs.Terms.{bad_term, events as events_of, has_term?, in_term?, no_term, rise?, rises?, term_count, term_of as term_by, term_refusals};
 ghost use Rattle.terms.specs.Coded.{Coding, code_of};
 
-use profile::Refusal;
+use profile::{Calendar, Refusal};
 use terms::{MOST_TERMS, TERM_BOUND};
 
 // What stands at place i; 0 past the end.
@@ -91,38 +91,41 @@ fn is_outside(terms: &[u32], d: u32) -> bool
 }
 
 // One of the days is in no term.
-fn has_day_outside(days: &[u32], terms: &[u32]) -> bool
-    ensures { result ≡ no_term days.now terms.now }
+fn has_day_outside(calendar: &Calendar) -> bool
+    ensures { result ≡ no_term calendar.now.days.now calendar.now.terms.now }
 {
-    days.iter().any(|day| is_outside(terms, *day))
+    calendar
+        .days
+        .iter()
+        .any(|day| is_outside(calendar.terms, *day))
 }
 
 // The days and terms of a log: refused by 14, 15 and 16.
-pub fn check_terms(log: &[u8], days: &[u32], terms: &[u32]) -> Result<(), Refusal>
-    ensures { refused_by result ≡ lowest (term_refusals log.now days.now terms.now) }
+pub fn check_terms(log: &[u8], calendar: &Calendar) -> Result<(), Refusal>
+    ensures { refused_by result ≡ lowest (term_refusals log.now calendar.now.days.now calendar.now.terms.now) }
 {
-    if days.len() != log.len() {
+    if calendar.days.len() != log.len() {
         return Err(Refusal::BadDay);
     }
-    if days::has_bad_day(days) {
+    if days::has_bad_day(calendar.days) {
         return Err(Refusal::BadDay);
     }
-    if terms_bad(terms) {
+    if terms_bad(calendar.terms) {
         return Err(Refusal::BadTerm);
     }
-    if has_day_outside(days, terms) {
+    if has_day_outside(calendar) {
         return Err(Refusal::NoTerm);
     }
     Ok(())
 }
 
 // Puts the code of each event: its letter and its term in one byte.
-pub fn code_events(log: &[u8], days: &[u32], terms: &[u32], codes: &mut [u8])
-    requires { Coding log.now days.now terms.now (length codes.old) }
-    ensures { codes.new ≡ map (code_of terms.now) (events_of log.now days.now) ++ drop (length log.now) codes.old }
+pub fn code_events(log: &[u8], calendar: &Calendar, codes: &mut [u8])
+    requires { Coding log.now calendar.now.days.now calendar.now.terms.now (length codes.old) }
+    ensures { codes.new ≡ map (code_of calendar.now.terms.now) (events_of log.now calendar.now.days.now) ++ drop (length log.now) codes.old }
 {
     for (i, letter) in log.iter().enumerate() {
-        let t = term_of(terms, days[i]) as u8;
+        let t = term_of(calendar.terms, calendar.days[i]) as u8;
         codes[i] = TERM_BOUND * *letter + t;
     }
 }

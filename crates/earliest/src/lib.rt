@@ -4,7 +4,7 @@
 ghost use Rattle.std.specs.Prelude.{◌≡◌, true, ℕ, suc, ◌≤◌, ◌<◌, T, length};
 ghost use Rattle.profile.specs.Limits.{most_letters, most_states};
 ghost use Rattle.profile.specs.Rules.{order_by};
-ghost use Rattle.profile.specs.Automata.{forward_step, profile_of};
+ghost use Rattle.profile.specs.Automata.{lent, forward_step};
 ghost use Rattle.terms.specs.Coded.{rules_of};
 ghost use Rattle.counts.specs.Counts.{words};
 ghost use Rattle.records.specs.Records.{records_in};
@@ -14,22 +14,15 @@ ghost use Rattle.successors.specs.Successors.{Stands};
 ghost use Rattle.earliest.specs.Earliest.{Enclosed, Smallest, Some, Table, found?, led, record_count, with_order};
 
 use counts::Counts;
-use profile::Shape;
+use profile::{Profile, Shape};
 use records::RECORD;
 
 // Some order of the log is accepted: the backward set of the empty prefix, the first record, has the start state.
-pub fn has_order(
-    table: &[u32],
-    shape: Shape,
-    masks: &[u16],
-    moves: &[u32],
-    log: &[u8],
-    termed: bool,
-) -> bool
-    requires { Table (rules_of (profile_of shape masks.now moves.now) termed) log.now table.now }
-    ensures { result ≡ found? (order_by (rules_of (profile_of shape masks.now moves.now) termed) log.now) }
+pub fn has_order(table: &[u32], profile: &Profile, log: &[u8], termed: bool) -> bool
+    requires { Table (rules_of (lent profile.now) termed) log.now table.now }
+    ensures { result ≡ found? (order_by (rules_of (lent profile.now) termed) log.now) }
 {
-    let start = shape.start;
+    let start = profile.shape.start;
     let backward = records::last_at(table, 0);
     steps::meet(1u32 << start, backward)
 }
@@ -120,26 +113,31 @@ fn choose(t: &[u32], at: usize, near: usize, states: u32, shape: Shape, moves: &
 pub fn put_order(
     table: &[u32],
     records: usize,
-    shape: Shape,
-    masks: &[u16],
-    moves: &[u32],
+    profile: &Profile,
     log: &[u8],
     order: &mut [u8],
     termed: bool,
 )
-    requires table { Table (rules_of (profile_of shape masks.now moves.now) termed) log.now table.now }
-    requires records_value { records ≡ record_count (rules_of (profile_of shape masks.now moves.now) termed) log.now }
-    requires log_value { found? (order_by (rules_of (profile_of shape masks.now moves.now) termed) log.now) ≡ true }
+    requires table { Table (rules_of (lent profile.now) termed) log.now table.now }
+    requires records_value { records ≡ record_count (rules_of (lent profile.now) termed) log.now }
+    requires log_value { found? (order_by (rules_of (lent profile.now) termed) log.now) ≡ true }
     requires log_in_bounds { length log.now ≤ length order.old }
-    ensures { order.new ≡ with_order (order_by (rules_of (profile_of shape masks.now moves.now) termed) log.now) order.old }
+    ensures { order.new ≡ with_order (order_by (rules_of (lent profile.now) termed) log.now) order.old }
 {
     let used = RECORD * records;
-    let start = shape.start;
+    let start = profile.shape.start;
     let mut states = 1u32 << start;
     let mut at = 0;
     let mut near = 0;
     for i in 0..log.len() {
-        let choice = choose(&table[0..used], at, near, states, shape, moves);
+        let choice = choose(
+            &table[0..used],
+            at,
+            near,
+            states,
+            profile.shape,
+            profile.moves,
+        );
         let letter = choice.letter;
         order[i] = letter as u8;
         states = choice.states;

@@ -4,11 +4,11 @@
 ghost use Rattle.std.specs.Prelude.{◌≡◌, ◌+◌, ◌*◌, ◌≤◌, ◌<◌, length};
 ghost use Rattle.std.proofs.lemmas.List.Edits.{sets};
 ghost use Rattle.profile.specs.Lists.{flat_map};
-ghost use Rattle.profile.specs.Automata.{profile_of};
+ghost use Rattle.profile.specs.Automata.{lent};
 ghost use Rattle.filewriter.specs.Written.{Fit, Writes, file_bytes, low_bytes, trailer_of};
 
 use profile::limits::TRAILER_LENGTH;
-use profile::{Refusal, Shape};
+use profile::{Profile, Refusal, Shape};
 
 // Puts the two low bytes of v, low byte first.
 fn put_half(v: u32, out: &mut [u8], at: usize)
@@ -86,37 +86,31 @@ fn trailer_bytes(shape: Shape, n: usize, masks: usize, moves: usize) -> [u8; TRA
 }
 
 // Puts masks, moves, log and trailer, without gaps.
-fn put_file(shape: Shape, masks: &[u16], moves: &[u32], log: &[u8], out: &mut [u8])
-    requires { Fit shape masks.now moves.now log.now out.old }
-    ensures { out.new ≡ sets out.old 0 (file_bytes (profile_of shape masks.now moves.now) log.now) }
+fn put_file(profile: &Profile, log: &[u8], out: &mut [u8])
+    requires { Fit profile.now.shape profile.now.masks.now profile.now.moves.now log.now out.old }
+    ensures { out.new ≡ sets out.old 0 (file_bytes (lent profile.now) log.now) }
 {
     let n = log.len();
-    let moves_at = 2 * masks.len();
-    let log_at = moves_at + 4 * moves.len();
+    let moves_at = 2 * profile.masks.len();
+    let log_at = moves_at + 4 * profile.moves.len();
     let end = log_at + n;
-    put_masks(masks, out, 0);
-    put_moves(moves, out, moves_at);
+    put_masks(profile.masks, out, 0);
+    put_moves(profile.moves, out, moves_at);
     put_bytes(log, out, log_at);
-    let trailer = trailer_bytes(shape, n, end, end - moves_at);
+    let trailer = trailer_bytes(profile.shape, n, end, end - moves_at);
     put_bytes(&trailer, out, end);
 }
 
 // Puts masks, moves, log and trailer, without gaps, and tells the file's length.
-pub fn write_file(
-    shape: Shape,
-    masks: &[u16],
-    moves: &[u32],
-    log: &[u8],
-    out: &mut [u8],
-) -> Result<usize, Refusal>
-    ensures { Writes (profile_of shape masks.now moves.now) log.now out.old out.new result }
+pub fn write_file(profile: &Profile, log: &[u8], out: &mut [u8]) -> Result<usize, Refusal>
+    ensures { Writes (lent profile.now) log.now out.old out.new result }
 {
-    checks::check_profile(shape, masks, moves)?;
-    logcheck::check_log(shape.k, log)?;
-    let size = 2 * masks.len() + 4 * moves.len() + log.len() + TRAILER_LENGTH;
+    checks::check_profile(profile)?;
+    logcheck::check_log(profile.shape.k, log)?;
+    let size = 2 * profile.masks.len() + 4 * profile.moves.len() + log.len() + TRAILER_LENGTH;
     if out.len() < size {
         return Err(Refusal::ShortBuffer);
     }
-    put_file(shape, masks, moves, log, out);
+    put_file(profile, log, out);
     Ok(size)
 }

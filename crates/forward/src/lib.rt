@@ -3,7 +3,7 @@
 
 ghost use Rattle.std.specs.Prelude.{◌≡◌, [], ◌∷◌, ◌++◌, suc, ◌+◌, ◌*◌, ◌≤◌, ◌<◌, length, replicate};
 ghost use Rattle.profile.specs.Limits.{most_letters, most_states};
-ghost use Rattle.profile.specs.Automata.{profile_of};
+ghost use Rattle.profile.specs.Automata.{lent, profile_of};
 ghost use Rattle.profile.specs.Refusals.{longest};
 ghost use Rattle.profile.specs.Tables.{layout, record_length};
 ghost use Rattle.profile.specs.Traces.{independent};
@@ -18,8 +18,8 @@ ghost use Rattle.forward.specs.Merging.{Comes, Grows, Halfway, Prepared, Standin
 
 use counts::Counts;
 use merge::Handed;
-use profile::Shape;
 use profile::limits::{MOST_LETTERS, MOST_MOVES, Place};
+use profile::{Places, Profile, Shape};
 use records::RECORD;
 
 // The bits of the half of a record's last number that has the letters that can be added; above it are those that lead to the record.
@@ -51,13 +51,12 @@ fn put_first(
     keepers: &[u32; MOST_LETTERS],
     moves: &[u32],
     log: &[u8],
-    starts: &[Place],
-    places: &[Place],
+    placed: &Places,
     turns: &[Place],
     termed: bool,
 ) -> u32
     requires keepers_value { keepers.now ≡ all_keepers (independent masks.now) shape.k }
-    requires ready { Ready (rules_of (profile_of shape masks.now moves.now) termed) log.now (length table.old) 1 starts.now places.now turns.now termed }
+    requires ready { Ready (rules_of (profile_of shape masks.now moves.now) termed) log.now (length table.old) 1 placed.now.starts.now placed.now.places.now turns.now termed }
     ensures { (result ≡ pairs (rules_of (profile_of shape masks.now moves.now) termed) log.now (totals (rules_of (profile_of shape masks.now moves.now) termed) log.now 1))
         × (table.new ≡ begun (rules_of (profile_of shape masks.now moves.now) termed) log.now (totals (rules_of (profile_of shape masks.now moves.now) termed) log.now 1) table.old) }
 {
@@ -65,9 +64,9 @@ fn put_first(
     let start = shape.start;
     let c = counts::none_counted();
     let letters = if termed {
-        term_letters::addable_in_terms(c, k, masks, keepers, log.len(), starts, places, turns)
+        term_letters::addable_in_terms(c, k, masks, keepers, log.len(), placed, turns)
     } else {
-        letters::addable(c, k, masks, keepers, log.len(), starts, places)
+        letters::addable(c, k, masks, keepers, log.len(), placed)
     };
     records::put(table, 0, c, 1u32 << start, letters.set);
     letters.number
@@ -113,13 +112,12 @@ fn merge_next(
     rows: &[u32; MOST_MOVES],
     keepers: &[u32; MOST_LETTERS],
     log: &[u8],
-    starts: &[Place],
-    places: &[Place],
+    placed: &Places,
     cursors: &mut [usize],
     turns: &[Place],
     termed: bool,
 ) -> Option<Option<u32>>
-    requires halfway { Halfway (rules_of (profile_of part.shape masks.now moves.now) termed) log.now table.old part j cursors.old starts.now places.now turns.now termed }
+    requires halfway { Halfway (rules_of (profile_of part.shape masks.now moves.now) termed) log.now table.old part j cursors.old placed.now.starts.now placed.now.places.now turns.now termed }
     requires prepared { Prepared (rules_of (profile_of part.shape masks.now moves.now) termed) rows.now keepers.now }
     ensures { Steps (rules_of (profile_of part.shape masks.now moves.now) termed) log.now part.room part.t part.first j table.old table.new cursors.new result }
 {
@@ -142,16 +140,14 @@ fn merge_next(
                         masks,
                         keepers,
                         log.len(),
-                        starts,
-                        places,
+                        placed,
                         turns,
                     );
                     found.set
                 } else {
                     // What is handed on can be added. What may pass one of the letters that lead here, and is not handed on, cannot. The others are tested.
                     let open = letters::in_neither(k, handed.letters, handed.passed);
-                    handed.letters
-                        | letters::tested(c, k, masks, keepers, log.len(), starts, places, open)
+                    handed.letters | letters::tested(c, k, masks, keepers, log.len(), placed, open)
                 };
                 put_in(table, first, j, c, handed.forward, set | (from << HALF));
                 Some(Some(u32::count_ones(set)))
@@ -183,12 +179,11 @@ fn fill_total(
     rows: &[u32; MOST_MOVES],
     keepers: &[u32; MOST_LETTERS],
     log: &[u8],
-    starts: &[Place],
-    places: &[Place],
+    placed: &Places,
     turns: &[Place],
     termed: bool,
 ) -> Option<(usize, u64)>
-    requires { Standing (rules_of (profile_of part.shape masks.now moves.now) termed) log.now table.old part starts.now places.now turns.now termed × Prepared (rules_of (profile_of part.shape masks.now moves.now) termed) rows.now keepers.now }
+    requires { Standing (rules_of (profile_of part.shape masks.now moves.now) termed) log.now table.old part placed.now.starts.now placed.now.places.now turns.now termed × Prepared (rules_of (profile_of part.shape masks.now moves.now) termed) rows.now keepers.now }
     ensures { Grows (rules_of (profile_of part.shape masks.now moves.now) termed) log.now part.room part.t part.first table.old table.new result }
 {
     let mut cursors = first_cursors(table, part, part.shape.k);
@@ -204,8 +199,7 @@ fn fill_total(
         rows,
         keepers,
         log,
-        starts,
-        places,
+        placed,
         &mut cursors,
         turns,
         termed,
@@ -241,12 +235,11 @@ fn fill_totals(
     rows: &[u32; MOST_MOVES],
     keepers: &[u32; MOST_LETTERS],
     log: &[u8],
-    starts: &[Place],
-    places: &[Place],
+    placed: &Places,
     turns: &[Place],
     termed: bool,
 ) -> Option<Filled>
-    requires standing { Standing (rules_of (profile_of part.shape masks.now moves.now) termed) log.now table.old part starts.now places.now turns.now termed }
+    requires standing { Standing (rules_of (profile_of part.shape masks.now moves.now) termed) log.now table.old part placed.now.starts.now placed.now.places.now turns.now termed }
     requires t_in_bounds { ((part.t ≤ length log.now) × (number ≡ pairs (rules_of (profile_of part.shape masks.now moves.now) termed) log.now (totals (rules_of (profile_of part.shape masks.now moves.now) termed) log.now (suc part.t)))) × Prepared (rules_of (profile_of part.shape masks.now moves.now) termed) rows.now keepers.now }
     ensures { Forward (rules_of (profile_of part.shape masks.now moves.now) termed) log.now part.room table.old table.new result }
 {
@@ -255,7 +248,7 @@ fn fill_totals(
     // Kept: the part has the number of its total, which the next part comes from; a `for` would count the totals twice.
     while at.t < log.len() {
         let (records, pairs) = fill_total(
-            table, at, masks, moves, rows, keepers, log, starts, places, turns, termed,
+            table, at, masks, moves, rows, keepers, log, placed, turns, termed,
         )?;
         at = next_part(at, records);
         looks += pairs;
@@ -270,35 +263,50 @@ fn fill_totals(
 pub fn fill_forward(
     table: &mut [u32],
     room: usize,
-    shape: Shape,
-    masks: &[u16],
-    moves: &[u32],
+    profile: &Profile,
     log: &[u8],
-    starts: &[Place],
-    places: &[Place],
+    placed: &Places,
     turns: &[Place],
     termed: bool,
 ) -> Option<Filled>
-    requires { Ready (rules_of (profile_of shape masks.now moves.now) termed) log.now (length table.old) room starts.now places.now turns.now termed }
-    ensures { Forward (rules_of (profile_of shape masks.now moves.now) termed) log.now room table.old table.new result }
+    requires { Ready (rules_of (lent profile.now) termed) log.now (length table.old) room placed.now.starts.now placed.now.places.now turns.now termed }
+    ensures { Forward (rules_of (lent profile.now) termed) log.now room table.old table.new result }
 {
     if room == 0 {
         return None;
     }
-    let keepers = events::all_keepers(masks, shape.k);
+    let keepers = events::all_keepers(profile.masks, profile.shape.k);
     let number = put_first(
-        table, shape, masks, &keepers, moves, log, starts, places, turns, termed,
+        table,
+        profile.shape,
+        profile.masks,
+        &keepers,
+        profile.moves,
+        log,
+        placed,
+        turns,
+        termed,
     );
     let mut rows = [0u32; MOST_MOVES];
-    rows::by_letter(moves, shape.k, shape.s, &mut rows);
+    rows::by_letter(profile.moves, profile.shape.k, profile.shape.s, &mut rows);
     let part = Part {
-        shape: shape,
+        shape: profile.shape,
         room: room,
         t: 0,
         from: 0,
         first: 1,
     };
     fill_totals(
-        table, part, number, masks, moves, &rows, &keepers, log, starts, places, turns, termed,
+        table,
+        part,
+        number,
+        profile.masks,
+        profile.moves,
+        &rows,
+        &keepers,
+        log,
+        placed,
+        turns,
+        termed,
     )
 }

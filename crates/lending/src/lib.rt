@@ -2,25 +2,23 @@
 #![tactic(auto)]
 
 ghost use Rattle.std.specs.Prelude.{◌≡◌};
-ghost use Rattle.profile.specs.Automata.{profile_of};
+ghost use Rattle.profile.specs.Automata.{lent};
 ghost use Rattle.running.specs.Running.{StepPromise};
 
-use profile::{Refusal, Shape};
+use profile::{Profile, Refusal};
 use running::Running;
 
 // An event: the record is updated where it stands. Refused by 2, 4, 6, 7, 8 and 10, and then neither the record nor the table is changed.
 pub fn event(
     r: &mut Running,
-    shape: Shape,
-    masks: &[u16],
-    moves: &[u32],
+    profile: &Profile,
     letter: u8,
     table: &mut [u32],
 ) -> Result<(), Refusal>
-    ensures { StepPromise (profile_of shape masks.now moves.now) letter r.old r.new table.old table.new result }
+    ensures { StepPromise (lent profile.now) letter r.old r.new table.old table.new result }
 {
     let held = *r;
-    let after = taking::step(held, shape, masks, moves, letter, table);
+    let after = taking::step(held, profile, letter, table);
     *r = after.held;
     after.answer
 }

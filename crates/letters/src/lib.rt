@@ -10,6 +10,7 @@ ghost use Rattle.events.specs.Events.{all_keepers};
 ghost use Rattle.letters.specs.Letters.{letter_by, letters_by, neither, next_by, place_by, tested_by};
 
 use counts::{Counts, NUMBERS};
+use profile::Places;
 use profile::limits::{MOST_LETTERS, Place};
 
 // So many letters are tested each by itself; for more the places of all letters are put in a row first.
@@ -23,14 +24,14 @@ pub struct Letters {
 }
 
 // Puts the place of the next event of each letter below k.
-pub fn next_places(c: Counts, k: usize, starts: &[Place], places: &[Place], next: &mut [Place])
+pub fn next_places(c: Counts, k: usize, placed: &Places, next: &mut [Place])
     requires { (k ≤ most_letters) × (k ≤ length next.old) }
-    ensures { next.new ≡ next_by k starts.now places.now (words c) ++ drop k next.old }
+    ensures { next.new ≡ next_by k placed.now.starts.now placed.now.places.now (words c) ++ drop k next.old }
 {
     let t = counts::numbers(c);
     for y in 0..k {
         let n = counts::count_of(&t, y) as Place;
-        next[y] = places::next_place(starts, places, y, n);
+        next[y] = places::next_place(placed, y, n);
     }
 }
 
@@ -41,18 +42,17 @@ pub fn addable(
     masks: &[u16],
     keepers: &[u32; MOST_LETTERS],
     n: usize,
-    starts: &[Place],
-    places: &[Place],
+    placed: &Places,
 ) -> Letters
     requires k_le_most_letters { k ≤ most_letters }
     requires keepers_value { keepers.now ≡ all_keepers (independent masks.now) k }
-    ensures { (result.set ≡ union (λ x. 2 ^ x) (letters_by (independent masks.now) k n starts.now places.now (words c)))
-        × (result.number ≡ length (letters_by (independent masks.now) k n starts.now places.now (words c))) }
+    ensures { (result.set ≡ union (λ x. 2 ^ x) (letters_by (independent masks.now) k n placed.now.starts.now placed.now.places.now (words c)))
+        × (result.number ≡ length (letters_by (independent masks.now) k n placed.now.starts.now placed.now.places.now (words c))) }
 {
     // k itself. `min` shows the compiler, which reads no contract, that it is at most 16: no place is then tested again in the loops over the letters.
     let end = k.min(MOST_LETTERS);
     let mut next: [Place; MOST_LETTERS] = [0; MOST_LETTERS];
-    next_places(c, end, starts, places, &mut next);
+    next_places(c, end, placed, &mut next);
     let mut set = 0u32;
     let mut number = 0u32;
     for x in 0..end {
@@ -65,12 +65,12 @@ pub fn addable(
 }
 
 // The place of the next event of letter x, by the numbers of counts t.
-fn place_of(t: &[u32; NUMBERS], starts: &[Place], places: &[Place], x: usize) -> Place
+fn place_of(t: &[u32; NUMBERS], placed: &Places, x: usize) -> Place
     requires { x < most_letters }
-    ensures { result ≡ place_by starts.now places.now t.now x }
+    ensures { result ≡ place_by placed.now.starts.now placed.now.places.now t.now x }
 {
     let n = counts::count_of(t, x) as Place;
-    places::next_place(starts, places, x, n)
+    places::next_place(placed, x, n)
 }
 
 // The set of letter x alone where it can be added to the counts with the numbers t, else no letter. Each turn takes the lowest of the letters that keep it
@@ -81,22 +81,21 @@ fn tested_letter(
     masks: &[u16],
     keepers: &[u32; MOST_LETTERS],
     n: usize,
-    starts: &[Place],
-    places: &[Place],
+    placed: &Places,
     x: usize,
 ) -> u32
     requires k_le_most_letters { (k ≤ most_letters) × (x < k) }
     requires keepers_value { keepers.now ≡ all_keepers (independent masks.now) k }
-    ensures { result ≡ letter_by (independent masks.now) k n starts.now places.now t.now x }
+    ensures { result ≡ letter_by (independent masks.now) k n placed.now.starts.now placed.now.places.now t.now x }
 {
-    let own = place_of(t, starts, places, x);
+    let own = place_of(t, placed, x);
     if n <= own as usize {
         return 0;
     }
     let mut rest = keepers[x];
     while rest != 0 {
         let y = u32::trailing_zeros(rest) as usize;
-        if place_of(t, starts, places, y) <= own {
+        if place_of(t, placed, y) <= own {
             return 0;
         }
         rest = rest & (rest - 1);
@@ -112,13 +111,12 @@ fn tested_few(
     masks: &[u16],
     keepers: &[u32; MOST_LETTERS],
     n: usize,
-    starts: &[Place],
-    places: &[Place],
+    placed: &Places,
     set: u32,
 ) -> u32
     requires k_le_most_letters { k ≤ most_letters }
     requires keepers_value { keepers.now ≡ all_keepers (independent masks.now) k }
-    ensures { result ≡ tested_by (independent masks.now) k n starts.now places.now (words c) set }
+    ensures { result ≡ tested_by (independent masks.now) k n placed.now.starts.now placed.now.places.now (words c) set }
 {
     let t = counts::numbers(c);
     let mut out = 0u32;
@@ -126,7 +124,7 @@ fn tested_few(
     while rest != 0 {
         let x = u32::trailing_zeros(rest) as usize;
         if x < k {
-            out = out | tested_letter(&t, k, masks, keepers, n, starts, places, x);
+            out = out | tested_letter(&t, k, masks, keepers, n, placed, x);
         }
         rest = rest & (rest - 1);
     }
@@ -140,18 +138,17 @@ pub fn tested(
     masks: &[u16],
     keepers: &[u32; MOST_LETTERS],
     n: usize,
-    starts: &[Place],
-    places: &[Place],
+    placed: &Places,
     set: u32,
 ) -> u32
     requires k_le_most_letters { k ≤ most_letters }
     requires keepers_value { keepers.now ≡ all_keepers (independent masks.now) k }
-    ensures { result ≡ tested_by (independent masks.now) k n starts.now places.now (words c) set }
+    ensures { result ≡ tested_by (independent masks.now) k n placed.now.starts.now placed.now.places.now (words c) set }
 {
     if u32::count_ones(set) <= FEW {
-        return tested_few(c, k, masks, keepers, n, starts, places, set);
+        return tested_few(c, k, masks, keepers, n, placed, set);
     }
-    let found = addable(c, k, masks, keepers, n, starts, places);
+    let found = addable(c, k, masks, keepers, n, placed);
     found.set & set
 }
 

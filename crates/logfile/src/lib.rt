@@ -10,7 +10,7 @@ use profile::limits::{
     FINALS_BYTE, LENGTH_BYTE, LENGTH_HIGH_BYTE, LETTERS_BYTE, LOG_BYTE, MASKS_BYTE, MOST_LETTERS,
     MOST_MOVES, MOST_STATES, MOVES_BYTE, START_BYTE, STATES_BYTE, TRAILER_LENGTH, ZERO_BYTE,
 };
-use profile::{Refusal, Shape};
+use profile::{Profile, Refusal, Shape};
 
 // Byte i; 0 past the end.
 fn byte_at(f: &[u8], i: usize) -> u8
@@ -205,7 +205,11 @@ fn check_content(f: &[u8]) -> Result<(), Refusal>
     let mut moves = [0u32; MOST_MOVES];
     fill_masks(f, section_at(f, MASKS_BYTE), k, &mut masks);
     fill_moves(f, section_at(f, MOVES_BYTE), count, &mut moves);
-    checks::check_profile(shape, &masks[0..k], &moves[0..count])?;
+    checks::check_profile(&Profile {
+        shape,
+        masks: &masks[0..k],
+        moves: &moves[0..count],
+    })?;
     let from = section_at(f, LOG_BYTE);
     let end = from + length_at(f);
     logcheck::check_log(k, &f[from..end])

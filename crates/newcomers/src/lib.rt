@@ -3,7 +3,7 @@
 
 ghost use Rattle.std.specs.Prelude.{◌≡◌, true, [], ◌+◌, ◌*◌, ◌≤◌, ◌<◌, length};
 ghost use Rattle.profile.specs.Limits.{most_letters, most_states};
-ghost use Rattle.profile.specs.Automata.{profile_of};
+ghost use Rattle.profile.specs.Automata.{lent, profile_of};
 ghost use Rattle.profile.specs.Tables.{layout, record_length};
 ghost use Rattle.profile.specs.Traces.{independent as independent_by};
 ghost use Rattle.counts.specs.Counts.{words};
@@ -11,8 +11,8 @@ ghost use Rattle.records.specs.Records.{counts_at};
 ghost use Rattle.newcomers.specs.Newcomers.{Brought, Inside, Moved, PlaceFor, PlaceTold, Put, PutIf, Scanned, allows?, count_in, gives?, joining, joins_at?, led_at, led_from};
 
 use counts::Counts;
-use profile::Shape;
 use profile::limits::{COUNT_NUMBERS, MOST_LETTERS};
+use profile::{Profile, Shape};
 
 // Letter b does not keep an event of letter a from being added: a may pass b, or the counts `own` have as many b as `last`.
 fn allows(
@@ -232,38 +232,36 @@ struct Newcomer {
 fn put_if_joins(
     t: &mut [u32],
     at: Newcomer,
-    shape: Shape,
-    masks: &[u16],
-    moves: &[u32],
+    profile: &Profile,
     a: usize,
     last: &[u32; COUNT_NUMBERS],
     places: &mut [usize],
 ) -> usize
-    requires k_le_most_letters { (shape.k ≤ most_letters) × (shape.s ≤ most_states) × (most_letters ≤ length places.old) × (at.r < at.i) × (record_length layout * at.i ≤ length t.old) }
-    requires layout_in_bounds { joins_at? (independent_by masks.now) shape.k last.now a (counts_at t.old at.r) ≡ true → record_length layout * at.i + record_length layout ≤ length t.old }
-    ensures { PutIf (profile_of shape masks.now moves.now) (joins_at? (independent_by masks.now) shape.k last.now a (counts_at t.old at.r)) at.first at.i at.r a t.old t.new places.old places.new result }
+    requires k_le_most_letters { (profile.now.shape.k ≤ most_letters) × (profile.now.shape.s ≤ most_states) × (most_letters ≤ length places.old) × (at.r < at.i) × (record_length layout * at.i ≤ length t.old) }
+    requires layout_in_bounds { joins_at? (independent_by profile.now.masks.now) profile.now.shape.k last.now a (counts_at t.old at.r) ≡ true → record_length layout * at.i + record_length layout ≤ length t.old }
+    ensures { PutIf (lent profile.now) (joins_at? (independent_by profile.now.masks.now) profile.now.shape.k last.now a (counts_at t.old at.r)) at.first at.i at.r a t.old t.new places.old places.new result }
 {
-    let k = shape.k;
+    let k = profile.shape.k;
     let first = at.first;
     let i = at.i;
     let r = at.r;
-    if joins(t, r, masks, k, a, last) {
-        put_newcomer(t, first, i, r, shape, moves, a, places);
+    if joins(t, r, profile.masks, k, a, last) {
+        put_newcomer(t, first, i, r, profile.shape, profile.moves, a, places);
         return i + 1;
     }
     i
 }
 
 // Puts the records that an event of letter a brings behind the n records.
-pub fn put_newcomers(t: &mut [u32], n: usize, shape: Shape, masks: &[u16], moves: &[u32], a: usize)
-    requires { (shape.k ≤ most_letters) × (shape.s ≤ most_states) × (1 ≤ n) × (record_length layout * (n + length (joining (independent_by masks.now) shape.k t.old n a)) ≤ length t.old) }
-    ensures { Brought (profile_of shape masks.now moves.now) n a t.old t.new }
+pub fn put_newcomers(t: &mut [u32], n: usize, profile: &Profile, a: usize)
+    requires { (profile.now.shape.k ≤ most_letters) × (profile.now.shape.s ≤ most_states) × (1 ≤ n) × (record_length layout * (n + length (joining (independent_by profile.now.masks.now) profile.now.shape.k t.old n a)) ≤ length t.old) }
+    ensures { Brought (lent profile.now) n a t.old t.new }
 {
     let last = counts::numbers(records::counts_at(t, n - 1));
     let mut places = [0usize; MOST_LETTERS];
     let mut i = n;
     for r in 0..n {
         let at = Newcomer { first: n, i, r };
-        i = put_if_joins(t, at, shape, masks, moves, a, &last, &mut places);
+        i = put_if_joins(t, at, profile, a, &last, &mut places);
     }
 }

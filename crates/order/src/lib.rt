@@ -10,8 +10,8 @@ ghost use Rattle.profile.specs.Traces.{independent};
 ghost use Rattle.events.specs.Events.{all_keepers, comes_next?};
 ghost use Rattle.order.specs.Order.{Placed, first_letters, ordered_buffer, ordering};
 
-use profile::Refusal;
 use profile::limits::{MOST_LETTERS, MOST_PLACES, Place};
+use profile::{Places, Refusal};
 
 // The smallest letter that can come next; k where there is none.
 // Kept: not an Option, as `put_letters` calls it while events are left, when some letter can come next, and would have a None to rule out.
@@ -34,11 +34,11 @@ fn least_next(
 }
 
 // The place of the first event of each letter that `next` has an element for.
-fn first_places(starts: &[Place], places: &[Place], next: &mut [Place])
-    ensures { next.new ≡ map (λ x. get_or places.now (get_or starts.now x 0 + 0) 0) (below (length next.old)) }
+fn first_places(placed: &Places, next: &mut [Place])
+    ensures { next.new ≡ map (λ x. get_or placed.now.places.now (get_or placed.now.starts.now x 0 + 0) 0) (below (length next.old)) }
 {
     for (x, place) in next.iter_mut().enumerate() {
-        *place = places::next_place(starts, places, x, 0);
+        *place = places::next_place(placed, x, 0);
     }
 }
 
@@ -48,24 +48,23 @@ fn put_letters(
     masks: &[u16],
     keepers: &[u32; MOST_LETTERS],
     log: &[u8],
-    starts: &[Place],
-    places: &[Place],
+    placed: &Places,
     next: &mut [Place],
     used: &mut [Place],
     out: &mut [u8],
 )
-    requires placed { Placed k masks.now log.now starts.now places.now next.old used.old out.old }
+    requires placed { Placed k masks.now log.now placed.now.starts.now placed.now.places.now next.old used.old out.old }
     requires keepers_value { keepers.now ≡ all_keepers (independent masks.now) k }
     ensures { out.new ≡ first_letters masks.now log.now ++ drop (length log.now) out.old }
 {
-    first_places(starts, places, next);
+    first_places(placed, next);
     let n = log.len();
     for t in 0..n {
         let a = least_next(masks, keepers, k, n, next);
         out[t] = a as u8;
         let m = used[a] + 1;
         used[a] = m;
-        next[a] = places::next_place(starts, places, a, m);
+        next[a] = places::next_place(placed, a, m);
     }
 }
 
@@ -85,8 +84,10 @@ fn put_first(k: usize, masks: &[u16], log: &[u8], out: &mut [u8])
         masks,
         &keepers,
         log,
-        &starts,
-        &places,
+        &Places {
+            starts: &starts,
+            places: &places,
+        },
         &mut next[0..k],
         &mut used,
         out,

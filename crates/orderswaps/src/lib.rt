@@ -6,6 +6,7 @@ ghost use Rattle.swaps.specs.Swaps.{swaps as swaps_of};
 ghost use Rattle.stepcost.specs.StepCosts.{Placed};
 ghost use Rattle.orderswaps.specs.Arranged.{Arranged};
 
+use profile::Places;
 use profile::limits::{COUNT_NUMBERS, Place};
 
 // The swaps of an order of the log, whose counts are `whole`.
@@ -13,11 +14,10 @@ pub fn swaps(
     log: &[u8],
     whole: &[u32; COUNT_NUMBERS],
     k: usize,
-    starts: &[Place],
-    places: &[Place],
+    placed: &Places,
     order: &[u8],
 ) -> u32
-    requires placed { Placed k log.now starts.now places.now }
+    requires placed { Placed k log.now placed.now.starts.now placed.now.places.now }
     requires arranged { Arranged k log.now whole.now order.now }
     ensures { result ≡ swaps_of (λ a. a) log.now (take (length log.now) order.now) }
 {
@@ -26,7 +26,7 @@ pub fn swaps(
     for i in 0..log.len() {
         let x = order[i] as usize;
         let m = counts::numbers(c);
-        let more = stepcost::step_cost(log, &m, whole, k, starts, places, x);
+        let more = stepcost::step_cost(log, &m, whole, k, placed, x);
         sum = costcells::plus(sum, more);
         c = counts::one_more(c, x);
     }

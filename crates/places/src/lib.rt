@@ -7,6 +7,7 @@ ghost use Rattle.profile.specs.Lists.{below};
 ghost use Rattle.profile.specs.Limits.{longest, most_letters, most_places};
 ghost use Rattle.places.specs.Places.{place_start, place_table, places_of};
 
+use profile::Places;
 use profile::limits::Place;
 
 // Puts the places of letter x, and the log's length behind them, from `at` on; tells where the next letter's begin.
@@ -47,9 +48,9 @@ pub fn place_at(places: &[Place], i: usize) -> Place
 }
 
 // The place of the event of letter x that has n before it.
-pub fn next_place(starts: &[Place], places: &[Place], x: usize, n: Place) -> Place
-    ensures { result ≡ get_or places.now (get_or starts.now x 0 + n) 0 }
+pub fn next_place(placed: &Places, x: usize, n: Place) -> Place
+    ensures { result ≡ get_or placed.now.places.now (get_or placed.now.starts.now x 0 + n) 0 }
 {
-    let start = place_at(starts, x) as usize;
-    place_at(places, start + n as usize)
+    let start = place_at(placed.starts, x) as usize;
+    place_at(placed.places, start + n as usize)
 }

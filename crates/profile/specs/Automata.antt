@@ -4,6 +4,7 @@ use Rattle.std.specs.Int.Bits.{bit_or, bit_and}
 use Rattle.profile.specs.Lists.{below, filter}
 use Rattle.profile.specs.Traces.{bit}
 use Rattle.profile.specs.declared.Shape.{Shape}
+use Rattle.profile.specs.declared.Profile as Lent
 
 -- "profile": k, the masks, s states, a start state, a set of final states, and moves
 pub record Profile : Type 0 where
@@ -17,6 +18,10 @@ pub record Profile : Type 0 where
 -- the profile of a direct call: the numbers, and the slices of masks and moves
 abbrev pub profile_of : Shape → List ℕ → List ℕ → Profile
 profile_of h masks moves = record { k = h.k; masks = masks; s = h.s; start = h.start; finals = h.finals; moves = moves }
+
+-- the profile that a call is lent
+abbrev pub lent : Lent.Profile → Profile
+lent p = profile_of p.shape p.masks.now p.moves.now
 
 -- the two sets have a state in common
 abbrev pub meets : ℕ → ℕ → Bool

@@ -4,11 +4,11 @@
 ghost use Rattle.std.specs.Prelude.{◌≡◌, ◌+◌, ◌*◌, ◌≤◌, length};
 ghost use Rattle.profile.specs.Limits.{program_text};
 ghost use Rattle.profile.specs.Lists.{flat_map};
-ghost use Rattle.profile.specs.Automata.{profile_of};
+ghost use Rattle.profile.specs.Automata.{lent};
 ghost use Rattle.report.specs.Report.{Put, Responds, decimal, file_table, file_text, judged_table, judged_text, number_line, order_line, refusal_line, spaced, verdict_lines};
 
 use profile::limits::{LONGEST, LONGEST_INPUT, MOST_LETTERS, MOST_MOVES, PROGRAM_TEXT};
-use profile::{Refusal, Shape};
+use profile::{Profile, Refusal};
 use verdict::Judged;
 
 // Puts the bytes from place `at` on, and tells the place behind them.
@@ -93,20 +93,13 @@ fn put_verdict(out: &mut [u8], verdict: u64, prefixes: u64) -> usize
 }
 
 // Puts what is printed for a profile and a log, and tells its length.
-fn put_judged(
-    shape: Shape,
-    masks: &[u16],
-    moves: &[u32],
-    log: &[u8],
-    out: &mut [u8],
-    work: &mut [u32],
-) -> usize
+fn put_judged(profile: &Profile, log: &[u8], out: &mut [u8], work: &mut [u32]) -> usize
     requires { program_text ≤ length out.old }
-    ensures put { Put out.old 0 (judged_text (profile_of shape masks.now moves.now) log.now (length work.old)) out.new result }
-    ensures judged_table { judged_table (profile_of shape masks.now moves.now) log.now work.old work.new }
+    ensures put { Put out.old 0 (judged_text (lent profile.now) log.now (length work.old)) out.new result }
+    ensures judged_table { judged_table (lent profile.now) log.now work.old work.new }
 {
     let mut order = [0u8; LONGEST];
-    match verdict::judge(shape, masks, moves, log, &mut order, work) {
+    match verdict::judge(profile, log, &mut order, work) {
         Err(r) => put_refused(out, r),
         Ok(Judged::NoOrder { prefixes, looks: _ }) => put_verdict(out, 0, prefixes as u64),
         Ok(Judged::Order { prefixes, looks: _ }) => {
@@ -132,7 +125,16 @@ fn put_file(file: &[u8], out: &mut [u8], work: &mut [u32]) -> usize
             let s = shape.s;
             let count = s * k;
             let log = logfile::log_part(file);
-            put_judged(shape, &masks[0..k], &moves[0..count], log, out, work)
+            put_judged(
+                &Profile {
+                    shape,
+                    masks: &masks[0..k],
+                    moves: &moves[0..count],
+                },
+                log,
+                out,
+                work,
+            )
         }
     }
 }

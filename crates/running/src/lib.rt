@@ -3,14 +3,14 @@
 
 ghost use Rattle.std.specs.Prelude.{◌≡◌, [], ◌∷◌, ◌++◌, ◌-◌, ◌*◌, ◌^◌, ◌≤◌, ◌<◌, ltb, length};
 ghost use Rattle.profile.specs.Limits.{most_states};
-ghost use Rattle.profile.specs.Automata.{meets, profile_of};
+ghost use Rattle.profile.specs.Automata.{lent, meets};
 ghost use Rattle.profile.specs.Tables.{layout, packed, record_length};
 ghost use Rattle.profile.specs.Refusals.{refused_by, lowest, profile_refusals};
 ghost use Rattle.profile.specs.declared.Refusal.TheVariants.{FullTable};
 ghost use Rattle.records.specs.Records.{forward_at, last_at, put_record};
 ghost use Rattle.running.specs.Running.{QuestionPromise, StartPromise};
 
-use profile::{Refusal, Shape};
+use profile::{Profile, Refusal};
 
 // The record of a running judge: P, and the number of events taken.
 #[derive(Clone, Copy)]
@@ -35,16 +35,10 @@ pub struct Told {
 }
 
 // The lowest refusal of a start or a question: 2, 4, 6, or 10 where `prefixes` records do not fit.
-fn check_question(
-    shape: Shape,
-    masks: &[u16],
-    moves: &[u32],
-    prefixes: usize,
-    room: usize,
-) -> Result<(), Refusal>
-    ensures { refused_by result ≡ lowest (profile_refusals (profile_of shape masks.now moves.now) ++ ((ltb room prefixes, FullTable) ∷ [])) }
+fn check_question(profile: &Profile, prefixes: usize, room: usize) -> Result<(), Refusal>
+    ensures { refused_by result ≡ lowest (profile_refusals (lent profile.now) ++ ((ltb room prefixes, FullTable) ∷ [])) }
 {
-    checks::check_profile(shape, masks, moves)?;
+    checks::check_profile(profile)?;
     if room < prefixes {
         return Err(Refusal::FullTable);
     }
@@ -62,17 +56,12 @@ fn put_empty(table: &mut [u32], start: usize)
 }
 
 // Starts a running judge: the record of the empty prefix is put; refused by 2, 4, 6 and 10.
-pub fn start(
-    shape: Shape,
-    masks: &[u16],
-    moves: &[u32],
-    table: &mut [u32],
-) -> Result<Running, Refusal>
-    ensures { StartPromise (profile_of shape masks.now moves.now) table.old table.new result }
+pub fn start(profile: &Profile, table: &mut [u32]) -> Result<Running, Refusal>
+    ensures { StartPromise (lent profile.now) table.old table.new result }
 {
     let room = records::capacity(table);
-    check_question(shape, masks, moves, 1, room)?;
-    put_empty(table, shape.start);
+    check_question(profile, 1, room)?;
+    put_empty(table, profile.shape.start);
     Ok(Running {
         prefixes: 1,
         taken: 0,
@@ -91,19 +80,13 @@ fn verdict_at(table: &[u32], n: usize, finals: u32) -> bool
 }
 
 // Verdict, P and the number of events taken; refused by 2, 4, 6 and 10.
-pub fn question(
-    held: Running,
-    shape: Shape,
-    masks: &[u16],
-    moves: &[u32],
-    table: &[u32],
-) -> Result<Told, Refusal>
-    ensures { QuestionPromise (profile_of shape masks.now moves.now) held table.now result }
+pub fn question(held: Running, profile: &Profile, table: &[u32]) -> Result<Told, Refusal>
+    ensures { QuestionPromise (lent profile.now) held table.now result }
 {
     let prefixes = held.prefixes;
     let taken = held.taken;
-    check_question(shape, masks, moves, prefixes, records::capacity(table))?;
-    let verdict = verdict_at(table, prefixes, shape.finals);
+    check_question(profile, prefixes, records::capacity(table))?;
+    let verdict = verdict_at(table, prefixes, profile.shape.finals);
     Ok(Told {
         verdict,
         prefixes,

@@ -2,7 +2,7 @@
 // with the judge. Prints how much was compared and how much was wrong.
 #![tactic(auto)]
 
-use profile::Shape;
+use profile::Profile;
 use std::io;
 use trial::cells::{Cell, part_of, plus, times};
 use trial::random::{below, put_masks, put_moves, random_shape, seed_of};
@@ -29,7 +29,7 @@ fn size_of(seed: usize) -> usize {
     }
 }
 
-fn run_with(shape: Shape, masks: &[u16], moves: &[u32], seed: usize, t: Tally) -> Tally {
+fn run_with(profile: &Profile, seed: usize, t: Tally) -> Tally {
     let mut numbers = [u32::GUARD; 1424];
     let mut others = [u32::GUARD; 1424];
     let log = [0u8; 8];
@@ -40,9 +40,7 @@ fn run_with(shape: Shape, masks: &[u16], moves: &[u32], seed: usize, t: Tally) -
         tally: tally::count(t, Counted::Runs),
     };
     let left = compare_run(
-        shape,
-        masks,
-        moves,
+        profile,
         seed,
         plus(6, below(seed, 14, 6)),
         &mut numbers,
@@ -50,7 +48,7 @@ fn run_with(shape: Shape, masks: &[u16], moves: &[u32], seed: usize, t: Tally) -
     );
     let size = below(seed, 15, 140);
     put_numbers(seed_of(seed, 18), size, &mut others);
-    compare_damaged(shape, masks, moves, seed, size, &mut others, left.tally)
+    compare_damaged(profile, seed, size, &mut others, left.tally)
 }
 
 fn one_run(seed: usize, t: Tally) -> Tally {
@@ -62,9 +60,11 @@ fn one_run(seed: usize, t: Tally) -> Tally {
     put_moves(seed, s, k, &mut moves);
     let shape = random_shape(seed, k, s);
     run_with(
-        shape,
-        part_of(&masks, 0, k),
-        part_of(&moves, 0, times(s, k)),
+        &Profile {
+            shape,
+            masks: part_of(&masks, 0, k),
+            moves: part_of(&moves, 0, times(s, k)),
+        },
         seed,
         t,
     )

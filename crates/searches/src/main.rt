@@ -6,6 +6,7 @@ mod compare;
 mod vectors;
 
 use crate::compare::{Counted, search_box, search_records};
+use profile::Profile;
 use std::io;
 use trial::calls::{build_in, table_part};
 use trial::cells::{part_of, plus};
@@ -22,9 +23,11 @@ fn compare_log(k: usize, masks: &[u16], log: &[u8], t: Tally) -> Tally {
     let mut numbers = [0u32; 1416];
     let mut keys = [0usize; 256];
     build_in(
-        shape_of(k, 1, 0, 1),
-        masks,
-        part_of(&moves, 0, k),
+        &Profile {
+            shape: shape_of(k, 1, 0, 1),
+            masks,
+            moves: part_of(&moves, 0, k),
+        },
         log,
         1400,
         &mut numbers,

@@ -3,14 +3,14 @@
 
 ghost use Rattle.std.specs.Prelude.{Ok, ◌≡◌, ◌≤◌, length};
 ghost use Rattle.std.proofs.Math.Option.{some};
-ghost use Rattle.profile.specs.Automata.{automaton, profile_of};
+ghost use Rattle.profile.specs.Automata.{lent, automaton, profile_of};
 ghost use Rattle.verdict.proofs.Promises.{told_prefixes};
 ghost use Rattle.views.specs.Views.{view as view_of};
 ghost use Rattle.cleared.specs.Cleared.{Clean, answer, order_left, table_left};
 ghost use Rattle.seeing.specs.Seeing.{hulled_left};
 
 use profile::limits::{MOST_MOVES, MOST_STATES};
-use profile::{Refusal, Shape};
+use profile::{Profile, Refusal, Shape};
 use verdict::Judged;
 
 // P of a verdict.
@@ -25,22 +25,20 @@ fn prefixes_of(judged: Judged) -> usize
 
 // The answer for a visible part, by a profile that has the hidden letters in its moves; `reach` has what hidden letters reach from each state.
 fn view_late(
-    shape: Shape,
-    masks: &[u16],
-    moves: &[u32],
+    profile: &Profile,
     log: &[u8],
     reach: &[u32],
     order: &mut [u8],
     work: &mut [u32],
 ) -> Result<Judged, Refusal>
-    requires clean { Clean (profile_of shape masks.now moves.now) log.now }
+    requires clean { Clean (lent profile.now) log.now }
     requires log_in_bounds { length log.now ≤ length order.old }
-    ensures value { result ≡ answer (profile_of shape masks.now moves.now) (automaton (profile_of shape masks.now moves.now)) log.now (length order.old) (length work.old) }
-    ensures order_after { order.new ≡ order_left (profile_of shape masks.now moves.now) (automaton (profile_of shape masks.now moves.now)) log.now (length work.old) order.old }
-    ensures work_after { work.new ≡ hulled_left (profile_of shape masks.now moves.now) reach.now log.now (length order.old) work.old }
+    ensures value { result ≡ answer (lent profile.now) (automaton (lent profile.now)) log.now (length order.old) (length work.old) }
+    ensures order_after { order.new ≡ order_left (lent profile.now) (automaton (lent profile.now)) log.now (length work.old) order.old }
+    ensures work_after { work.new ≡ hulled_left (lent profile.now) reach.now log.now (length order.old) work.old }
 {
-    let s = shape.s;
-    let judged = cleared::judge_cleared(shape, masks, moves, log, order, work)?;
+    let s = profile.shape.s;
+    let judged = cleared::judge_cleared(profile, log, order, work)?;
     let prefixes = prefixes_of(judged);
     hulls::put_hulls(work, prefixes, s, reach);
     Ok(judged)
@@ -76,5 +74,15 @@ pub fn view_seen(
         finals: finals,
     };
     let end = s * k;
-    view_late(inner, masks, &late[0..end], log, &reach, order, work)
+    view_late(
+        &Profile {
+            shape: inner,
+            masks,
+            moves: &late[0..end],
+        },
+        log,
+        &reach,
+        order,
+        work,
+    )
 }

@@ -2,7 +2,7 @@
 // was compared and how much was wrong.
 #![tactic(auto)]
 
-use profile::Shape;
+use profile::Profile;
 use std::io;
 use trial::cells::{minus, part_of, plus, quotient, times};
 use trial::logs::log_count;
@@ -49,7 +49,17 @@ fn compare(
     let a = compare_view(view, masks, moves, log, 8, 1400, t);
     let b = compare_view(view, masks, moves, log, room, size, a);
     let c = compare_secret(view, masks, moves, log, seen, room, size, b);
-    compare_judge(view.shape, masks, moves, log, all, room, c)
+    compare_judge(
+        &Profile {
+            shape: view.shape,
+            masks,
+            moves,
+        },
+        log,
+        all,
+        room,
+        c,
+    )
 }
 
 // The first letters of the log, or as many as may be visible.
@@ -61,21 +71,29 @@ fn cut(visible: usize, log: &[u8], most: usize, part: &mut [u8]) -> usize {
     }
 }
 
-fn view_with(shape: Shape, masks: &[u16], moves: &[u32], seed: usize, t: Tally) -> Tally {
+fn view_with(profile: &Profile, seed: usize, t: Tally) -> Tally {
     let mut letters = [0u8; 8];
     let mut part = [0u8; 8];
-    let most = most_visible(shape.k, shape.s);
+    let most = most_visible(profile.shape.k, profile.shape.s);
     let view = View {
-        shape: shape,
-        visible: below(seed, 15, 1 << (shape.k % 64)),
-        lists: log_count(shape.k, longest_of(shape.k)),
+        shape: profile.shape,
+        visible: below(seed, 15, 1 << (profile.shape.k % 64)),
+        lists: log_count(profile.shape.k, longest_of(profile.shape.k)),
     };
     let n = plus(most, below(seed, 16, 4));
-    put_log(seed_of(seed, 17), shape.k, n, &mut letters);
+    put_log(seed_of(seed, 17), profile.shape.k, n, &mut letters);
     let length = cut(view.visible, part_of(&letters, 0, n), most, &mut part);
     let log = part_of(&letters, 0, length);
     let m = put_visible(view.visible, log, &mut part);
-    compare(view, masks, moves, log, part_of(&part, 0, m), seed, t)
+    compare(
+        view,
+        profile.masks,
+        profile.moves,
+        log,
+        part_of(&part, 0, m),
+        seed,
+        t,
+    )
 }
 
 fn one_view(seed: usize, t: Tally) -> Tally {
@@ -87,9 +105,11 @@ fn one_view(seed: usize, t: Tally) -> Tally {
     put_moves(seed, s, k, &mut moves);
     let shape = random_shape(seed, k, s);
     view_with(
-        shape,
-        part_of(&masks, 0, k),
-        part_of(&moves, 0, times(s, k)),
+        &Profile {
+            shape,
+            masks: part_of(&masks, 0, k),
+            moves: part_of(&moves, 0, times(s, k)),
+        },
         seed,
         t,
     )

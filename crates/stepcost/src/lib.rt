@@ -7,20 +7,20 @@ ghost use Rattle.profile.specs.Tables.{count_field, layout};
 ghost use Rattle.swaps.specs.Swaps.{step_cost};
 ghost use Rattle.stepcost.specs.StepCosts.{Placed, Within};
 
+use profile::Places;
 use profile::limits::{COUNT_NUMBERS, Place};
 
 // How many events of letter y, from its event `from` on, stand before `place`; the letter has `to` events. A search by halves in its places.
 fn passed(
     log: &[u8],
     k: usize,
-    starts: &[Place],
-    places: &[Place],
+    placed: &Places,
     y: usize,
     from: usize,
     to: usize,
     place: Place,
 ) -> usize
-    requires placed { Placed k log.now starts.now places.now }
+    requires placed { Placed k log.now placed.now.starts.now placed.now.places.now }
     requires y_lt_k { (y < k) × (to ≡ count (λ a. a) log.now y) × (from ≤ to) × (place ≤ length log.now) }
     ensures { result ≡ count (λ a. a) (take place log.now) y - from }
 {
@@ -28,7 +28,7 @@ fn passed(
     let mut high = to;
     while low < high {
         let middle = low + (high - low) / 2;
-        if places::next_place(starts, places, y, middle as Place) < place {
+        if places::next_place(placed, y, middle as Place) < place {
             low = middle + 1;
         } else {
             high = middle;
@@ -43,20 +43,19 @@ pub fn step_cost(
     c: &[u32; COUNT_NUMBERS],
     whole: &[u32; COUNT_NUMBERS],
     k: usize,
-    starts: &[Place],
-    places: &[Place],
+    placed: &Places,
     x: usize,
 ) -> usize
-    requires placed { Placed k log.now starts.now places.now }
+    requires placed { Placed k log.now placed.now.starts.now placed.now.places.now }
     requires within { Within k log.now c.now whole.now x }
     ensures { result ≡ step_cost (λ a. a) log.now (count_field layout c.now) x }
 {
-    let own = places::next_place(starts, places, x, counts::count_of(c, x) as Place);
+    let own = places::next_place(placed, x, counts::count_of(c, x) as Place);
     let mut cost = 0usize;
     for y in 0..k {
         let from = counts::count_of(c, y);
         let to = counts::count_of(whole, y);
-        cost += passed(log, k, starts, places, y, from, to, own);
+        cost += passed(log, k, placed, y, from, to, own);
     }
     cost
 }

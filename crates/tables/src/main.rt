@@ -2,7 +2,7 @@
 // refusal 10 the table is free and is not printed. M9's and M7's logs come twice, as two readers recorded them: their tables are printed the same.
 #![tactic(auto)]
 
-use profile::Shape;
+use profile::{Profile, Shape};
 use std::io;
 
 fn say_table(rt: &impl Print, numbers: &[u32]) -> io::Result<()> {
@@ -15,9 +15,9 @@ fn say_table(rt: &impl Print, numbers: &[u32]) -> io::Result<()> {
     Ok(())
 }
 
-fn show(rt: &impl Print, shape: Shape, masks: &[u16], moves: &[u32], log: &[u8]) -> io::Result<()> {
+fn show(rt: &impl Print, profile: &Profile, log: &[u8]) -> io::Result<()> {
     let mut numbers = [7u32; 100];
-    let built = table::build(shape, masks, moves, log, &mut numbers);
+    let built = table::build(profile, log, &mut numbers);
     match built {
         Err(r) => {
             let number = refusals::number(r);
@@ -38,14 +38,16 @@ fn show(rt: &impl Print, shape: Shape, masks: &[u16], moves: &[u32], log: &[u8])
 fn alt_by(rt: &impl Print, masks: &[u16], log: &[u8]) -> io::Result<()> {
     show(
         rt,
-        Shape {
-            k: 2,
-            s: 2,
-            start: 0,
-            finals: 1,
+        &Profile {
+            shape: Shape {
+                k: 2,
+                s: 2,
+                start: 0,
+                finals: 1,
+            },
+            masks,
+            moves: &[2u32, 0, 0, 1],
         },
-        masks,
-        &[2u32, 0, 0, 1],
         log,
     )
 }
@@ -61,14 +63,16 @@ fn free(rt: &impl Print, k: usize, masks: &[u16], log: &[u8]) -> io::Result<()> 
     if k <= 16 {
         show(
             rt,
-            Shape {
-                k: k,
-                s: 1,
-                start: 0,
-                finals: 1,
+            &Profile {
+                shape: Shape {
+                    k: k,
+                    s: 1,
+                    start: 0,
+                    finals: 1,
+                },
+                masks,
+                moves: &moves[0..k],
             },
-            masks,
-            &moves[0..k],
             log,
         )?;
     }
@@ -92,14 +96,16 @@ fn thirty_two_states(rt: &impl Print) -> io::Result<()> {
     moves[31] = 2147483649;
     show(
         rt,
-        Shape {
-            k: 1,
-            s: 32,
-            start: 30,
-            finals: 3,
+        &Profile {
+            shape: Shape {
+                k: 1,
+                s: 32,
+                start: 30,
+                finals: 3,
+            },
+            masks: &[0u16],
+            moves: &moves,
         },
-        &[0u16],
-        &moves,
         &[0u8, 0, 0],
     )
 }

@@ -3,7 +3,7 @@
 
 ghost use Rattle.std.specs.Prelude.{◌≡◌, Err, [], ◌∷◌, ◌++◌, ◌*◌, ◌≤◌, ◌<◌, leb, ltb, length};
 ghost use Rattle.profile.specs.Limits.{most_letters, most_states};
-ghost use Rattle.profile.specs.Automata.{profile_of};
+ghost use Rattle.profile.specs.Automata.{lent};
 ghost use Rattle.profile.specs.Tables.{layout, record_length};
 ghost use Rattle.profile.specs.Refusals.{refused_by, longest, lowest, profile_refusals};
 ghost use Rattle.profile.specs.declared.Refusal.TheVariants.{BadLetter, FullTable, LongLog};
@@ -11,24 +11,17 @@ ghost use Rattle.running.specs.Running.{StepPromise};
 ghost use Rattle.taking.specs.Taking.{Took};
 
 use profile::limits::LONGEST;
-use profile::{Refusal, Shape};
+use profile::{Profile, Refusal};
 use running::{Running, Stepped};
 
 // The lowest refusal of an event by its letter and the record alone: 2, 4, 6, 7, 8, or 10 where P records do not fit.
-fn check_event(
-    shape: Shape,
-    masks: &[u16],
-    moves: &[u32],
-    letter: u8,
-    held: Running,
-    room: usize,
-) -> Result<(), Refusal>
-    ensures { refused_by result ≡ lowest (profile_refusals (profile_of shape masks.now moves.now) ++ ((leb longest held.taken, LongLog) ∷ (leb shape.k letter, BadLetter held.taken) ∷ (ltb room held.prefixes, FullTable) ∷ [])) }
+fn check_event(profile: &Profile, letter: u8, held: Running, room: usize) -> Result<(), Refusal>
+    ensures { refused_by result ≡ lowest (profile_refusals (lent profile.now) ++ ((leb longest held.taken, LongLog) ∷ (leb profile.now.shape.k letter, BadLetter held.taken) ∷ (ltb room held.prefixes, FullTable) ∷ [])) }
 {
     let taken = held.taken;
     let prefixes = held.prefixes;
-    let k = shape.k;
-    checks::check_profile(shape, masks, moves)?;
+    let k = profile.shape.k;
+    checks::check_profile(profile)?;
     if LONGEST <= taken {
         return Err(Refusal::LongLog);
     }
@@ -53,29 +46,21 @@ fn refuse(held: Running, refusal: Refusal) -> Stepped
 }
 
 // Takes an event that nothing but 10 refuses: the new records are counted, and put where they fit.
-fn take(
-    held: Running,
-    shape: Shape,
-    masks: &[u16],
-    moves: &[u32],
-    a: usize,
-    table: &mut [u32],
-    room: usize,
-) -> Stepped
-    requires { (shape.k ≤ most_letters) × (shape.s ≤ most_states) × (held.taken < longest) × (held.prefixes ≤ room) × (record_length layout * room ≤ length table.old) }
-    ensures { Took (profile_of shape masks.now moves.now) a held result.held room table.old table.new result.answer }
+fn take(held: Running, profile: &Profile, a: usize, table: &mut [u32], room: usize) -> Stepped
+    requires { (profile.now.shape.k ≤ most_letters) × (profile.now.shape.s ≤ most_states) × (held.taken < longest) × (held.prefixes ≤ room) × (record_length layout * room ≤ length table.old) }
+    ensures { Took (lent profile.now) a held result.held room table.old table.new result.answer }
 {
     let n = held.prefixes;
     let taken = held.taken;
-    let k = shape.k;
+    let k = profile.shape.k;
     if n == 0 {
         return refuse(held, Refusal::FullTable);
     }
-    let new = newcomers::number_joining(table, n, masks, k, a);
+    let new = newcomers::number_joining(table, n, profile.masks, k, a);
     if room - n < new {
         return refuse(held, Refusal::FullTable);
     }
-    newcomers::put_newcomers(table, n, shape, masks, moves, a);
+    newcomers::put_newcomers(table, n, profile, a);
     Stepped {
         held: Running {
             prefixes: n + new,
@@ -86,20 +71,13 @@ fn take(
 }
 
 // An event, with the record by value; refused by 2, 4, 6, 7, 8 and 10, and then nothing is changed.
-pub fn step(
-    held: Running,
-    shape: Shape,
-    masks: &[u16],
-    moves: &[u32],
-    letter: u8,
-    table: &mut [u32],
-) -> Stepped
-    ensures { StepPromise (profile_of shape masks.now moves.now) letter held result.held table.old table.new result.answer }
+pub fn step(held: Running, profile: &Profile, letter: u8, table: &mut [u32]) -> Stepped
+    ensures { StepPromise (lent profile.now) letter held result.held table.old table.new result.answer }
 {
     let room = records::capacity(table);
     // Kept: no `?` here, since a refused event gives back its record too.
-    if let Err(r) = check_event(shape, masks, moves, letter, held, room) {
+    if let Err(r) = check_event(profile, letter, held, room) {
         return refuse(held, r);
     }
-    take(held, shape, masks, moves, letter as usize, table, room)
+    take(held, profile, letter as usize, table, room)
 }

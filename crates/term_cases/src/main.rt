@@ -2,7 +2,7 @@
 // calendar. Prints how much was compared, what was refused, and how much was wrong.
 #![tactic(auto)]
 
-use profile::Shape;
+use profile::{Calendar, Profile};
 use std::io;
 use trial::cells::{part_of, plus, times};
 use trial::logs::{log_count, put_log_number};
@@ -48,31 +48,29 @@ fn few_of(seed: usize, many: usize) -> usize {
     }
 }
 
-fn compare_profile(shape: Shape, masks: &[u16], moves: &[u32], seed: usize, t: Tally) -> Tally {
+fn compare_profile(profile: &Profile, seed: usize, t: Tally) -> Tally {
     let mut log = [0u8; 8];
     let mut days = [0u32; 8];
     let mut terms = [0u32; 24];
-    let n = length_of(seed, shape.k);
+    let n = length_of(seed, profile.shape.k);
     let many = term_count(seed);
-    put_log(seed_of(seed, 1), shape.k, n, &mut log);
+    put_log(seed_of(seed, 1), profile.shape.k, n, &mut log);
     put_terms(seed_of(seed, 2), many, &mut terms);
     put_days(seed_of(seed, 3), n, few_of(seed, many), &terms, &mut days);
     let word = part_of(&log, 0, n);
     let dates = part_of(&days, 0, n);
     let compared = compare_dated(
-        shape,
-        masks,
-        moves,
+        profile,
         word,
-        dates,
-        part_of(&terms, 0, plus(many, many)),
+        &Calendar {
+            days: dates,
+            terms: part_of(&terms, 0, plus(many, many)),
+        },
         below(seed, 17, 1000),
         t,
     );
     compare_one_term(
-        shape,
-        masks,
-        moves,
+        profile,
         word,
         dates,
         plus(below(seed, 18, 300), times(below(seed, 19, 2), 1100)),
@@ -88,9 +86,11 @@ fn one_profile(seed: usize, t: Tally) -> Tally {
     put_masks(seed, k, plus(2, below(seed, 21, 7)), &mut masks);
     put_moves(seed, s, k, &mut moves);
     compare_profile(
-        random_shape(seed, k, s),
-        part_of(&masks, 0, k),
-        part_of(&moves, 0, times(s, k)),
+        &Profile {
+            shape: random_shape(seed, k, s),
+            masks: part_of(&masks, 0, k),
+            moves: part_of(&moves, 0, times(s, k)),
+        },
         seed,
         t,
     )
@@ -118,12 +118,16 @@ fn compare_halves(v: usize, halves: usize, pairs: usize, t: Tally) -> Tally {
     put_halves(halves, n, &terms, &mut days);
     let word = part_of(&log, 0, n);
     compare_dated(
-        alt(),
-        &masks,
-        &moves,
+        &Profile {
+            shape: alt(),
+            masks: &masks,
+            moves: &moves,
+        },
         word,
-        part_of(&days, 0, n),
-        &terms,
+        &Calendar {
+            days: part_of(&days, 0, n),
+            terms: &terms,
+        },
         plus(v, halves),
         t,
     )

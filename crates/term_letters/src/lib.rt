@@ -12,6 +12,7 @@ ghost use Rattle.term_letters.specs.Letters.{letters_in_terms};
 
 use counts::Counts;
 use letters::Letters;
+use profile::Places;
 use profile::limits::{MOST_LETTERS, Place};
 
 // Letter x of a log of n events with terms can come next.
@@ -41,19 +42,26 @@ pub fn addable_in_terms(
     masks: &[u16],
     keepers: &[u32; MOST_LETTERS],
     n: usize,
-    starts: &[Place],
-    places: &[Place],
+    placed: &Places,
     turns: &[Place],
 ) -> Letters
     requires k_le_most_letters { k ≤ most_letters }
     requires keepers_value { keepers.now ≡ all_keepers (independent masks.now) k }
-    ensures { (result.set ≡ union (λ x. 2 ^ x) (letters_in_terms (independent masks.now) k n starts.now places.now turns.now (words c)))
-        × (result.number ≡ length (letters_in_terms (independent masks.now) k n starts.now places.now turns.now (words c))) }
+    ensures { (result.set ≡ union (λ x. 2 ^ x) (letters_in_terms (independent masks.now) k n placed.now.starts.now placed.now.places.now turns.now (words c)))
+        × (result.number ≡ length (letters_in_terms (independent masks.now) k n placed.now.starts.now placed.now.places.now turns.now (words c))) }
 {
     let mut next: [Place; MOST_LETTERS] = [0; MOST_LETTERS];
-    letters::next_places(c, k, starts, places, &mut next);
+    letters::next_places(c, k, placed, &mut next);
     let mut after: [Place; MOST_LETTERS] = [0; MOST_LETTERS];
-    letters::next_places(c, k, starts, turns, &mut after);
+    letters::next_places(
+        c,
+        k,
+        &Places {
+            starts: placed.starts,
+            places: turns,
+        },
+        &mut after,
+    );
     let mut set = 0u32;
     let mut number = 0u32;
     for x in 0..k {

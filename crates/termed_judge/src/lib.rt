@@ -2,30 +2,28 @@
 #![tactic(auto)]
 
 ghost use Rattle.std.specs.Prelude.{true, ◌≤◌, length};
-ghost use Rattle.profile.specs.Automata.{profile_of};
+ghost use Rattle.profile.specs.Automata.{lent};
 ghost use Rattle.terms.specs.Coded.{rules_of};
 ghost use Rattle.table.specs.Table.{Fills};
 ghost use Rattle.termed.specs.Termed.{Promise};
 ghost use Rattle.termed_judge.specs.CodedCalls.{Answered, CodedCall};
 
 use profile::limits::{LONGEST, MOST_LETTERS, MOST_PLACES, Place};
-use profile::{Refusal, Shape};
+use profile::{Calendar, Places, Profile, Refusal};
 use table::Filled;
 use verdict::Judged;
 
 // Fills the table with the records of events that are codes; the log has their letters.
 pub fn fill_coded(
     table: &mut [u32],
-    shape: Shape,
-    masks: &[u16],
-    moves: &[u32],
+    profile: &Profile,
     log: &[u8],
     codes: &[u8],
 ) -> Result<Filled, Refusal>
-    requires { CodedCall (profile_of shape masks.now moves.now) log.now codes.now }
-    ensures { Fills (rules_of (profile_of shape masks.now moves.now) true) codes.now table.old table.new result }
+    requires { CodedCall (lent profile.now) log.now codes.now }
+    ensures { Fills (rules_of (lent profile.now) true) codes.now table.old table.new result }
 {
-    let k = shape.k;
+    let k = profile.shape.k;
     let mut starts: [Place; MOST_LETTERS] = [0; MOST_LETTERS];
     let mut places: [Place; MOST_PLACES] = [0; MOST_PLACES];
     places::place_events(log, k, &mut starts, &mut places);
@@ -33,26 +31,33 @@ pub fn fill_coded(
     turning::put_turns(codes, k, &mut turns);
     let room = records::capacity(table);
     table::fill(
-        table, room, shape, masks, moves, codes, &starts, &places, &turns, true,
+        table,
+        room,
+        profile,
+        codes,
+        &Places {
+            starts: &starts,
+            places: &places,
+        },
+        &turns,
+        true,
     )
 }
 
 // The verdict of events that are codes, where nothing but 10 can refuse; the log has their letters.
 fn judge_coded(
-    shape: Shape,
-    masks: &[u16],
-    moves: &[u32],
+    profile: &Profile,
     log: &[u8],
     codes: &[u8],
     order: &mut [u8],
     work: &mut [u32],
 ) -> Result<Judged, Refusal>
-    requires coded_call { CodedCall (profile_of shape masks.now moves.now) log.now codes.now }
+    requires coded_call { CodedCall (lent profile.now) log.now codes.now }
     requires codes_in_bounds { length codes.now ≤ length order.old }
-    ensures { Answered (rules_of (profile_of shape masks.now moves.now) true) codes.now order.old order.new work.old work.new result }
+    ensures { Answered (rules_of (lent profile.now) true) codes.now order.old order.new work.old work.new result }
 {
-    let Filled { prefixes, looks } = fill_coded(work, shape, masks, moves, log, codes)?;
-    if verdict::put_verdict(work, prefixes, shape, masks, moves, codes, order, true) {
+    let Filled { prefixes, looks } = fill_coded(work, profile, log, codes)?;
+    if verdict::put_verdict(work, prefixes, profile, codes, order, true) {
         Ok(Judged::Order { prefixes, looks })
     } else {
         Ok(Judged::NoOrder { prefixes, looks })
@@ -61,20 +66,17 @@ fn judge_coded(
 
 // The verdict of a log with a day for each event and with terms, with its order, P and looks; refused by 2, 4, 6 to 8, 14 to 16, 9 and 10.
 pub fn judge(
-    shape: Shape,
-    masks: &[u16],
-    moves: &[u32],
+    profile: &Profile,
     log: &[u8],
-    days: &[u32],
-    terms: &[u32],
+    calendar: &Calendar,
     order: &mut [u8],
     work: &mut [u32],
 ) -> Result<Judged, Refusal>
-    ensures { Promise (profile_of shape masks.now moves.now) log.now days.now terms.now order.old order.new work.old work.new result }
+    ensures { Promise (lent profile.now) log.now calendar.now.days.now calendar.now.terms.now order.old order.new work.old work.new result }
 {
-    term_checks::check_call(shape, masks, moves, log, days, terms, order.len())?;
+    term_checks::check_call(profile, log, calendar, order.len())?;
     let mut codes = [0u8; LONGEST];
-    dates::code_events(log, days, terms, &mut codes);
+    dates::code_events(log, calendar, &mut codes);
     let n = log.len();
-    judge_coded(shape, masks, moves, log, &codes[0..n], order, work)
+    judge_coded(profile, log, &codes[0..n], order, work)
 }

@@ -2,7 +2,7 @@
 // Where the buffer is too small for the part there is no call and no answer.
 use crate::answers::{Answer, of_built, of_judged, of_ordered, of_writing};
 use crate::cells::part_of;
-use profile::Shape;
+use profile::Profile;
 
 // Bytes and numbers before a lent part.
 pub const BYTES: usize = 4;
@@ -19,9 +19,7 @@ pub fn lent<T>(s: &mut [T], from: usize, n: usize) -> Option<&mut [T]> {
 }
 
 pub fn judge_in(
-    shape: Shape,
-    masks: &[u16],
-    moves: &[u32],
+    profile: &Profile,
     log: &[u8],
     room: usize,
     size: usize,
@@ -30,19 +28,12 @@ pub fn judge_in(
 ) -> Answer {
     let order = lent(buffer, BYTES, room)?;
     let table = lent(numbers, NUMBERS, size)?;
-    of_judged(verdict::judge(shape, masks, moves, log, order, table))
+    of_judged(verdict::judge(profile, log, order, table))
 }
 
-pub fn build_in(
-    shape: Shape,
-    masks: &[u16],
-    moves: &[u32],
-    log: &[u8],
-    size: usize,
-    numbers: &mut [u32],
-) -> Answer {
+pub fn build_in(profile: &Profile, log: &[u8], size: usize, numbers: &mut [u32]) -> Answer {
     let table = lent(numbers, NUMBERS, size)?;
-    of_built(table::build(shape, masks, moves, log, table))
+    of_built(table::build(profile, log, table))
 }
 
 pub fn first_order_in(
@@ -56,16 +47,9 @@ pub fn first_order_in(
     of_ordered(order::first_order(k, masks, log, order))
 }
 
-pub fn write_in(
-    shape: Shape,
-    masks: &[u16],
-    moves: &[u32],
-    log: &[u8],
-    room: usize,
-    buffer: &mut [u8],
-) -> Answer {
+pub fn write_in(profile: &Profile, log: &[u8], room: usize, buffer: &mut [u8]) -> Answer {
     let file = lent(buffer, BYTES, room)?;
-    of_writing(filewriter::write_file(shape, masks, moves, log, file))
+    of_writing(filewriter::write_file(profile, log, file))
 }
 
 // The table that begins behind the margin.

@@ -3,7 +3,7 @@
 use crate::expected::{Expected, covers, expect, floor_of, order_for, orders_differ, swaps_for};
 use crate::lent::{Call, Dated, Lent, Told, ask, is_answer, is_refused};
 use crate::met::Met;
-use profile::Shape;
+use profile::{Calendar, Profile, Shape};
 use trial::answers::{Answer, is_verdict};
 use trial::calls::{BYTES, NUMBERS, judge_in};
 use trial::cells::{Cell, holds, minus, part_of, plus, times, untouched};
@@ -62,9 +62,7 @@ fn count_floor(expected: Expected, budget: u64, t: Tally) -> Tally {
 
 // One budget; `judged` is the table as the judge left it, in as many numbers.
 fn compare_budget(
-    shape: Shape,
-    masks: &[u16],
-    moves: &[u32],
+    profile: &Profile,
     log: &[u8],
     call: Call,
     expected: Expected,
@@ -74,16 +72,7 @@ fn compare_budget(
     let mut buffer = [u8::GUARD; 32];
     let mut numbers = [u32::GUARD; 1416];
     let mut costs = [u32::GUARD; 600];
-    let answer = ask(
-        shape,
-        masks,
-        moves,
-        log,
-        call,
-        &mut buffer,
-        &mut numbers,
-        &mut costs,
-    );
+    let answer = ask(profile, log, call, &mut buffer, &mut numbers, &mut costs);
     let right = told_right(answer, expected, call.lent.budget)
         & order_right(&buffer, expected, call.lent.budget, log.len())
         & (numbers.as_slice() == judged)
@@ -107,9 +96,7 @@ fn with_small(call: Call, budget: usize) -> Call {
 
 // Every budget from 0 to one more than all pairs.
 fn compare_budgets(
-    shape: Shape,
-    masks: &[u16],
-    moves: &[u32],
+    profile: &Profile,
     log: &[u8],
     call: Call,
     expected: Expected,
@@ -118,25 +105,14 @@ fn compare_budgets(
 ) -> Tally {
     let mut u = t;
     for budget in 0..plus(expected.ranks.pairs, 2) {
-        u = compare_budget(
-            shape,
-            masks,
-            moves,
-            log,
-            with_small(call, budget),
-            expected,
-            judged,
-            u,
-        );
+        u = compare_budget(profile, log, with_small(call, budget), expected, judged, u);
     }
     u
 }
 
 // Budgets of more than 32 bits, which cover all pairs; the low bits of the first are 0.
 fn compare_large(
-    shape: Shape,
-    masks: &[u16],
-    moves: &[u32],
+    profile: &Profile,
     log: &[u8],
     call: Call,
     expected: Expected,
@@ -146,9 +122,9 @@ fn compare_large(
     let a = with_budget(call, 4294967296);
     let b = with_budget(call, 9223372036854775808);
     let c = with_budget(call, 18446744073709551615);
-    let u = compare_budget(shape, masks, moves, log, a, expected, judged, t);
-    let v = compare_budget(shape, masks, moves, log, b, expected, judged, u);
-    compare_budget(shape, masks, moves, log, c, expected, judged, v)
+    let u = compare_budget(profile, log, a, expected, judged, t);
+    let v = compare_budget(profile, log, b, expected, judged, u);
+    compare_budget(profile, log, c, expected, judged, v)
 }
 
 // Counts what days and terms are, and whether they leave fewer prefixes.
@@ -157,7 +133,7 @@ fn count_dated(masks: &[u16], log: &[u8], dated: Dated, prefixes: usize, t: Tall
     let spans = dated.terms;
     let days = part_of(&dates, 0, log.len());
     let terms = part_of(&spans, 0, dated.numbers);
-    let turns = tally::count_if(t, Met::Turns, some_turn(days, terms));
+    let turns = tally::count_if(t, Met::Turns, some_turn(&Calendar { days, terms }));
     let falls = tally::count_if(turns, Met::Falls, some_fall(days));
     tally::count_if(falls, Met::Fewer, prefixes < prefix_count(masks, log))
 }
@@ -176,9 +152,7 @@ fn count_log(masks: &[u16], log: &[u8], expected: Expected, t: Tally) -> Tally {
 
 // The judge with the same terms.
 fn judge_dated(
-    shape: Shape,
-    masks: &[u16],
-    moves: &[u32],
+    profile: &Profile,
     log: &[u8],
     call: Call,
     buffer: &mut [u8],
@@ -187,12 +161,12 @@ fn judge_dated(
     let days = call.dated.days;
     let terms = call.dated.terms;
     judge_terms_in(
-        shape,
-        masks,
-        moves,
+        profile,
         log,
-        part_of(&days, 0, log.len()),
-        part_of(&terms, 0, call.dated.numbers),
+        &Calendar {
+            days: part_of(&days, 0, log.len()),
+            terms: part_of(&terms, 0, call.dated.numbers),
+        },
         call.lent.room,
         call.lent.size,
         buffer,
@@ -202,9 +176,7 @@ fn judge_dated(
 
 // The judge with the same terms, or without.
 fn judge_too(
-    shape: Shape,
-    masks: &[u16],
-    moves: &[u32],
+    profile: &Profile,
     log: &[u8],
     call: Call,
     buffer: &mut [u8],
@@ -213,17 +185,15 @@ fn judge_too(
     let room = call.lent.room;
     let size = call.lent.size;
     if call.dated.numbers == 0 {
-        judge_in(shape, masks, moves, log, room, size, buffer, numbers)
+        judge_in(profile, log, room, size, buffer, numbers)
     } else {
-        judge_dated(shape, masks, moves, log, call, buffer, numbers)
+        judge_dated(profile, log, call, buffer, numbers)
     }
 }
 
 // The judge's own answer and table, and with the same table all budgets.
 fn compare_answers(
-    shape: Shape,
-    masks: &[u16],
-    moves: &[u32],
+    profile: &Profile,
     log: &[u8],
     call: Call,
     expected: Expected,
@@ -231,12 +201,16 @@ fn compare_answers(
 ) -> Tally {
     let mut buffer = [u8::GUARD; 32];
     let mut judged = [u32::GUARD; 1416];
-    let answer = judge_too(shape, masks, moves, log, call, &mut buffer, &mut judged);
+    let answer = judge_too(profile, log, call, &mut buffer, &mut judged);
     let right = is_verdict(answer, expected.verdict, expected.prefixes, expected.looks);
-    let counted = count_dated(masks, log, call.dated, expected.prefixes, t);
-    let u = tally::expect(count_log(masks, log, expected, counted), Met::Judge, right);
-    let v = compare_budgets(shape, masks, moves, log, call, expected, &judged, u);
-    compare_large(shape, masks, moves, log, call, expected, &judged, v)
+    let counted = count_dated(profile.masks, log, call.dated, expected.prefixes, t);
+    let u = tally::expect(
+        count_log(profile.masks, log, expected, counted),
+        Met::Judge,
+        right,
+    );
+    let v = compare_budgets(profile, log, call, expected, &judged, u);
+    compare_large(profile, log, call, expected, &judged, v)
 }
 
 // The call with buffers of other sizes.
@@ -256,9 +230,7 @@ fn lending(call: Call, room: usize, size: usize, costs: usize) -> Call {
 
 // A call with a buffer that is too short: refused by the number, which is 9, 10 or 17. The order buffer and the cost table stay, and after 9 the work table.
 fn refuse(
-    shape: Shape,
-    masks: &[u16],
-    moves: &[u32],
+    profile: &Profile,
     log: &[u8],
     call: Call,
     number: u32,
@@ -268,16 +240,7 @@ fn refuse(
     let mut buffer = [u8::GUARD; 32];
     let mut numbers = [u32::GUARD; 1416];
     let mut costs = [u32::GUARD; 600];
-    let answer = ask(
-        shape,
-        masks,
-        moves,
-        log,
-        call,
-        &mut buffer,
-        &mut numbers,
-        &mut costs,
-    );
+    let answer = ask(profile, log, call, &mut buffer, &mut numbers, &mut costs);
     let free = if number == 9 { 0 } else { call.lent.size };
     let right = is_refused(answer, number, 0)
         & untouched(&buffer, 0, 0)
@@ -288,23 +251,21 @@ fn refuse(
 
 // A cost table that is short by one number or more, a work table that is, also with short costs, and an order buffer that is, also with short tables.
 fn compare_short(
-    shape: Shape,
-    masks: &[u16],
-    moves: &[u32],
+    profile: &Profile,
     log: &[u8],
     call: Call,
     expected: Expected,
     extra: usize,
     t: Tally,
 ) -> Tally {
-    let needed = times(expected.prefixes, shape.s);
+    let needed = times(expected.prefixes, profile.shape.s);
     let few_costs = minus(needed, plus(extra % 3, 1));
     let few_numbers = minus(record_at(expected.prefixes), plus(extra % 11, 1));
     let no_costs = lending(call, call.lent.room, call.lent.size, few_costs);
-    let u = refuse(shape, masks, moves, log, no_costs, 17, Met::ShortCosts, t);
+    let u = refuse(profile, log, no_costs, 17, Met::ShortCosts, t);
     let costs = if extra % 2 == 0 { needed } else { few_costs };
     let no_table = lending(call, call.lent.room, few_numbers, costs);
-    let v = refuse(shape, masks, moves, log, no_table, 10, Met::ShortTables, u);
+    let v = refuse(profile, log, no_table, 10, Met::ShortTables, u);
     if log.len() == 0 {
         return v;
     }
@@ -314,7 +275,7 @@ fn compare_short(
         few_numbers
     };
     let no_order = lending(call, minus(log.len(), 1), size, costs);
-    refuse(shape, masks, moves, log, no_order, 9, Met::ShortOrders, v)
+    refuse(profile, log, no_order, 9, Met::ShortOrders, v)
 }
 
 // The masks of all events. Without terms no day is in one, so that no two events are in different ones.
@@ -324,8 +285,10 @@ fn put_masks_of(masks: &[u16], log: &[u8], dated: Dated, event_masks: &mut [u16]
     put_event_masks(
         masks,
         log,
-        part_of(&days, 0, log.len()),
-        part_of(&terms, 0, dated.numbers),
+        &Calendar {
+            days: part_of(&days, 0, log.len()),
+            terms: part_of(&terms, 0, dated.numbers),
+        },
         event_masks,
     );
 }
@@ -341,22 +304,19 @@ fn lent_for(shape: Shape, n: usize, prefixes: usize, extra: usize) -> Lent {
 }
 
 // Compares all that is said of one log; `extra` varies how much longer or shorter than needed the lent buffers are.
-pub fn compare_log(
-    shape: Shape,
-    masks: &[u16],
-    moves: &[u32],
-    log: &[u8],
-    dated: Dated,
-    extra: usize,
-    t: Tally,
-) -> Tally {
+pub fn compare_log(profile: &Profile, log: &[u8], dated: Dated, extra: usize, t: Tally) -> Tally {
     let mut masks_of_events = [0u16; 8];
-    put_masks_of(masks, log, dated, &mut masks_of_events);
-    let expected = expect(shape, part_of(&masks_of_events, 0, log.len()), moves, log);
+    put_masks_of(profile.masks, log, dated, &mut masks_of_events);
+    let expected = expect(
+        profile.shape,
+        part_of(&masks_of_events, 0, log.len()),
+        profile.moves,
+        log,
+    );
     let call = Call {
-        lent: lent_for(shape, log.len(), expected.prefixes, extra),
+        lent: lent_for(profile.shape, log.len(), expected.prefixes, extra),
         dated: dated,
     };
-    let answered = compare_answers(shape, masks, moves, log, call, expected, t);
-    compare_short(shape, masks, moves, log, call, expected, extra, answered)
+    let answered = compare_answers(profile, log, call, expected, t);
+    compare_short(profile, log, call, expected, extra, answered)
 }

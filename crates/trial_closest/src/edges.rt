@@ -1,7 +1,7 @@
 // Orders, swaps and floors found by hand.
 use crate::lent::{Call, Dated, Lent, Told, ask, is_answer, no_terms};
 use crate::met::Met;
-use profile::Shape;
+use profile::{Profile, Shape};
 use trial::calls::BYTES;
 use trial::cells::{Cell, holds, part_of, untouched};
 use trial::shapes::{alt, shape_of};
@@ -51,9 +51,11 @@ fn ask_both_ways(
         dated: dated,
     };
     ask(
-        shape,
-        &masks,
-        moves,
+        &Profile {
+            shape,
+            masks: &masks,
+            moves,
+        },
         log,
         call,
         buffer,

@@ -1,5 +1,5 @@
 // The calls on lent parts of guarded buffers: bytes are lent from 4 on, numbers and costs from 8 on. Where a buffer is too small for the part nothing is lent.
-use profile::Shape;
+use profile::{Calendar, Profile};
 use trial::calls::{BYTES, NUMBERS};
 use trial::cells::part_of;
 
@@ -65,9 +65,7 @@ fn lent_numbers(buffer: &mut [u32], n: usize) -> &mut [u32] {
 
 // The call without terms.
 pub fn closest_in(
-    shape: Shape,
-    masks: &[u16],
-    moves: &[u32],
+    profile: &Profile,
     log: &[u8],
     lent: Lent,
     buffer: &mut [u8],
@@ -76,9 +74,7 @@ pub fn closest_in(
 ) -> Told {
     let mut told = [99u64; 6];
     let number = closest_calls::closest(
-        shape,
-        masks,
-        moves,
+        profile,
         log,
         lent_bytes(buffer, lent.room),
         lent_numbers(numbers, lent.size),
@@ -94,12 +90,9 @@ pub fn closest_in(
 
 // The call with terms.
 pub fn closest_terms_in(
-    shape: Shape,
-    masks: &[u16],
-    moves: &[u32],
+    profile: &Profile,
     log: &[u8],
-    days: &[u32],
-    terms: &[u32],
+    calendar: &Calendar,
     lent: Lent,
     buffer: &mut [u8],
     numbers: &mut [u32],
@@ -107,12 +100,9 @@ pub fn closest_terms_in(
 ) -> Told {
     let mut told = [99u64; 6];
     let number = closest_calls::closest_terms(
-        shape,
-        masks,
-        moves,
+        profile,
         log,
-        days,
-        terms,
+        calendar,
         lent_bytes(buffer, lent.room),
         lent_numbers(numbers, lent.size),
         lent_numbers(costs, lent.costs),
@@ -127,9 +117,7 @@ pub fn closest_terms_in(
 
 // The call with days and terms by value.
 fn closest_dated_in(
-    shape: Shape,
-    masks: &[u16],
-    moves: &[u32],
+    profile: &Profile,
     log: &[u8],
     call: Call,
     buffer: &mut [u8],
@@ -139,12 +127,12 @@ fn closest_dated_in(
     let days = call.dated.days;
     let terms = call.dated.terms;
     closest_terms_in(
-        shape,
-        masks,
-        moves,
+        profile,
         log,
-        part_of(&days, 0, log.len()),
-        part_of(&terms, 0, call.dated.numbers),
+        &Calendar {
+            days: part_of(&days, 0, log.len()),
+            terms: part_of(&terms, 0, call.dated.numbers),
+        },
         call.lent,
         buffer,
         numbers,
@@ -154,9 +142,7 @@ fn closest_dated_in(
 
 // The one call or the other.
 pub fn ask(
-    shape: Shape,
-    masks: &[u16],
-    moves: &[u32],
+    profile: &Profile,
     log: &[u8],
     call: Call,
     buffer: &mut [u8],
@@ -164,9 +150,9 @@ pub fn ask(
     costs: &mut [u32],
 ) -> Told {
     if call.dated.numbers == 0 {
-        closest_in(shape, masks, moves, log, call.lent, buffer, numbers, costs)
+        closest_in(profile, log, call.lent, buffer, numbers, costs)
     } else {
-        closest_dated_in(shape, masks, moves, log, call, buffer, numbers, costs)
+        closest_dated_in(profile, log, call, buffer, numbers, costs)
     }
 }
 

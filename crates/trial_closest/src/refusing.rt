@@ -3,6 +3,7 @@
 // is too short; the call without terms can have no damage by 14, 15 and 16.
 use crate::lent::{Lent, Told, closest_in, closest_terms_in, is_refused};
 use crate::met::{ByDamage, Met};
+use profile::{Calendar, Profile};
 use trial::calls::NUMBERS;
 use trial::cells::{Cell, bit, part_of, plus, untouched};
 use trial::tally;
@@ -96,17 +97,32 @@ fn asked(
     let masks = part_of(&masks_all, 0, mask_count(damages, variant));
     let steps = part_of(&moves, 0, move_count(damages, variant));
     if !with_terms {
-        return closest_in(shape, masks, steps, log, lent, buffer, numbers, costs);
+        return closest_in(
+            &Profile {
+                shape,
+                masks,
+                moves: steps,
+            },
+            log,
+            lent,
+            buffer,
+            numbers,
+            costs,
+        );
     }
     put_days(damages, variant, &mut days);
     put_terms(damages, variant, &mut terms);
     closest_terms_in(
-        shape,
-        masks,
-        steps,
+        &Profile {
+            shape,
+            masks,
+            moves: steps,
+        },
         log,
-        part_of(&days, 0, day_count(damages, variant)),
-        part_of(&terms, 0, term_numbers(damages, variant)),
+        &Calendar {
+            days: part_of(&days, 0, day_count(damages, variant)),
+            terms: part_of(&terms, 0, term_numbers(damages, variant)),
+        },
         lent,
         buffer,
         numbers,

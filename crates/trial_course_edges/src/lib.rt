@@ -5,6 +5,7 @@
 //     02 0600 11 0017 17(01)
 #![tactic(auto)]
 
+use profile::Profile;
 use trial::calls::table_part;
 use trial::cells::{Cell, byte, byte_at, minus, part_of, plus, put_run, times};
 use trial::tally;
@@ -237,7 +238,14 @@ fn many_stars(t: Tally) -> Tally {
         Some(shape) => {
             (moves == [2u32, 2].as_slice())
                 & (shape.finals == 3)
-                & (verdict_of(shape, &[0u16; 1], moves, &[0u8; 7]) == Some(true))
+                & (verdict_of(
+                    &Profile {
+                        shape,
+                        masks: &[0u16; 1],
+                        moves,
+                    },
+                    &[0u8; 7],
+                ) == Some(true))
         }
         None => false,
     };

@@ -3,7 +3,7 @@ use crate::answers::{is_refused, make_in, profile_in};
 use crate::counters;
 use crate::counters::Counted;
 use crate::moves::compare_moves;
-use profile::Shape;
+use profile::{Profile, Shape};
 use trial::calls::{judge_in, table_part};
 use trial::cells::{Cell, bit, minus, part_of, plus, times};
 use trial::logs::put_log_number;
@@ -18,10 +18,10 @@ use trial_grammar::words::{letter_count, one, when};
 const ALL: usize = 31;
 
 // The judge's verdict.
-pub fn verdict_of(shape: Shape, masks: &[u16], moves: &[u32], log: &[u8]) -> Option<bool> {
+pub fn verdict_of(profile: &Profile, log: &[u8]) -> Option<bool> {
     let mut buffer = [u8::GUARD; 16];
     let mut numbers = [u32::GUARD; 136];
-    let answer = judge_in(shape, masks, moves, log, 8, 120, &mut buffer, &mut numbers);
+    let answer = judge_in(profile, log, 8, 120, &mut buffer, &mut numbers);
     answers::verdict_of(answer)
 }
 
@@ -45,7 +45,14 @@ fn only_a(v: usize) -> bool {
 // The verdict is 1 with nothing independent exactly when the log is described.
 fn compare_alone(shape: Shape, moves: &[u32], log: &[u8], described: bool, t: Tally) -> Tally {
     let masks = [0u16; 3];
-    let verdict = verdict_of(shape, part_of(&masks, 0, shape.k), moves, log);
+    let verdict = verdict_of(
+        &Profile {
+            shape,
+            masks: part_of(&masks, 0, shape.k),
+            moves,
+        },
+        log,
+    );
     counters::judged(t, Counted::Logs, Counted::DescribedLogs, described, verdict)
 }
 
@@ -54,7 +61,14 @@ fn compare_pair(shape: Shape, moves: &[u32], log: &[u8], described: bool, t: Tal
     let mut masks = [0u16; 3];
     masks[0] = 2;
     masks[1] = 1;
-    let verdict = verdict_of(shape, part_of(&masks, 0, shape.k), moves, log);
+    let verdict = verdict_of(
+        &Profile {
+            shape,
+            masks: part_of(&masks, 0, shape.k),
+            moves,
+        },
+        log,
+    );
     counters::judged(
         t,
         Counted::PairLogs,

@@ -2,7 +2,7 @@
 use crate::read_events::compare_events;
 use crate::reading::compare_file;
 use crate::written::{bytes_right, file_size};
-use profile::Shape;
+use profile::{Profile, Shape};
 use trial::answers::{Answer, is_refusal, is_told};
 use trial::calls::{BYTES, write_in};
 use trial::cells::{Cell, minus, part_of, plus, times, untouched};
@@ -22,26 +22,28 @@ fn written_again(file: &[u8]) -> bool {
     match reading {
         Err(_) => false,
         Ok((shape, _)) => same_file(
-            shape,
-            part_of(&masks, 0, shape.k),
-            part_of(&moves, 0, times(shape.s, shape.k)),
+            &Profile {
+                shape,
+                masks: part_of(&masks, 0, shape.k),
+                moves: part_of(&moves, 0, times(shape.s, shape.k)),
+            },
             file,
         ),
     }
 }
 
-fn same_file(shape: Shape, masks: &[u16], moves: &[u32], file: &[u8]) -> bool {
+fn same_file(profile: &Profile, file: &[u8]) -> bool {
     let mut out = [u8::GUARD; 6160];
     let log = logfile::log_part(file);
-    let answer = write_in(shape, masks, moves, log, 6144, &mut out);
+    let answer = write_in(profile, log, 6144, &mut out);
     answer_right(answer, file.len(), &out) & (part_of(&out, BYTES, file.len()) == file)
 }
 
 // Writes with one byte too little: refused by 9, nothing written.
-fn refuse_short(shape: Shape, masks: &[u16], moves: &[u32], log: &[u8], t: Tally) -> Tally {
+fn refuse_short(profile: &Profile, log: &[u8], t: Tally) -> Tally {
     let mut out = [u8::GUARD; 6160];
-    let room = minus(file_size(shape, log.len()), 1);
-    let answer = write_in(shape, masks, moves, log, room, &mut out);
+    let room = minus(file_size(profile.shape, log.len()), 1);
+    let answer = write_in(profile, log, room, &mut out);
     let right = is_refusal(answer, 9, 0, 0) & untouched(&out, 0, 0);
     tally::refused(t, Counted::File, right, Call::Write, 9)
 }
@@ -57,34 +59,20 @@ fn compare_rooms(shape: Shape, file: &[u8], extra: usize, t: Tally) -> Tally {
 }
 
 // Writes the file of a log into more room than it needs; `extra` varies how much. Then reads it.
-fn compare_written(
-    shape: Shape,
-    masks: &[u16],
-    moves: &[u32],
-    log: &[u8],
-    extra: usize,
-    t: Tally,
-) -> Tally {
+fn compare_written(profile: &Profile, log: &[u8], extra: usize, t: Tally) -> Tally {
     let mut out = [u8::GUARD; 6160];
-    let size = file_size(shape, log.len());
-    let answer = write_in(shape, masks, moves, log, plus(size, extra % 3), &mut out);
+    let size = file_size(profile.shape, log.len());
+    let answer = write_in(profile, log, plus(size, extra % 3), &mut out);
     let file = part_of(&out, BYTES, size);
     let right = answer_right(answer, size, &out)
-        & bytes_right(shape, masks, moves, log, file)
+        & bytes_right(profile, log, file)
         & written_again(file);
     let written = tally::count(tally::expect(t, Counted::File, right), Counted::Written);
-    compare_rooms(shape, file, extra, written)
+    compare_rooms(profile.shape, file, extra, written)
 }
 
 // All that is compared of one log.
-pub fn compare_log(
-    shape: Shape,
-    masks: &[u16],
-    moves: &[u32],
-    log: &[u8],
-    extra: usize,
-    t: Tally,
-) -> Tally {
-    let written = compare_written(shape, masks, moves, log, extra, t);
-    compare_events(log, refuse_short(shape, masks, moves, log, written))
+pub fn compare_log(profile: &Profile, log: &[u8], extra: usize, t: Tally) -> Tally {
+    let written = compare_written(profile, log, extra, t);
+    compare_events(log, refuse_short(profile, log, written))
 }

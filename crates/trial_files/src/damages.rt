@@ -1,6 +1,6 @@
 // Files with a byte changed, cut files, and files whose sections stand anywhere.
 use crate::reading::compare_file;
-use profile::Shape;
+use profile::Profile;
 use trial::cells::{byte, byte_at, copy, minus, part_of, plus, put, times};
 use trial::random::{below, put_log, put_masks, put_moves, seed_of};
 use trial::shapes::{alt, shape_of};
@@ -57,10 +57,10 @@ fn every_cut(file: &[u8], t: Tally) -> Tally {
 }
 
 // Cuts and changes the file of a profile and a log; every value of a byte is tried where `all` is true.
-fn damage(shape: Shape, masks: &[u16], moves: &[u32], log: &[u8], all: bool, t: Tally) -> Tally {
+fn damage(profile: &Profile, log: &[u8], all: bool, t: Tally) -> Tally {
     let mut out = [0u8; 160];
-    let size = crate::written::file_size(shape, log.len());
-    let written = filewriter::write_file(shape, masks, moves, log, &mut out).ok();
+    let size = crate::written::file_size(profile.shape, log.len());
+    let written = filewriter::write_file(profile, log, &mut out).ok();
     let file = part_of(&out, 0, size);
     let cut = every_cut(file, tally::expect(t, Counted::File, written == Some(size)));
     if all {
@@ -73,9 +73,11 @@ fn damage(shape: Shape, masks: &[u16], moves: &[u32], log: &[u8], all: bool, t: 
 // The file of document 01.
 pub fn damage_document(t: Tally) -> Tally {
     damage(
-        alt(),
-        &[2u16, 1],
-        &[2u32, 0, 0, 1],
+        &Profile {
+            shape: alt(),
+            masks: &[2u16, 1],
+            moves: &[2u32, 0, 0, 1],
+        },
         &[1u8, 1, 0, 0],
         true,
         t,
@@ -91,9 +93,11 @@ fn damage_of(seed: usize, k: usize, s: usize, n: usize, t: Tally) -> Tally {
     put_moves(seed, s, k, &mut moves);
     put_log(seed, k, n, &mut log);
     damage(
-        shape_of(k, s, 0, 1),
-        part_of(&masks, 0, k),
-        part_of(&moves, 0, times(s, k)),
+        &Profile {
+            shape: shape_of(k, s, 0, 1),
+            masks: part_of(&masks, 0, k),
+            moves: part_of(&moves, 0, times(s, k)),
+        },
         part_of(&log, 0, n),
         false,
         t,

@@ -3,7 +3,7 @@ use crate::compare::compare_log;
 use crate::reading::compare_file;
 use crate::second_reader::file_refusal;
 use crate::written::{file_byte, file_size};
-use profile::Shape;
+use profile::Profile;
 use trial::answers::is_refusal;
 use trial::calls::write_in;
 use trial::cells::{Cell, byte, minus, part_of, plus, put, put_run, untouched};
@@ -18,9 +18,11 @@ fn long_file(n: usize, t: Tally) -> Tally {
     let mut log = [0u8; 4000];
     put_run(&mut log, 200, 3800, 15);
     let compared = compare_log(
-        shape_of(16, 32, 31, 4294967295),
-        &masks,
-        &moves,
+        &Profile {
+            shape: shape_of(16, 32, 31, 4294967295),
+            masks: &masks,
+            moves: &moves,
+        },
         part_of(&log, 0, n),
         1,
         t,
@@ -35,9 +37,11 @@ fn too_long_file(t: Tally) -> Tally {
     let log = [15u8; 4001];
     let mut out = [u8::GUARD; 6160];
     let answer = write_in(
-        shape_of(16, 32, 31, 4294967295),
-        &masks,
-        &moves,
+        &Profile {
+            shape: shape_of(16, 32, 31, 4294967295),
+            masks: &masks,
+            moves: &moves,
+        },
         &log,
         6140,
         &mut out,
@@ -47,9 +51,9 @@ fn too_long_file(t: Tally) -> Tally {
 }
 
 // The bytes of a file that the writer may refuse.
-fn put_file(shape: Shape, masks: &[u16], moves: &[u32], log: &[u8], file: &mut [u8]) {
-    for i in 0..file_size(shape, log.len()) {
-        put(file, i, byte(file_byte(shape, masks, moves, log, i)));
+fn put_file(profile: &Profile, log: &[u8], file: &mut [u8]) {
+    for i in 0..file_size(profile.shape, log.len()) {
+        put(file, i, byte(file_byte(profile, log, i)));
     }
 }
 
@@ -60,9 +64,11 @@ fn compare_made(n: usize, last: usize, i: usize, v: usize, number: usize, t: Tal
     let mut file = [0u8; 4032];
     put(&mut log, minus(n, 1), byte(last));
     put_file(
-        shape_of(2, 1, 0, 1),
-        &[2u16, 1],
-        &[1u32, 1],
+        &Profile {
+            shape: shape_of(2, 1, 0, 1),
+            masks: &[2u16, 1],
+            moves: &[1u32, 1],
+        },
         part_of(&log, 0, n),
         &mut file,
     );

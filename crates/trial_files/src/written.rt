@@ -1,5 +1,5 @@
 // The bytes of a log file by the documents' words: masks, moves, log, trailer, without gaps.
-use profile::Shape;
+use profile::{Profile, Shape};
 use trial::cells::{byte_at, minus, plus, times, value_at, wide};
 
 // Byte i of a number, low byte first.
@@ -43,25 +43,27 @@ fn trailer_byte(shape: Shape, n: usize, i: usize) -> usize {
 }
 
 // Byte i of the file.
-pub fn file_byte(shape: Shape, masks: &[u16], moves: &[u32], log: &[u8], i: usize) -> usize {
-    let moves_at = mask_bytes(shape);
-    let log_at = plus(moves_at, move_bytes(shape));
+pub fn file_byte(profile: &Profile, log: &[u8], i: usize) -> usize {
+    let moves_at = mask_bytes(profile.shape);
+    let log_at = plus(moves_at, move_bytes(profile.shape));
     let end = plus(log_at, log.len());
     if i < moves_at {
-        return digit(value_at(masks, i / 2) as usize, i % 2);
+        return digit(value_at(profile.masks, i / 2) as usize, i % 2);
     }
     if i < log_at {
         let j = minus(i, moves_at);
-        return digit(wide(value_at(moves, j / 4)), j % 4);
+        return digit(wide(value_at(profile.moves, j / 4)), j % 4);
     }
     if i < end {
         return byte_at(log, minus(i, log_at));
     }
-    trailer_byte(shape, log.len(), minus(i, end))
+    trailer_byte(profile.shape, log.len(), minus(i, end))
 }
 
 // The file has these bytes.
-pub fn bytes_right(shape: Shape, masks: &[u16], moves: &[u32], log: &[u8], file: &[u8]) -> bool {
-    file.iter().enumerate().all(|(i, x)| wide(*x) == file_byte(shape, masks, moves, log, i))
-        && file.len() == file_size(shape, log.len())
+pub fn bytes_right(profile: &Profile, log: &[u8], file: &[u8]) -> bool {
+    file.iter()
+        .enumerate()
+        .all(|(i, x)| wide(*x) == file_byte(profile, log, i))
+        && file.len() == file_size(profile.shape, log.len())
 }

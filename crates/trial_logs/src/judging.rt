@@ -3,7 +3,7 @@ use crate::listing::{list, row};
 use crate::paths::{backward, earliest_accepted, forward};
 use crate::place_keys::{key_of, place_of, put_keys};
 use crate::prefixes::{closed, look_count, marks_of, take_events};
-use profile::Shape;
+use profile::Profile;
 use trial::answers::{Answer, is_refusal, is_told, is_unchanged};
 use trial::calls::{BYTES, NUMBERS, build_in, judge_in, table_part};
 use trial::cells::{Cell, holds, part_of, untouched, wide};
@@ -12,21 +12,21 @@ use trial::tally;
 use trial::tally::{Call, Counted, Tally};
 
 // The states to which some order of the marked events leads from the start.
-pub fn forward_of(shape: Shape, masks: &[u16], moves: &[u32], log: &[u8], marks: usize) -> u32 {
+pub fn forward_of(profile: &Profile, log: &[u8], marks: usize) -> u32 {
     let mut word = [0u8; 8];
     let mut rows = [0u8; 16384];
     let n = take_events(log, marks, true, &mut word);
-    let count = list(masks, part_of(&word, 0, n), &mut rows);
-    forward(shape, moves, &rows, count, n)
+    let count = list(profile.masks, part_of(&word, 0, n), &mut rows);
+    forward(profile.shape, profile.moves, &rows, count, n)
 }
 
 // The states from which some order of the unmarked events leads to a final state.
-fn backward_of(shape: Shape, masks: &[u16], moves: &[u32], log: &[u8], marks: usize) -> u32 {
+fn backward_of(profile: &Profile, log: &[u8], marks: usize) -> u32 {
     let mut word = [0u8; 8];
     let mut rows = [0u8; 16384];
     let n = take_events(log, marks, false, &mut word);
-    let count = list(masks, part_of(&word, 0, n), &mut rows);
-    backward(shape, moves, &rows, count, n)
+    let count = list(profile.masks, part_of(&word, 0, n), &mut rows);
+    backward(profile.shape, profile.moves, &rows, count, n)
 }
 
 // Record r counts its marked events and no others, and stands in the place that they have among all prefixes by their keys.
@@ -45,24 +45,14 @@ fn counts_right(
 }
 
 // The sets of record r.
-fn sets_right(
-    shape: Shape,
-    masks: &[u16],
-    moves: &[u32],
-    log: &[u8],
-    table: &[u32],
-    r: usize,
-    marks: usize,
-) -> bool {
-    (set_of(table, r, FORWARD) == forward_of(shape, masks, moves, log, marks))
-        & (set_of(table, r, BACKWARD) == backward_of(shape, masks, moves, log, marks))
+fn sets_right(profile: &Profile, log: &[u8], table: &[u32], r: usize, marks: usize) -> bool {
+    (set_of(table, r, FORWARD) == forward_of(profile, log, marks))
+        & (set_of(table, r, BACKWARD) == backward_of(profile, log, marks))
 }
 
 // Each of the first `prefixes` records.
 fn each_right(
-    shape: Shape,
-    masks: &[u16],
-    moves: &[u32],
+    profile: &Profile,
     log: &[u8],
     table: &[u32],
     keys: &[usize],
@@ -70,10 +60,10 @@ fn each_right(
 ) -> bool {
     for r in 0..prefixes {
         let marks = marks_of(log, table, r);
-        if !counts_right(masks, log, table, r, marks, keys, prefixes) {
+        if !counts_right(profile.masks, log, table, r, marks, keys, prefixes) {
             return false;
         }
-        if !sets_right(shape, masks, moves, log, table, r, marks) {
+        if !sets_right(profile, log, table, r, marks) {
             return false;
         }
     }
@@ -81,48 +71,37 @@ fn each_right(
 }
 
 // The first `prefixes` records, which are those of all prefixes.
-fn records_right(
-    shape: Shape,
-    masks: &[u16],
-    moves: &[u32],
-    log: &[u8],
-    table: &[u32],
-    prefixes: usize,
-) -> bool {
+fn records_right(profile: &Profile, log: &[u8], table: &[u32], prefixes: usize) -> bool {
     let mut keys = [0usize; 256];
-    let listed = put_keys(masks, log, &mut keys);
-    (listed == prefixes) & each_right(shape, masks, moves, log, table, &keys, prefixes)
+    let listed = put_keys(profile.masks, log, &mut keys);
+    (listed == prefixes) & each_right(profile, log, table, &keys, prefixes)
 }
 
 // The answer of a call that is not refused, the records, and the numbers that are not written.
 fn table_right(
-    shape: Shape,
-    masks: &[u16],
-    moves: &[u32],
+    profile: &Profile,
     log: &[u8],
     answer: Answer,
     verdict: Option<bool>,
     prefixes: usize,
     numbers: &[u32],
 ) -> bool {
-    is_told(answer, verdict, prefixes, look_count(masks, log))
+    is_told(answer, verdict, prefixes, look_count(profile.masks, log))
         & untouched(numbers, NUMBERS, record_at(prefixes))
-        & records_right(shape, masks, moves, log, table_part(numbers), prefixes)
+        & records_right(profile, log, table_part(numbers), prefixes)
 }
 
 // Builds the table of a log in `size` numbers, in which its prefixes fit.
 pub fn compare_build(
-    shape: Shape,
-    masks: &[u16],
-    moves: &[u32],
+    profile: &Profile,
     log: &[u8],
     prefixes: usize,
     size: usize,
     t: Tally,
 ) -> Tally {
     let mut numbers = [u32::GUARD; 1416];
-    let answer = build_in(shape, masks, moves, log, size, &mut numbers);
-    let right = table_right(shape, masks, moves, log, answer, None, prefixes, &numbers);
+    let answer = build_in(profile, log, size, &mut numbers);
+    let right = table_right(profile, log, answer, None, prefixes, &numbers);
     let counted = tally::count_many(t, Counted::Records, prefixes);
     tally::count(
         tally::expect(counted, Counted::Table, right),
@@ -152,9 +131,7 @@ fn count_judged(t: Tally, right: bool, verdict: bool, count: usize) -> Tally {
 
 // Judges a log into an order buffer of `room` bytes and a table of `size` numbers, which are enough.
 pub fn compare_judge(
-    shape: Shape,
-    masks: &[u16],
-    moves: &[u32],
+    profile: &Profile,
     log: &[u8],
     prefixes: usize,
     room: usize,
@@ -165,43 +142,19 @@ pub fn compare_judge(
     let mut buffer = [u8::GUARD; 32];
     let mut numbers = [u32::GUARD; 1416];
     let n = log.len();
-    let count = list(masks, log, &mut rows);
-    let best = earliest_accepted(shape, moves, &rows, count, n);
+    let count = list(profile.masks, log, &mut rows);
+    let best = earliest_accepted(profile.shape, profile.moves, &rows, count, n);
     let verdict = best < count;
-    let answer = judge_in(
-        shape,
-        masks,
-        moves,
-        log,
-        room,
-        size,
-        &mut buffer,
-        &mut numbers,
-    );
-    let right = table_right(
-        shape,
-        masks,
-        moves,
-        log,
-        answer,
-        Some(verdict),
-        prefixes,
-        &numbers,
-    ) & order_right(&buffer, verdict, row(&rows, best, n));
+    let answer = judge_in(profile, log, room, size, &mut buffer, &mut numbers);
+    let right = table_right(profile, log, answer, Some(verdict), prefixes, &numbers)
+        & order_right(&buffer, verdict, row(&rows, best, n));
     count_judged(t, right, verdict, count)
 }
 
 // Builds in a table of `size` numbers, which is too short: refused by 10, and nothing past the table is written.
-pub fn refuse_build(
-    shape: Shape,
-    masks: &[u16],
-    moves: &[u32],
-    log: &[u8],
-    size: usize,
-    t: Tally,
-) -> Tally {
+pub fn refuse_build(profile: &Profile, log: &[u8], size: usize, t: Tally) -> Tally {
     let mut numbers = [u32::GUARD; 1416];
-    let answer = build_in(shape, masks, moves, log, size, &mut numbers);
+    let answer = build_in(profile, log, size, &mut numbers);
     let right = is_refusal(answer, 10, 0, 0) & untouched(&numbers, NUMBERS, size);
     tally::refused(
         tally::count(t, Counted::FullTables),
@@ -214,9 +167,7 @@ pub fn refuse_build(
 
 // Judges a log with buffers of which one is too short: refused by the number.
 pub fn refuse_judge(
-    shape: Shape,
-    masks: &[u16],
-    moves: &[u32],
+    profile: &Profile,
     log: &[u8],
     number: usize,
     room: usize,
@@ -225,16 +176,7 @@ pub fn refuse_judge(
 ) -> Tally {
     let mut buffer = [u8::GUARD; 32];
     let mut numbers = [u32::GUARD; 1416];
-    let answer = judge_in(
-        shape,
-        masks,
-        moves,
-        log,
-        room,
-        size,
-        &mut buffer,
-        &mut numbers,
-    );
+    let answer = judge_in(profile, log, room, size, &mut buffer, &mut numbers);
     let right = is_refusal(answer, number, 0, 0) & is_unchanged(number, &buffer, &numbers, size);
     tally::refused(t, Counted::Judge, right, Call::Judge, number)
 }

@@ -2,6 +2,7 @@
 // whose records have a closed form.
 #![tactic(auto)]
 
+use profile::Profile;
 use trial::answers::{
     Answer, is_refusal, is_told, is_unchanged, is_verdict, of_compared, verdict_of,
 };
@@ -74,9 +75,11 @@ fn judge_run(letter: usize, n: usize, size: usize, number: usize, log: &[u8], t:
     put_ring(&mut moves);
     let verdict = line_verdict(n);
     let answer = judge_in(
-        shape_of(16, 5, 0, 1),
-        &masks,
-        &moves,
+        &Profile {
+            shape: shape_of(16, 5, 0, 1),
+            masks: &masks,
+            moves: &moves,
+        },
         log,
         n,
         size,
@@ -102,9 +105,11 @@ fn build_line(letter: usize, n: usize, size: usize, number: usize, t: Tally) -> 
     put_run(&mut letters, 0, n, byte(letter));
     put_ring(&mut moves);
     let answer = build_in(
-        shape_of(16, 5, 0, 1),
-        &masks,
-        &moves,
+        &Profile {
+            shape: shape_of(16, 5, 0, 1),
+            masks: &masks,
+            moves: &moves,
+        },
         part_of(&letters, 0, n),
         size,
         &mut numbers,
@@ -208,9 +213,11 @@ fn square(masks: &[u16], a: usize, b: usize, t: Tally) -> Tally {
     let n = plus(a, b);
     put_run(&mut letters, 0, b, 1);
     let answer = judge_in(
-        alt(),
-        masks,
-        &[2u32, 0, 0, 1],
+        &Profile {
+            shape: alt(),
+            masks,
+            moves: &[2u32, 0, 0, 1],
+        },
         part_of(&letters, 0, n),
         n,
         163850,

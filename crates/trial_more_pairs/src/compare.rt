@@ -1,5 +1,5 @@
 // The judge on one log under two nested lists of pairs, each answer against the listing, and the two beside each other.
-use profile::Shape;
+use profile::{Profile, Shape};
 use trial::cells::{copy, part_of};
 use trial::tally;
 use trial::tally::{Counter, Tally};
@@ -39,18 +39,18 @@ pub struct Outcome {
     pub looks: usize,
 }
 
-fn outcome_of(shape: Shape, masks: &[u16], moves: &[u32], log: &[u8]) -> Outcome {
+fn outcome_of(profile: &Profile, log: &[u8]) -> Outcome {
     let mut rows = [0u8; 16384];
     let mut order = [0u8; 8];
     let n = log.len();
-    let count = list(masks, log, &mut rows);
-    let best = earliest_accepted(shape, moves, &rows, count, n);
+    let count = list(profile.masks, log, &mut rows);
+    let best = earliest_accepted(profile.shape, profile.moves, &rows, count, n);
     copy(row(&rows, best, n), &mut order);
     Outcome {
         good: best < count,
         order: order,
-        prefixes: prefix_count(masks, log),
-        looks: look_count(masks, log),
+        prefixes: prefix_count(profile.masks, log),
+        looks: look_count(profile.masks, log),
     }
 }
 
@@ -86,10 +86,46 @@ pub fn compare_nested(
     t: Tally,
 ) -> Tally {
     let n = log.len();
-    let a = outcome_of(shape, masks, moves, log);
-    let b = outcome_of(shape, longer, moves, log);
-    let first = compare_judge(shape, masks, moves, log, a.prefixes, n, 1300, t);
-    let second = compare_judge(shape, longer, moves, log, b.prefixes, n, 1400, first);
+    let a = outcome_of(
+        &Profile {
+            shape,
+            masks,
+            moves,
+        },
+        log,
+    );
+    let b = outcome_of(
+        &Profile {
+            shape,
+            masks: longer,
+            moves,
+        },
+        log,
+    );
+    let first = compare_judge(
+        &Profile {
+            shape,
+            masks,
+            moves,
+        },
+        log,
+        a.prefixes,
+        n,
+        1300,
+        t,
+    );
+    let second = compare_judge(
+        &Profile {
+            shape,
+            masks: longer,
+            moves,
+        },
+        log,
+        b.prefixes,
+        n,
+        1400,
+        first,
+    );
     let counted = tally::count_if(
         tally::count(second, Beside::Nested),
         Beside::Equal,

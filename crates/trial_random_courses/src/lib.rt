@@ -4,7 +4,7 @@
 mod typing;
 
 use crate::typing::put_text;
-use profile::Shape;
+use profile::{Profile, Shape};
 use trial::calls::table_part;
 use trial::cells::{Cell, byte, copy, part_of, plus, put, times};
 use trial::random::{below, put_log, seed_of};
@@ -32,7 +32,14 @@ fn compare_log(
     let k = shape.k;
     let masks = [0u16; 16];
     let described = describes(Members::Letters, k, text, log, Around::Alone, table);
-    let verdict = verdict_of(shape, part_of(&masks, 0, k), moves, log);
+    let verdict = verdict_of(
+        &Profile {
+            shape,
+            masks: part_of(&masks, 0, k),
+            moves,
+        },
+        log,
+    );
     counters::judged(
         t,
         Counted::RandomLogs,

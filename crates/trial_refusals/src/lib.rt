@@ -5,7 +5,7 @@
 // prefixes.
 #![tactic(auto)]
 
-use profile::Shape;
+use profile::{Profile, Shape};
 use trial::answers::{Answer, is_refusal, is_unchanged, of_compared};
 use trial::calls::{build_in, first_order_in, judge_in, write_in};
 use trial::cells::{Cell, bit, byte, minus, part_of, plus, put};
@@ -294,9 +294,11 @@ fn judge_with(
     let size = table_size(damages, variant);
     let number = lowest(damages, 251);
     let answer = judge_in(
-        shape,
-        masks,
-        moves,
+        &Profile {
+            shape,
+            masks,
+            moves,
+        },
         log,
         room,
         size,
@@ -321,7 +323,16 @@ fn build_with(
     let shape = damaged_shape(damages, variant);
     let size = table_size(damages, variant);
     let number = lowest(damages, 187);
-    let answer = build_in(shape, masks, moves, log, size, &mut numbers);
+    let answer = build_in(
+        &Profile {
+            shape,
+            masks,
+            moves,
+        },
+        log,
+        size,
+        &mut numbers,
+    );
     let right = refused_right(answer, number, variant, &buffer, &numbers, size);
     close(right, Call::Build, number, t)
 }
@@ -356,7 +367,16 @@ fn write_with(
     let shape = damaged_shape(damages, variant);
     let room = room_for(damages, variant, plus(58, log.len()));
     let number = lowest(damages, 123);
-    let answer = write_in(shape, masks, moves, log, room, &mut buffer);
+    let answer = write_in(
+        &Profile {
+            shape,
+            masks,
+            moves,
+        },
+        log,
+        room,
+        &mut buffer,
+    );
     let right = refused_right(answer, number, variant, &buffer, &numbers, 0);
     close(right, Call::Write, number, t)
 }

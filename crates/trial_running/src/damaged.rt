@@ -2,7 +2,7 @@
 use crate::lent::{event_in, question_in};
 use crate::run::Counted;
 use crate::run_records::room;
-use profile::Shape;
+use profile::{Profile, Shape};
 use trial::calls::NUMBERS;
 use trial::cells::{byte, plus, put, untouched};
 use trial::random::{below, seed_of};
@@ -70,9 +70,7 @@ fn early_question(held: &[u64; 2], size: usize) -> u32 {
 
 // A question and an event on any record and any table of `size` numbers, which lies in a buffer of guards.
 pub fn compare_damaged(
-    shape: Shape,
-    masks: &[u16],
-    moves: &[u32],
+    profile: &Profile,
     seed: usize,
     size: usize,
     numbers: &mut [u32],
@@ -81,13 +79,11 @@ pub fn compare_damaged(
     let mut held = [edge(seed_of(seed, 0), size), edge(seed_of(seed, 1), size)];
     let mut place = [99u64; 1];
     let mut told = [99u64; 4];
-    let letter = byte(below(seed, 2, plus(shape.k, 1)));
+    let letter = byte(below(seed, 2, plus(profile.shape.k, 1)));
     let first = early_question(&held, size);
-    let asked = question_in(shape, masks, moves, &held, size, numbers, &mut told);
-    let second = early(shape, letter, &held, size);
-    let given = event_in(
-        shape, masks, moves, letter, &mut held, size, numbers, &mut place,
-    );
+    let asked = question_in(profile, &held, size, numbers, &mut told);
+    let second = early(profile.shape, letter, &held, size);
+    let given = event_in(profile, letter, &mut held, size, numbers, &mut place);
     let right = answered(asked, first, false)
         & answered(given, second, true)
         & untouched(numbers, NUMBERS, size);

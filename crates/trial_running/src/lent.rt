@@ -1,25 +1,21 @@
 // The calls of the running judge on a lent part of a guarded buffer, each with its number; none where the buffer is too small for the part.
-use profile::Shape;
+use profile::Profile;
 use trial::calls::{NUMBERS, lent};
 use trial::cells::part_of;
 
 pub fn start_in(
-    shape: Shape,
-    masks: &[u16],
-    moves: &[u32],
+    profile: &Profile,
     held: &mut [u64; 2],
     size: usize,
     numbers: &mut [u32],
     told: &mut [u64; 1],
 ) -> Option<u32> {
     let table = lent(numbers, NUMBERS, size)?;
-    Some(calls::start(shape, masks, moves, held, table, told))
+    Some(calls::start(profile, held, table, told))
 }
 
 pub fn event_in(
-    shape: Shape,
-    masks: &[u16],
-    moves: &[u32],
+    profile: &Profile,
     letter: u8,
     held: &mut [u64; 2],
     size: usize,
@@ -27,13 +23,11 @@ pub fn event_in(
     told: &mut [u64; 1],
 ) -> Option<u32> {
     let table = lent(numbers, NUMBERS, size)?;
-    Some(calls::event(shape, masks, moves, letter, held, table, told))
+    Some(calls::event(profile, letter, held, table, told))
 }
 
 pub fn question_in(
-    shape: Shape,
-    masks: &[u16],
-    moves: &[u32],
+    profile: &Profile,
     held: &[u64; 2],
     size: usize,
     numbers: &[u32],
@@ -43,5 +37,5 @@ pub fn question_in(
     if table.len() < size {
         return None;
     }
-    Some(calls::question(shape, masks, moves, held, table, told))
+    Some(calls::question(profile, held, table, told))
 }

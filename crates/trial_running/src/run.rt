@@ -3,7 +3,7 @@
 use crate::arrivals::put_arrivals;
 use crate::lent::{event_in, question_in, start_in};
 use crate::run_records::{accepted, room, table_right};
-use profile::Shape;
+use profile::{Profile, Shape};
 use trial::answers::is_verdict;
 use trial::calls::judge_in;
 use trial::cells::{byte, part_of, plus, put};
@@ -67,58 +67,47 @@ fn holds(held: &[u64; 2], prefixes: usize, taken: usize) -> bool {
 }
 
 // The record and the table are those of the events taken, of which the listing has as many prefixes as there are sets that keep the rule.
-fn compare_left(
-    shape: Shape,
-    masks: &[u16],
-    moves: &[u32],
-    held: &[u64; 2],
-    numbers: &[u32],
-    run: Run,
-) -> Run {
+fn compare_left(profile: &Profile, held: &[u64; 2], numbers: &[u32], run: Run) -> Run {
     let mut sets = [0usize; 256];
     let letters = run.log;
     let log = part_of(&letters, 0, run.taken);
-    let many = put_arrivals(masks, log, &mut sets);
-    let right = holds(held, many, run.taken)
-        & table_right(shape, masks, moves, log, numbers, &sets, many);
+    let many = put_arrivals(profile.masks, log, &mut sets);
+    let right = holds(held, many, run.taken) & table_right(profile, log, numbers, &sets, many);
     let mut u = expected(run, Counted::Table, right);
     u.tally = tally::count_many(u.tally, Counted::Records, many);
-    expected(u, Counted::Listing, many == prefix_count(masks, log))
+    expected(
+        u,
+        Counted::Listing,
+        many == prefix_count(profile.masks, log),
+    )
 }
 
 // The judge for the list of events taken.
-fn compare_judge(shape: Shape, masks: &[u16], moves: &[u32], run: Run) -> Run {
+fn compare_judge(profile: &Profile, run: Run) -> Run {
     let mut buffer = [0u8; 32];
     let mut work = [0u32; 1416];
     let letters = run.log;
     let log = part_of(&letters, 0, run.taken);
-    let answer = judge_in(shape, masks, moves, log, 8, 1400, &mut buffer, &mut work);
-    let verdict = accepted(shape, masks, moves, log);
-    let many = prefix_count(masks, log);
+    let answer = judge_in(profile, log, 8, 1400, &mut buffer, &mut work);
+    let verdict = accepted(profile, log);
+    let many = prefix_count(profile.masks, log);
     expected(
         run,
         Counted::Judge,
-        is_verdict(answer, verdict, many, look_count(masks, log)),
+        is_verdict(answer, verdict, many, look_count(profile.masks, log)),
     )
 }
 
-fn ask(
-    shape: Shape,
-    masks: &[u16],
-    moves: &[u32],
-    held: &[u64; 2],
-    numbers: &[u32],
-    run: Run,
-) -> Run {
+fn ask(profile: &Profile, held: &[u64; 2], numbers: &[u32], run: Run) -> Run {
     let mut told = [99u64; 4];
     let letters = run.log;
     let log = part_of(&letters, 0, run.taken);
-    let verdict = accepted(shape, masks, moves, log);
-    let number = question_in(shape, masks, moves, held, run.size, numbers, &mut told);
+    let verdict = accepted(profile, log);
+    let number = question_in(profile, held, run.size, numbers, &mut told);
     let right = (number == Some(0))
         & (told[0] == 0)
         & (told[1] == (verdict as u64))
-        & (told[2] == (prefix_count(masks, log) as u64))
+        & (told[2] == (prefix_count(profile.masks, log) as u64))
         & (told[3] == (run.taken as u64));
     let mut u = one_more(expected(run, Counted::Question, right), Counted::Questions);
     u.tally = tally::count_if(u.tally, Counted::Accepted, verdict);
@@ -154,56 +143,40 @@ fn with_letter(run: Run, letter: u8) -> Run {
     u
 }
 
-fn give(
-    shape: Shape,
-    masks: &[u16],
-    moves: &[u32],
-    letter: u8,
-    held: &mut [u64; 2],
-    numbers: &mut [u32],
-    run: Run,
-) -> Run {
+fn give(profile: &Profile, letter: u8, held: &mut [u64; 2], numbers: &mut [u32], run: Run) -> Run {
     let mut told = [99u64; 1];
     let after = with_letter(run, letter);
     let letters = after.log;
-    let many = prefix_count(masks, part_of(&letters, 0, after.taken));
-    let refused = refusal_of(shape, letter, many, run.size);
+    let many = prefix_count(profile.masks, part_of(&letters, 0, after.taken));
+    let refused = refusal_of(profile.shape, letter, many, run.size);
     let place = if refused == 8 { run.taken as u64 } else { 0u64 };
-    let number = event_in(
-        shape, masks, moves, letter, held, run.size, numbers, &mut told,
-    );
+    let number = event_in(profile, letter, held, run.size, numbers, &mut told);
     let right = (number == Some(refused)) & (told[0] == place);
     let u = expected(noted(run, after, refused), Counted::Event, right);
-    compare_judge(shape, masks, moves, u)
+    compare_judge(profile, u)
 }
 
 // Event or question i; after six events taken, or five of many letters, there are only questions.
-fn call(
-    shape: Shape,
-    masks: &[u16],
-    moves: &[u32],
-    seed: usize,
-    held: &mut [u64; 2],
-    numbers: &mut [u32],
-    run: Run,
-) -> Run {
-    let most = if shape.k < 4 { 6 } else { 5 };
+fn call(profile: &Profile, seed: usize, held: &mut [u64; 2], numbers: &mut [u32], run: Run) -> Run {
+    let most = if profile.shape.k < 4 { 6 } else { 5 };
     let kind = below(seed, 0, 8);
     if (kind < 2) | (most <= run.taken) {
-        let u = ask(shape, masks, moves, held, numbers, run);
-        return compare_left(shape, masks, moves, held, numbers, u);
+        let u = ask(profile, held, numbers, run);
+        return compare_left(profile, held, numbers, u);
     }
-    let good = below(seed, 1, shape.k);
-    let letter = if kind == 2 { plus(shape.k, good) } else { good };
-    let u = give(shape, masks, moves, byte(letter), held, numbers, run);
-    compare_left(shape, masks, moves, held, numbers, u)
+    let good = below(seed, 1, profile.shape.k);
+    let letter = if kind == 2 {
+        plus(profile.shape.k, good)
+    } else {
+        good
+    };
+    let u = give(profile, byte(letter), held, numbers, run);
+    compare_left(profile, held, numbers, u)
 }
 
 // Calls on what a start left.
 fn compare_calls(
-    shape: Shape,
-    masks: &[u16],
-    moves: &[u32],
+    profile: &Profile,
     seed: usize,
     many: usize,
     held: &mut [u64; 2],
@@ -212,16 +185,14 @@ fn compare_calls(
 ) -> Run {
     let mut u = run;
     for i in 0..many {
-        u = call(shape, masks, moves, seed_of(seed, i), held, numbers, u);
+        u = call(profile, seed_of(seed, i), held, numbers, u);
     }
     u
 }
 
 // A start in a table of `size` numbers, then `many` calls.
 pub fn compare_run(
-    shape: Shape,
-    masks: &[u16],
-    moves: &[u32],
+    profile: &Profile,
     seed: usize,
     many: usize,
     numbers: &mut [u32],
@@ -229,12 +200,12 @@ pub fn compare_run(
 ) -> Run {
     let mut held = [77u64, 88u64];
     let mut told = [99u64; 1];
-    let number = start_in(shape, masks, moves, &mut held, run.size, numbers, &mut told);
+    let number = start_in(profile, &mut held, run.size, numbers, &mut told);
     if room(run.size) < 1 {
         let right = (number == Some(10)) & (told[0] == 0) & holds(&held, 77, 88);
         return one_more(expected(run, Counted::Start, right), Counted::RefusedStarts);
     }
     let begun = expected(run, Counted::Start, (number == Some(0)) & (told[0] == 0));
-    let left = compare_left(shape, masks, moves, &held, numbers, begun);
-    compare_calls(shape, masks, moves, seed, many, &mut held, numbers, left)
+    let left = compare_left(profile, &held, numbers, begun);
+    compare_calls(profile, seed, many, &mut held, numbers, left)
 }

@@ -1,6 +1,6 @@
 // The table of a running judge, number by number: counts and forward sets; the backward number and what lies past the records stay as they were, the guard.
 use crate::arrivals::set_at;
-use profile::Shape;
+use profile::Profile;
 use trial::calls::{NUMBERS, table_part};
 use trial::cells::{Cell, bit, minus, plus, untouched, value_at, wide};
 use trial::record_numbers::{FORWARD, RECORD, record_at};
@@ -21,46 +21,28 @@ fn counts_number(log: &[u8], set: usize, j: usize) -> u32 {
     ((low | (high << 16)) % 4294967296) as u32
 }
 
-fn record_right(
-    shape: Shape,
-    masks: &[u16],
-    moves: &[u32],
-    log: &[u8],
-    table: &[u32],
-    r: usize,
-    set: usize,
-) -> bool {
+fn record_right(profile: &Profile, log: &[u8], table: &[u32], r: usize, set: usize) -> bool {
     let at = record_at(r);
     for j in 0..FORWARD {
         if value_at(table, plus(at, j)) != counts_number(log, set, j) {
             return false;
         }
     }
-    let forward = forward_of(shape, masks, moves, log, set);
+    let forward = forward_of(profile, log, set);
     (value_at(table, plus(at, FORWARD)) == forward)
         & (value_at(table, plus(at, plus(FORWARD, 1))) == u32::GUARD)
 }
 
 // The records of the first `many` sets, and nothing else, stand in the table that begins behind the margin.
 pub fn table_right(
-    shape: Shape,
-    masks: &[u16],
-    moves: &[u32],
+    profile: &Profile,
     log: &[u8],
     numbers: &[u32],
     sets: &[usize],
     many: usize,
 ) -> bool {
     for r in 0..many {
-        if !record_right(
-            shape,
-            masks,
-            moves,
-            log,
-            table_part(numbers),
-            r,
-            set_at(sets, r),
-        ) {
+        if !record_right(profile, log, table_part(numbers), r, set_at(sets, r)) {
             return false;
         }
     }
@@ -68,9 +50,9 @@ pub fn table_right(
 }
 
 // Some order of all events is accepted.
-pub fn accepted(shape: Shape, masks: &[u16], moves: &[u32], log: &[u8]) -> bool {
+pub fn accepted(profile: &Profile, log: &[u8]) -> bool {
     let all = minus(1 << (log.len() % 64), 1);
-    forward_of(shape, masks, moves, log, all) & shape.finals != 0
+    forward_of(profile, log, all) & profile.shape.finals != 0
 }
 
 // How many records a table of `size` numbers has place for.

@@ -2,7 +2,7 @@
 //
 // Bit i of a combination is a damage that is refused by 2, 4, 6, 7, 8, 14, 15, 16, 9 or 10, in this order. The variant chooses its form. The call without a
 // damage is that of case M8: three letters, a and b, b and c independent, the log cab, all in the first of two terms, six prefixes.
-use profile::Shape;
+use profile::{Calendar, Profile, Shape};
 use trial::answers::{Answer, is_refusal, is_unchanged};
 use trial::cells::{Cell, bit, byte, minus, part_of, plus, put};
 use trial::shapes::shape_of;
@@ -269,14 +269,7 @@ fn refused_right(
         & (number == 0 || is_unchanged(number, buffer, numbers, size))
 }
 
-fn judge_with(
-    damages: usize,
-    variant: usize,
-    log: &[u8],
-    days: &[u32],
-    terms: &[u32],
-    t: Tally,
-) -> Tally {
+fn judge_with(damages: usize, variant: usize, log: &[u8], calendar: &Calendar, t: Tally) -> Tally {
     let mut buffer = [u8::GUARD; 4024];
     let mut numbers = [u32::GUARD; 88];
     let masks = [first_mask(damages, variant), 5, 2];
@@ -286,12 +279,13 @@ fn judge_with(
     let first = first_damage(damages);
     let number = number_of(first);
     let answer = judge_terms_in(
-        damaged_shape(damages, variant),
-        part_of(&masks, 0, mask_count(damages, variant)),
-        part_of(&moves, 0, move_count(damages, variant)),
+        &Profile {
+            shape: damaged_shape(damages, variant),
+            masks: part_of(&masks, 0, mask_count(damages, variant)),
+            moves: part_of(&moves, 0, move_count(damages, variant)),
+        },
         log,
-        days,
-        terms,
+        calendar,
         room_for(damages, variant, log.len()),
         size,
         &mut buffer,
@@ -313,8 +307,10 @@ fn combine(damages: usize, variant: usize, t: Tally) -> Tally {
         damages,
         variant,
         part_of(&log, 0, log_length(damages)),
-        part_of(&days, 0, day_count(damages, variant)),
-        part_of(&terms, 0, term_numbers(damages, variant)),
+        &Calendar {
+            days: part_of(&days, 0, day_count(damages, variant)),
+            terms: part_of(&terms, 0, term_numbers(damages, variant)),
+        },
         t,
     )
 }

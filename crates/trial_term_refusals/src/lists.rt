@@ -1,5 +1,6 @@
 // Lists of terms, right ones and ones changed in a place; days in no term; days that are not as many as the events.
 use crate::numbers::refused_or_not;
+use profile::Calendar;
 use trial::cells::{minus, part_of, plus, put, value_at, wide};
 use trial::random::{below, seed_of};
 use trial::tally;
@@ -43,7 +44,14 @@ fn try_list(terms: &[u32], t: Tally) -> Tally {
     let no_days = [0u32; 0];
     let right = terms_right(terms);
     let number = if right { 0 } else { 15 };
-    let agrees = refused_or_not(&no_days, terms, &nothing, number);
+    let agrees = refused_or_not(
+        &Calendar {
+            days: &no_days,
+            terms,
+        },
+        &nothing,
+        number,
+    );
     let counted = tally::count(tally::expect(t, Met::List, agrees), Met::Lists);
     if right {
         tally::count(counted, Met::RightLists)
@@ -68,7 +76,7 @@ fn one_list(seed: usize, t: Tally) -> Tally {
 fn try_outside(terms: &[u32], days: &[u32], day: u32, t: Tally) -> Tally {
     let log = [0u8; 3];
     let number = if term_of(terms, day).is_none() { 16 } else { 0 };
-    let agrees = refused_or_not(days, terms, &log, number);
+    let agrees = refused_or_not(&Calendar { days, terms }, &log, number);
     let counted = tally::expect(t, Met::OutsideWrong, agrees);
     if number == 16 {
         tally::count(counted, Met::Outside)
@@ -96,7 +104,14 @@ fn try_lengths(given: usize, n: usize, t: Tally) -> Tally {
     let all = [20260901u32, 20260901];
     let log = [0u8; 4];
     let number = if given == n { 0 } else { 14 };
-    let agrees = refused_or_not(part_of(&days, 0, given), &all, part_of(&log, 0, n), number);
+    let agrees = refused_or_not(
+        &Calendar {
+            days: part_of(&days, 0, given),
+            terms: &all,
+        },
+        part_of(&log, 0, n),
+        number,
+    );
     tally::count(tally::expect(t, Met::OutsideWrong, agrees), Met::NotAsMany)
 }
 

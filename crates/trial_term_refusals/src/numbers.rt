@@ -1,5 +1,5 @@
 // Numbers tried as the only day of a log and as the first and last day of a term: a date or not, by the calendar.
-use profile::Shape;
+use profile::{Calendar, Profile, Shape};
 use trial::answers::{is_refusal, is_unchanged, is_verdict};
 use trial::cells::{Cell, plus};
 use trial::random::seed_of;
@@ -16,19 +16,20 @@ fn any_log() -> Shape {
 }
 
 // The log of letter 0 has as many events as there are days; it gets verdict 1, or is refused by the number.
-pub fn refused_or_not(days: &[u32], terms: &[u32], log: &[u8], number: usize) -> bool {
+pub fn refused_or_not(calendar: &Calendar, log: &[u8], number: usize) -> bool {
     let mut buffer = [u8::GUARD; 16];
     let mut table = [u32::GUARD; 64];
     let masks = [0u16; 1];
     let moves = [1u32; 1];
     let n = log.len();
     let answer = judge_terms_in(
-        any_log(),
-        &masks,
-        &moves,
+        &Profile {
+            shape: any_log(),
+            masks: &masks,
+            moves: &moves,
+        },
         log,
-        days,
-        terms,
+        calendar,
         n,
         40,
         &mut buffer,
@@ -50,8 +51,21 @@ fn try_number(number: u32, right: bool, t: Tally) -> Tally {
     let all = [19000101u32, 21991231];
     let by_day = if right { 0 } else { 14 };
     let by_term = if right { 0 } else { 15 };
-    let agrees = refused_or_not(&day, &all, &log, by_day)
-        & refused_or_not(&no_days, &term, &nothing, by_term);
+    let agrees = refused_or_not(
+        &Calendar {
+            days: &day,
+            terms: &all,
+        },
+        &log,
+        by_day,
+    ) & refused_or_not(
+        &Calendar {
+            days: &no_days,
+            terms: &term,
+        },
+        &nothing,
+        by_term,
+    );
     let counted = tally::count(tally::expect(t, Met::Day, agrees), Met::Days);
     if right {
         tally::count(counted, Met::Dates)

@@ -2,7 +2,7 @@
 use crate::exchanges::{put_event_masks, put_letters, some_fall, some_turn};
 use crate::lent::judge_terms_in;
 use crate::met::Met;
-use profile::Shape;
+use profile::{Calendar, Profile, Shape};
 use trial::answers::{is_refusal, is_unchanged, is_verdict};
 use trial::calls::{BYTES, NUMBERS, judge_in, table_part};
 use trial::cells::{Cell, copy, holds, minus, part_of, plus, untouched, wide};
@@ -211,12 +211,9 @@ fn count_judged(t: Tally, right: bool, expected: Expected) -> Tally {
 
 // Judges a log into an order buffer of `room` bytes and a table of `size` numbers, which are enough.
 fn compare_judge(
-    shape: Shape,
-    masks: &[u16],
-    moves: &[u32],
+    profile: &Profile,
     log: &[u8],
-    days: &[u32],
-    terms: &[u32],
+    calendar: &Calendar,
     event_masks: &[u16],
     expected: Expected,
     extra: usize,
@@ -226,12 +223,9 @@ fn compare_judge(
     let mut numbers = [u32::GUARD; 1416];
     let size = plus(record_at(expected.prefixes), extra % 21);
     let answer = judge_terms_in(
-        shape,
-        masks,
-        moves,
+        profile,
         log,
-        days,
-        terms,
+        calendar,
         plus(log.len(), extra % 4),
         size,
         &mut buffer,
@@ -239,18 +233,22 @@ fn compare_judge(
     );
     let right = is_verdict(answer, expected.verdict, expected.prefixes, expected.looks)
         & order_right(&buffer, expected, log.len())
-        & table_right(shape, event_masks, moves, log, &numbers, expected.prefixes);
+        & table_right(
+            profile.shape,
+            event_masks,
+            profile.moves,
+            log,
+            &numbers,
+            expected.prefixes,
+        );
     count_judged(t, right, expected)
 }
 
 // Judges a log with buffers of which one is too short: refused by the number, which is 9 or 10.
 fn refuse(
-    shape: Shape,
-    masks: &[u16],
-    moves: &[u32],
+    profile: &Profile,
     log: &[u8],
-    days: &[u32],
-    terms: &[u32],
+    calendar: &Calendar,
     number: usize,
     room: usize,
     size: usize,
@@ -259,12 +257,9 @@ fn refuse(
     let mut buffer = [u8::GUARD; 32];
     let mut numbers = [u32::GUARD; 1416];
     let answer = judge_terms_in(
-        shape,
-        masks,
-        moves,
+        profile,
         log,
-        days,
-        terms,
+        calendar,
         room,
         size,
         &mut buffer,
@@ -281,43 +276,37 @@ fn refuse(
 
 // An order buffer that is one byte short, also where the table is too short; a table that is short by up to eleven numbers.
 fn compare_short(
-    shape: Shape,
-    masks: &[u16],
-    moves: &[u32],
+    profile: &Profile,
     log: &[u8],
-    days: &[u32],
-    terms: &[u32],
+    calendar: &Calendar,
     prefixes: usize,
     extra: usize,
     t: Tally,
 ) -> Tally {
     let n = log.len();
     let short = minus(record_at(prefixes), plus(extra % 11, 1));
-    let full = refuse(shape, masks, moves, log, days, terms, 10, n, short, t);
+    let full = refuse(profile, log, calendar, 10, n, short, t);
     if n == 0 {
         return full;
     }
     let size = if extra % 2 == 0 { short } else { 1300 };
-    refuse(shape, masks, moves, log, days, terms, 9, n - 1, size, full)
+    refuse(profile, log, calendar, 9, n - 1, size, full)
 }
 
 // Counts what the log is: what the judge without terms says of it is compared in `trial_logs`.
 fn count_kind(
-    shape: Shape,
-    masks: &[u16],
-    moves: &[u32],
+    profile: &Profile,
     log: &[u8],
-    days: &[u32],
-    terms: &[u32],
+    calendar: &Calendar,
     expected: Expected,
     t: Tally,
 ) -> Tally {
     let mut buffer = [u8::GUARD; 32];
     let mut numbers = [u32::GUARD; 1416];
-    let plain = judge_in(shape, masks, moves, log, 8, 1400, &mut buffer, &mut numbers);
-    let way = tally::count_if(t, Met::OneWay, one_way(masks));
-    let turns = tally::count_if(way, Met::Turns, some_turn(days, terms));
-    let falls = tally::count_if(turns, Met::Falls, some_fall(days));
+    let plain = judge_in(profile, log, 8, 1400, &mut buffer, &mut numbers);
+    let way = tally::count_if(t, Met::OneWay, one_way(profile.masks));
+    let turns = tally::count_if(way, Met::Turns, some_turn(calendar));
+    let falls = tally::count_if(turns, Met::Falls, some_fall(calendar.days));
     let Some(Ok(told)) = plain else {
         return tally::count(falls, Met::Judge);
     };
@@ -327,55 +316,29 @@ fn count_kind(
         Met::OtherVerdict,
         told.verdict != Some(expected.verdict),
     );
-    tally::count_if(other, Met::Twelve, terms.len() == 24)
+    tally::count_if(other, Met::Twelve, calendar.terms.len() == 24)
 }
 
 // Compares the judge with terms on one log; `extra` varies how much longer or shorter than needed the lent buffers are.
 pub fn compare_dated(
-    shape: Shape,
-    masks: &[u16],
-    moves: &[u32],
+    profile: &Profile,
     log: &[u8],
-    days: &[u32],
-    terms: &[u32],
+    calendar: &Calendar,
     extra: usize,
     t: Tally,
 ) -> Tally {
     let mut masks_of_events = [0u16; 8];
-    put_event_masks(masks, log, days, terms, &mut masks_of_events);
+    put_event_masks(profile.masks, log, calendar, &mut masks_of_events);
     let event_masks = part_of(&masks_of_events, 0, log.len());
-    let expected = expect_log(shape, event_masks, moves, log);
-    let judged = compare_judge(
-        shape,
-        masks,
-        moves,
-        log,
-        days,
-        terms,
-        event_masks,
-        expected,
-        extra,
-        t,
-    );
-    let short = compare_short(
-        shape,
-        masks,
-        moves,
-        log,
-        days,
-        terms,
-        expected.prefixes,
-        extra,
-        judged,
-    );
-    count_kind(shape, masks, moves, log, days, terms, expected, short)
+    let expected = expect_log(profile.shape, event_masks, profile.moves, log);
+    let judged = compare_judge(profile, log, calendar, event_masks, expected, extra, t);
+    let short = compare_short(profile, log, calendar, expected.prefixes, extra, judged);
+    count_kind(profile, log, calendar, expected, short)
 }
 
 // One term that has every day there is: the judge without terms gives the same answer, order and table, byte by byte, with a table of `size` numbers.
 pub fn compare_one_term(
-    shape: Shape,
-    masks: &[u16],
-    moves: &[u32],
+    profile: &Profile,
     log: &[u8],
     days: &[u32],
     size: usize,
@@ -387,27 +350,15 @@ pub fn compare_one_term(
     let mut plain_numbers = [u32::GUARD; 1416];
     let all = [19000101u32, 21991231];
     let with = judge_terms_in(
-        shape,
-        masks,
-        moves,
+        profile,
         log,
-        days,
-        &all,
+        &Calendar { days, terms: &all },
         8,
         size,
         &mut buffer,
         &mut numbers,
     );
-    let plain = judge_in(
-        shape,
-        masks,
-        moves,
-        log,
-        8,
-        size,
-        &mut plain_buffer,
-        &mut plain_numbers,
-    );
+    let plain = judge_in(profile, log, 8, size, &mut plain_buffer, &mut plain_numbers);
     let right = with.is_some()
         & (with == plain)
         & (buffer == plain_buffer)

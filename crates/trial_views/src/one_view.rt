@@ -1,7 +1,7 @@
 // A view against the lists: the verdict, the earliest visible part, P, looks, every record, what stays, and that nothing else of the log is told.
 use crate::lent::view_in;
 use crate::lists::{View, class_of, earliest_shown, leading, led, put_visible};
-use profile::Shape;
+use profile::Profile;
 use trial::answers::{Answer, is_refusal, is_verdict, verdict_of};
 use trial::calls::{BYTES, NUMBERS, judge_in, table_part};
 use trial::cells::{Cell, holds, part_of, plus, untouched, value_at, wide};
@@ -145,19 +145,10 @@ fn answer_right(
 }
 
 // The visible part with some order is rarely that of a log which the judge accepts: the judge's answer for the visible part itself.
-fn judged(shape: Shape, masks: &[u16], moves: &[u32], seen: &[u8]) -> Option<bool> {
+fn judged(profile: &Profile, seen: &[u8]) -> Option<bool> {
     let mut buffer = [u8::GUARD; 32];
     let mut numbers = [u32::GUARD; 1416];
-    let answer = judge_in(
-        shape,
-        masks,
-        moves,
-        seen,
-        8,
-        1400,
-        &mut buffer,
-        &mut numbers,
-    );
+    let answer = judge_in(profile, seen, 8, 1400, &mut buffer, &mut numbers);
     verdict_of(answer)
 }
 
@@ -189,7 +180,14 @@ fn compare_answer(
         table_right(view, masks, moves, seen, numbers, prefixes),
     );
     let counted = tally::count_many(filled, Counted::Records, prefixes);
-    let other = judged(view.shape, masks, moves, seen) != Some(best.found);
+    let other = judged(
+        &Profile {
+            shape: view.shape,
+            masks,
+            moves,
+        },
+        seen,
+    ) != Some(best.found);
     tally::count_if(
         tally::count_if(counted, Counted::Accepted, best.found),
         Counted::NotSoJudged,
@@ -295,40 +293,23 @@ pub fn compare_secret(
 }
 
 // With all letters visible: the judge's answer, order and table.
-pub fn compare_judge(
-    shape: Shape,
-    masks: &[u16],
-    moves: &[u32],
-    log: &[u8],
-    visible: u32,
-    room: usize,
-    t: Tally,
-) -> Tally {
+pub fn compare_judge(profile: &Profile, log: &[u8], visible: u32, room: usize, t: Tally) -> Tally {
     let mut first = [u8::GUARD; 32];
     let mut second = [u8::GUARD; 32];
     let mut numbers = [u32::GUARD; 1416];
     let mut others = [u32::GUARD; 1416];
     let one = view_in(
-        shape,
+        profile.shape,
         visible,
-        masks,
-        moves,
+        profile.masks,
+        profile.moves,
         log,
         room,
         1400,
         &mut first,
         &mut numbers,
     );
-    let two = judge_in(
-        shape,
-        masks,
-        moves,
-        log,
-        room,
-        1400,
-        &mut second,
-        &mut others,
-    );
+    let two = judge_in(profile, log, room, 1400, &mut second, &mut others);
     let right = one.is_some() & (one == two) & (first == second) & (numbers == others);
     tally::count(tally::expect(t, Counted::Judge, right), Counted::Judges)
 }

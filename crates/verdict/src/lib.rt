@@ -3,7 +3,7 @@
 
 ghost use Rattle.std.specs.Prelude.{◌≡◌, [], ◌∷◌, ◌++◌, true, ◌≤◌, length};
 ghost use Rattle.std.proofs.Math.Option.{some};
-ghost use Rattle.profile.specs.Automata.{profile_of};
+ghost use Rattle.profile.specs.Automata.{lent};
 ghost use Rattle.profile.specs.Rules.{order_by};
 ghost use Rattle.terms.specs.Coded.{rules_of};
 ghost use Rattle.profile.specs.Refusals.{log_refusals, lowest, profile_refusals};
@@ -11,7 +11,7 @@ ghost use Rattle.profile.specs.declared.Refusal.TheVariants.{ShortBuffer};
 ghost use Rattle.earliest.specs.Earliest.{Table, found?, record_count, with_order};
 ghost use Rattle.verdict.specs.Verdict.{Promise};
 
-use profile::{Refusal, Shape};
+use profile::{Profile, Refusal};
 use table::Filled;
 
 // The answer of the judge where nothing is refused: the verdict, P and looks.
@@ -23,14 +23,14 @@ pub enum Judged {
 
 // The lowest refusal of a call whose order buffer is too short: one of the profile, one of the log, or 9.
 // Kept: it gives a refusal whatever the checks say, so there is no `Ok` for a `?` to go on with.
-pub fn refusal_of_short(shape: Shape, masks: &[u16], moves: &[u32], log: &[u8]) -> Refusal
+pub fn refusal_of_short(profile: &Profile, log: &[u8]) -> Refusal
     ensures { some result
-        ≡ lowest (profile_refusals (profile_of shape masks.now moves.now) ++ (log_refusals shape.k log.now ++ ((true, ShortBuffer) ∷ []))) }
+        ≡ lowest (profile_refusals (lent profile.now) ++ (log_refusals profile.now.shape.k log.now ++ ((true, ShortBuffer) ∷ []))) }
 {
-    if let Err(r) = checks::check_profile(shape, masks, moves) {
+    if let Err(r) = checks::check_profile(profile) {
         return r;
     }
-    if let Err(r) = logcheck::check_log(shape.k, log) {
+    if let Err(r) = logcheck::check_log(profile.shape.k, log) {
         return r;
     }
     Refusal::ShortBuffer
@@ -40,42 +40,38 @@ pub fn refusal_of_short(shape: Shape, masks: &[u16], moves: &[u32], log: &[u8]) 
 pub fn put_verdict(
     table: &[u32],
     records: usize,
-    shape: Shape,
-    masks: &[u16],
-    moves: &[u32],
+    profile: &Profile,
     log: &[u8],
     order: &mut [u8],
     termed: bool,
 ) -> bool
-    requires table { Table (rules_of (profile_of shape masks.now moves.now) termed) log.now table.now }
-    requires records_value { records ≡ record_count (rules_of (profile_of shape masks.now moves.now) termed) log.now }
+    requires table { Table (rules_of (lent profile.now) termed) log.now table.now }
+    requires records_value { records ≡ record_count (rules_of (lent profile.now) termed) log.now }
     requires log_in_bounds { length log.now ≤ length order.old }
-    ensures value { result ≡ found? (order_by (rules_of (profile_of shape masks.now moves.now) termed) log.now) }
-    ensures order_after { order.new ≡ with_order (order_by (rules_of (profile_of shape masks.now moves.now) termed) log.now) order.old }
+    ensures value { result ≡ found? (order_by (rules_of (lent profile.now) termed) log.now) }
+    ensures order_after { order.new ≡ with_order (order_by (rules_of (lent profile.now) termed) log.now) order.old }
 {
-    if !earliest::has_order(table, shape, masks, moves, log, termed) {
+    if !earliest::has_order(table, profile, log, termed) {
         return false;
     }
-    earliest::put_order(table, records, shape, masks, moves, log, order, termed);
+    earliest::put_order(table, records, profile, log, order, termed);
     true
 }
 
 // The verdict of a log, with its order, P and looks; refused by 2, 4 and 6 to 10.
 pub fn judge(
-    shape: Shape,
-    masks: &[u16],
-    moves: &[u32],
+    profile: &Profile,
     log: &[u8],
     order: &mut [u8],
     work: &mut [u32],
 ) -> Result<Judged, Refusal>
-    ensures { Promise (profile_of shape masks.now moves.now) log.now order.old order.new work.old work.new result }
+    ensures { Promise (lent profile.now) log.now order.old order.new work.old work.new result }
 {
     if order.len() < log.len() {
-        return Err(refusal_of_short(shape, masks, moves, log));
+        return Err(refusal_of_short(profile, log));
     }
-    let Filled { prefixes, looks } = table::build(shape, masks, moves, log, work)?;
-    if put_verdict(work, prefixes, shape, masks, moves, log, order, false) {
+    let Filled { prefixes, looks } = table::build(profile, log, work)?;
+    if put_verdict(work, prefixes, profile, log, order, false) {
         Ok(Judged::Order { prefixes, looks })
     } else {
         Ok(Judged::NoOrder { prefixes, looks })

@@ -9,7 +9,7 @@ ghost use Rattle.profile.specs.declared.Refusal.TheVariants.{ViewBit};
 ghost use Rattle.theory.proofs.Refusals.{GoodLog};
 ghost use Rattle.views.specs.Views.{entry_refusals, seen};
 
-use profile::{Refusal, Shape};
+use profile::{Profile, Refusal, Shape};
 
 // 20: the mask has a bit from k on.
 fn check_mask(k: usize, visible: u32) -> Result<(), Refusal>
@@ -33,7 +33,11 @@ pub fn check_entry(
     ensures { refused_by result ≡ lowest (entry_refusals (profile_of shape masks.now moves.now) visible log.now) }
 {
     let k = shape.k;
-    checks::check_profile(shape, masks, moves)?;
+    checks::check_profile(&Profile {
+        shape,
+        masks,
+        moves,
+    })?;
     check_mask(k, visible)?;
     logcheck::check_log(k, log)
 }

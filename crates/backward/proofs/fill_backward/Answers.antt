@@ -3,7 +3,7 @@ use lib.ListN.{get_or-replicate}
 use Rattle.profile.specs.Limits.{most_letters}
 use Rattle.profile.specs.Rules.{Rules}
 use Rattle.terms.specs.Coded.{rules_of}
-use Rattle.profile.specs.Automata.{profile_of}
+use Rattle.profile.specs.Automata.{lent}
 use Rattle.profile.specs.Tables.{layout, record_length}
 use Rattle.theory.proofs.Refusals.{GoodEvents}
 use Rattle.records.specs.Drafts.{in_order}
@@ -63,7 +63,7 @@ loop-j-preserved c =
     let a = s.args in
     let l = c.loop-j in
     let b = c.back_of-back in
-    let p : Rules = rules_of (profile_of a.shape a.masks.now a.moves.now) a.termed in
+    let p : Rules = rules_of (lent a.profile.now) a.termed in
     let w : List ℕ = a.log.now in
     let from : ℕ → ℕ = λ x. get_or l.cursors x 0 in
     let after : ℕ → ℕ = λ x. get_or b.new.cursors x 0 in
@@ -90,7 +90,7 @@ returns c =
     let s = c in
     let a = s.args in
     let l = c.loop-j in
-    let p : Rules = rules_of (profile_of a.shape a.masks.now a.moves.now) a.termed in
+    let p : Rules = rules_of (lent a.profile.now) a.termed in
     let w : List ℕ = a.log.now in
     let z : l.j ≡ 0 = omega arith in
     let from : ℕ → ℕ = λ x. get_or l.cursors x 0 in

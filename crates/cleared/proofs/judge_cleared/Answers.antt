@@ -3,7 +3,7 @@ use mathlib.Core.Path.{◌≡◌, sym, ◌∙◌}
 use Prim.Native.Nat.{ℕ, ◌-◌}
 use lib.ListN.{length}
 use native.Mathlib.Omega.{arith}
-use Rattle.profile.specs.Automata.{profile_of}
+use Rattle.profile.specs.Automata.{lent}
 use Rattle.cleared.specs.Cleared.{usable}
 use Rattle.cleared.proofs.Cleared.{told_err, told_ok}
 use Rattle.cleared.proofs.judge_cleared.Goals as goal
@@ -11,7 +11,7 @@ use Rattle.cleared.proofs.judge_cleared.Goals as goal
 pub returns-then-is_err : goal.returns-then-is_err
 returns-then-is_err c =
     let a = c.args in
-    let p = profile_of a.shape a.masks.now a.moves.now in
+    let p = lent a.profile.now in
     let j = c.judge-told in
     let z : ℕ = c.usable-room.result - 0 in
     let e : z ≡ usable (length a.work.now) = omega (arith, c.usable-room.ensures.0) in
@@ -22,7 +22,7 @@ returns-then-is_err c =
 pub returns-else-is_err : goal.returns-else-is_err
 returns-else-is_err c =
     let a = c.args in
-    let p = profile_of a.shape a.masks.now a.moves.now in
+    let p = lent a.profile.now in
     let j = c.judge-told in
     let z : ℕ = c.usable-room.result - 0 in
     let e : z ≡ usable (length a.work.now) = omega (arith, c.usable-room.ensures.0) in

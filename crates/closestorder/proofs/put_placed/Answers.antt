@@ -12,27 +12,27 @@ use Rattle.closestorder.proofs.put_placed.Goals as goal
 pub fill_there-requires : goal.fill_there-requires
 fill_there-requires c =
     let a = c.args in
-    record { masks = a.masks.now; may = may_of a.masks.now a.termed; letter = event_letter a.termed; events = a.codes.now; lent = lent c.requires.held c.requires.placed; room = c.requires.log_in_bounds.1 }
+    record { masks = a.profile.now.masks.now; may = may_of a.profile.now.masks.now a.termed; letter = event_letter a.termed; events = a.codes.now; lent = lent c.requires.held c.requires.placed; room = c.requires.log_in_bounds.1 }
 
 pub overflow_mul-all : goal.overflow_mul-all
-overflow_mul-all c = let e = ap (λ n. n * c.args.shape.s) c.records_in.ensures in let room = c.requires.log_in_bounds.1 in search rules
+overflow_mul-all c = let e = ap (λ n. n * c.args.profile.now.shape.s) c.records_in.ensures in let room = c.requires.log_in_bounds.1 in search rules
 
 pub overflow_sub-all : goal.overflow_sub-all
 overflow_sub-all c =
-    let e = ap (λ n. n * c.args.shape.s) c.records_in.ensures in
-    let one = row_room 0 c.records_in.result c.args.shape.s (c.records_in.result * c.args.shape.s) (omega (arith, c.records_in.ensures, some_record (lent c.requires.held c.requires.placed))) (omega arith) in
+    let e = ap (λ n. n * c.args.profile.now.shape.s) c.records_in.ensures in
+    let one = row_room 0 c.records_in.result c.args.profile.now.shape.s (c.records_in.result * c.args.profile.now.shape.s) (omega (arith, c.records_in.ensures, some_record (lent c.requires.held c.requires.placed))) (omega arith) in
     search rules
 
 pub least_in-fewest-requires : goal.least_in-fewest-requires
 least_in-fewest-requires c =
     let h = c.requires.held in
-    let e = ap (λ n. n * c.args.shape.s) c.records_in.ensures in
-    let one = row_room 0 c.records_in.result c.args.shape.s (c.records_in.result * c.args.shape.s) (omega (arith, c.records_in.ensures, some_record (lent h c.requires.placed))) (omega arith) in
+    let e = ap (λ n. n * c.args.profile.now.shape.s) c.records_in.ensures in
+    let one = row_room 0 c.records_in.result c.args.profile.now.shape.s (c.records_in.result * c.args.profile.now.shape.s) (omega (arith, c.records_in.ensures, some_record (lent h c.requires.placed))) (omega arith) in
     (h.profile.states.1, omega (arith, e, one, c.requires.log_in_bounds.1, c.fill_there.auto.costs), h.profile.finals_inside)
 
 pub pairs-requires : goal.pairs-requires
 pairs-requires c =
-    let e = ap (λ n. n * c.args.shape.s) c.records_in.ensures in
+    let e = ap (λ n. n * c.args.profile.now.shape.s) c.records_in.ensures in
     omega (arith, e, c.requires.log_in_bounds.1, c.fill_there.auto.costs)
 
 pub floor-floor-requires : goal.floor-floor-requires
@@ -41,9 +41,9 @@ floor-floor-requires c =
     let h = c.requires.held in
     let f = c.fill_there in
     let g = lent h c.requires.placed in
-    let r = rows_of g c.requires.log_in_bounds.1 (f.ensures a.masks.now (may_of a.masks.now a.termed) (event_letter a.termed) a.codes.now g) in
-    let e = ap (λ n. n * a.shape.s) c.records_in.ensures in
-    let few = fewest_is h c.requires.codes_value c.requires.placed r c.least_in-fewest.result _ (ap (λ n. n - a.shape.s) e) c.least_in-fewest.ensures in
+    let r = rows_of g c.requires.log_in_bounds.1 (f.ensures a.profile.now.masks.now (may_of a.profile.now.masks.now a.termed) (event_letter a.termed) a.codes.now g) in
+    let e = ap (λ n. n * a.profile.now.shape.s) c.records_in.ensures in
+    let few = fewest_is h c.requires.codes_value c.requires.placed r c.least_in-fewest.result _ (ap (λ n. n - a.profile.now.shape.s) e) c.least_in-fewest.ensures in
     (omega (arith, e, c.requires.log_in_bounds.1, f.auto.costs), omega (arith, fewest_below h c.requires.placed few))
 
 pub put_judges-swaps-requires : goal.put_judges-swaps-requires
@@ -60,9 +60,9 @@ returns-then-budget-pairs c =
     let h = c.requires.held in
     let f = c.fill_there in
     let g = lent h c.requires.placed in
-    let r = rows_of g c.requires.log_in_bounds.1 (f.ensures a.masks.now (may_of a.masks.now a.termed) (event_letter a.termed) a.codes.now g) in
-    let e = ap (λ n. n * a.shape.s) c.records_in.ensures in
-    let few = fewest_is h c.requires.codes_value c.requires.placed r c.least_in-fewest.result _ (ap (λ n. n - a.shape.s) e) c.least_in-fewest.ensures in
+    let r = rows_of g c.requires.log_in_bounds.1 (f.ensures a.profile.now.masks.now (may_of a.profile.now.masks.now a.termed) (event_letter a.termed) a.codes.now g) in
+    let e = ap (λ n. n * a.profile.now.shape.s) c.records_in.ensures in
+    let few = fewest_is h c.requires.codes_value c.requires.placed r c.least_in-fewest.result _ (ap (λ n. n - a.profile.now.shape.s) e) c.least_in-fewest.ensures in
     let o = c.put_judges-swaps in
     close_judges h c.requires.codes_value c.requires.placed r a.budget _ c.least_in-fewest.result e few a.order.now o.new.order c.floor-floor.result o.result
     (subst (λ n. a.budget < n) c.pairs.ensures c.if-budget-pairs.true) c.floor-floor.ensures o.ensures.value o.ensures.order_after
@@ -73,11 +73,11 @@ put_best-requires c =
     let h = c.requires.held in
     let f = c.fill_there in
     let g = lent h c.requires.placed in
-    let r = rows_of g c.requires.log_in_bounds.1 (f.ensures a.masks.now (may_of a.masks.now a.termed) (event_letter a.termed) a.codes.now g) in
-    let e = ap (λ n. n * a.shape.s) c.records_in.ensures in
-    let few = fewest_is h c.requires.codes_value c.requires.placed r c.least_in-fewest.result _ (ap (λ n. n - a.shape.s) e) c.least_in-fewest.ensures in
+    let r = rows_of g c.requires.log_in_bounds.1 (f.ensures a.profile.now.masks.now (may_of a.profile.now.masks.now a.termed) (event_letter a.termed) a.codes.now g) in
+    let e = ap (λ n. n * a.profile.now.shape.s) c.records_in.ensures in
+    let few = fewest_is h c.requires.codes_value c.requires.placed r c.least_in-fewest.result _ (ap (λ n. n - a.profile.now.shape.s) e) c.least_in-fewest.ensures in
     record {
-      best = record { masks = a.masks.now; may = may_of a.masks.now a.termed; letter = event_letter a.termed; events = a.codes.now; lent = g; fewest = few; room = omega (arith, c.requires.log_in_bounds.1, f.auto.costs) };
+      best = record { masks = a.profile.now.masks.now; may = may_of a.profile.now.masks.now a.termed; letter = event_letter a.termed; events = a.codes.now; lent = g; fewest = few; room = omega (arith, c.requires.log_in_bounds.1, f.auto.costs) };
       log_in_bounds = c.requires.log_in_bounds.0;
     }
 
@@ -87,8 +87,8 @@ returns c =
     let h = c.requires.held in
     let f = c.fill_there in
     let g = lent h c.requires.placed in
-    let r = rows_of g c.requires.log_in_bounds.1 (f.ensures a.masks.now (may_of a.masks.now a.termed) (event_letter a.termed) a.codes.now g) in
-    let e = ap (λ n. n * a.shape.s) c.records_in.ensures in
-    let few = fewest_is h c.requires.codes_value c.requires.placed r c.least_in-fewest.result _ (ap (λ n. n - a.shape.s) e) c.least_in-fewest.ensures in
+    let r = rows_of g c.requires.log_in_bounds.1 (f.ensures a.profile.now.masks.now (may_of a.profile.now.masks.now a.termed) (event_letter a.termed) a.codes.now g) in
+    let e = ap (λ n. n * a.profile.now.shape.s) c.records_in.ensures in
+    let few = fewest_is h c.requires.codes_value c.requires.placed r c.least_in-fewest.result _ (ap (λ n. n - a.profile.now.shape.s) e) c.least_in-fewest.ensures in
     close_best h c.requires.codes_value c.requires.placed r a.budget _ c.least_in-fewest.result e few a.order.now c.put_best.new.order
-    (subst (λ n. n ≤ a.budget) c.pairs.ensures c.if-budget-pairs.false) (c.put_best.ensures a.masks.now (may_of a.masks.now a.termed) (event_letter a.termed) a.codes.now g few)
+    (subst (λ n. n ≤ a.budget) c.pairs.ensures c.if-budget-pairs.false) (c.put_best.ensures a.profile.now.masks.now (may_of a.profile.now.masks.now a.termed) (event_letter a.termed) a.codes.now g few)

@@ -16,44 +16,44 @@ pub overflow_sub-last : goal.overflow_sub-last
 overflow_sub-last c =
     let b = c in
     let a = b.args in
-    omega (arith, (given_laid a.shape a.moves.now a.t.now a.log.now a.starts.now a.places.now a.costs.now b.requires).some, c.records_in-records.ensures)
+    omega (arith, (given_laid a.profile.now.shape a.profile.now.moves.now a.t.now a.log.now a.placed.now.starts.now a.placed.now.places.now a.costs.now b.requires).some, c.records_in-records.ensures)
 
 pub counts_at-requires : goal.counts_at-requires
 counts_at-requires c =
     let b = c in
     let a = b.args in
-    omega (arith, (given_laid a.shape a.moves.now a.t.now a.log.now a.starts.now a.places.now a.costs.now b.requires).some, c.records_in-records.ensures)
+    omega (arith, (given_laid a.profile.now.shape a.profile.now.moves.now a.t.now a.log.now a.placed.now.starts.now a.placed.now.places.now a.costs.now b.requires).some, c.records_in-records.ensures)
 
 pub clear-requires : goal.clear-requires
 clear-requires c =
     let b = c in
     let a = b.args in
     let n = c.records_in-records.ensures in
-    let lt : c.records_in-records.result - 1 < records_in a.t.now = omega (arith, n, (given_laid a.shape a.moves.now a.t.now a.log.now a.starts.now a.places.now a.costs.now b.requires).some) in
-    omega (arith, row_fits a.shape a.moves.now a.t.now a.log.now a.starts.now a.places.now a.costs.now b.requires (c.records_in-records.result - 1) lt, c.row_of-end.ensures)
+    let lt : c.records_in-records.result - 1 < records_in a.t.now = omega (arith, n, (given_laid a.profile.now.shape a.profile.now.moves.now a.t.now a.log.now a.placed.now.starts.now a.placed.now.places.now a.costs.now b.requires).some) in
+    omega (arith, row_fits a.profile.now.shape a.profile.now.moves.now a.t.now a.log.now a.placed.now.starts.now a.placed.now.places.now a.costs.now b.requires (c.records_in-records.result - 1) lt, c.row_of-end.ensures)
 
 pub lower_all-requires : goal.lower_all-requires
 lower_all-requires c =
     let b = c in
     let a = b.args in
     let n = c.records_in-records.ensures in
-    let lt : c.records_in-records.result - 1 < records_in a.t.now = omega (arith, n, (given_laid a.shape a.moves.now a.t.now a.log.now a.starts.now a.places.now a.costs.now b.requires).some) in
-    (b.requires.lent.profile.states.1, omega (arith, row_fits a.shape a.moves.now a.t.now a.log.now a.starts.now a.places.now a.costs.now b.requires (c.records_in-records.result - 1) lt, c.row_of-end.ensures, c.clear.auto.costs), b.requires.lent.profile.finals_inside)
+    let lt : c.records_in-records.result - 1 < records_in a.t.now = omega (arith, n, (given_laid a.profile.now.shape a.profile.now.moves.now a.t.now a.log.now a.placed.now.starts.now a.placed.now.places.now a.costs.now b.requires).some) in
+    (b.requires.lent.profile.states.1, omega (arith, row_fits a.profile.now.shape a.profile.now.moves.now a.t.now a.log.now a.placed.now.starts.now a.placed.now.places.now a.costs.now b.requires (c.records_in-records.result - 1) lt, c.row_of-end.ensures, c.clear.auto.costs), b.requires.lent.profile.finals_inside)
 
 pub loop-j-init : goal.loop-j-init
 loop-j-init c =
     let b = c in
     let a = b.args in
     let n = c.records_in-records.ensures in
-    let lt : c.records_in-records.result - 1 < records_in a.t.now = omega (arith, n, (given_laid a.shape a.moves.now a.t.now a.log.now a.starts.now a.places.now a.costs.now b.requires).some) in
+    let lt : c.records_in-records.result - 1 < records_in a.t.now = omega (arith, n, (given_laid a.profile.now.shape a.profile.now.moves.now a.t.now a.log.now a.placed.now.starts.now a.placed.now.places.now a.costs.now b.requires).some) in
     let down : c.records_in-records.result - 1 ≡ records_in a.t.now - 1 = ap (λ m. m - 1) n in (
       lt,
       c.numbers-whole.ensures ∙ c.counts_at.ensures ∙ ap (counts_at a.t.now) down,
       refl,
-      (λ i e. high_start a.t.now i a.shape.k (replicate most_letters c.records_in-records.result)
+      (λ i e. high_start a.t.now i a.profile.now.shape.k (replicate most_letters c.records_in-records.result)
           (λ x xk. get_or-replicate most_letters x c.records_in-records.result 0 (omega (arith, b.requires.lent.records.letters, xk)) ∙ n)),
       refl,
-      λ before o. subst (λ m. Backward a.shape a.moves.now a.log.now a.t.now before c.lower_all.new.costs m a.shape.k) (sym down) o,
+      λ before o. subst (λ m. Backward a.profile.now.shape a.profile.now.moves.now a.log.now a.t.now before c.lower_all.new.costs m a.profile.now.shape.k) (sym down) o,
     )
 
 pub loop-j-preserved : goal.loop-j-preserved
@@ -66,10 +66,10 @@ loop-j-preserved c =
       omega (arith, l.invariant.0),
       l.invariant.1,
       f.auto.cursors ∙ l.invariant.2,
-      (λ i e. high_record a.shape a.moves.now a.t.now a.log.now a.starts.now a.places.now a.costs.now b.requires i (omega (arith, e, l.invariant.0)) f.new.cursors
-          (subst (λ m. HighAll a.t.now m a.shape.k f.new.cursors) (sym e) f.ensures.high_all)),
+      (λ i e. high_record a.profile.now.shape a.profile.now.moves.now a.t.now a.log.now a.placed.now.starts.now a.placed.now.places.now a.costs.now b.requires i (omega (arith, e, l.invariant.0)) f.new.cursors
+          (subst (λ m. HighAll a.t.now m a.profile.now.shape.k f.new.cursors) (sym e) f.ensures.high_all)),
       f.auto.costs ∙ l.invariant.4,
-      λ before o. f.ensures.by_index before (subst (λ m. Backward a.shape a.moves.now a.log.now a.t.now before l.costs m a.shape.k) (sym up) (l.invariant.5 before o)),
+      λ before o. f.ensures.by_index before (subst (λ m. Backward a.profile.now.shape a.profile.now.moves.now a.log.now a.t.now before l.costs m a.profile.now.shape.k) (sym up) (l.invariant.5 before o)),
     )
 
 pub shape_of-costs : goal.shape_of-costs
@@ -81,27 +81,27 @@ returns c =
     let b = c in
     let a = b.args in
     let n = c.records_in-records.ensures in
-    let lt : c.records_in-records.result - 1 < records_in a.t.now = omega (arith, n, (given_laid a.shape a.moves.now a.t.now a.log.now a.starts.now a.places.now a.costs.now b.requires).some) in
+    let lt : c.records_in-records.result - 1 < records_in a.t.now = omega (arith, n, (given_laid a.profile.now.shape a.profile.now.moves.now a.t.now a.log.now a.placed.now.starts.now a.placed.now.places.now a.costs.now b.requires).some) in
     let l = c.loop-j in
     let u = c.clear.new.costs in
     let v = c.lower_all.new.costs in
     let down : c.records_in-records.result - 1 ≡ records_in a.t.now - 1 = ap (λ m. m - 1) n in
-    let row = c.row_of-end.ensures ∙ ap (λ m. m * a.shape.s) down in
-    let begun = backward_start a.shape a.moves.now a.log.now a.t.now (given_laid a.shape a.moves.now a.t.now a.log.now a.starts.now a.places.now a.costs.now b.requires) a.costs.now u v (records_in a.t.now - 1) a.shape.k
-    (omega (arith, (given_laid a.shape a.moves.now a.t.now a.log.now a.starts.now a.places.now a.costs.now b.requires).some)) (subst (λ m. Cleared a.costs.now u m a.shape.s) row c.clear.ensures)
-    (subst (λ m. Lowered u v m a.shape.finals 0) row c.lower_all.ensures) in
+    let row = c.row_of-end.ensures ∙ ap (λ m. m * a.profile.now.shape.s) down in
+    let begun = backward_start a.profile.now.shape a.profile.now.moves.now a.log.now a.t.now (given_laid a.profile.now.shape a.profile.now.moves.now a.t.now a.log.now a.placed.now.starts.now a.placed.now.places.now a.costs.now b.requires) a.costs.now u v (records_in a.t.now - 1) a.profile.now.shape.k
+    (omega (arith, (given_laid a.profile.now.shape a.profile.now.moves.now a.t.now a.log.now a.placed.now.starts.now a.placed.now.places.now a.costs.now b.requires).some)) (subst (λ m. Cleared a.costs.now u m a.profile.now.shape.s) row c.clear.ensures)
+    (subst (λ m. Lowered u v m a.profile.now.shape.finals 0) row c.lower_all.ensures) in
     let none : l.j ≡ 0 = omega arith in
-    λ masks may letter w g. backward_fills a.shape masks a.moves.now may letter w a.t.now a.log.now a.starts.now a.places.now g
-    a.costs.now l.costs a.shape.k (omega arith)
-    (subst (λ m. Backward a.shape a.moves.now a.log.now a.t.now a.costs.now l.costs m a.shape.k) none (l.invariant.5 a.costs.now begun))
+    λ masks may letter w g. backward_fills a.profile.now.shape masks a.profile.now.moves.now may letter w a.t.now a.log.now a.placed.now.starts.now a.placed.now.places.now g
+    a.costs.now l.costs a.profile.now.shape.k (omega arith)
+    (subst (λ m. Backward a.profile.now.shape a.profile.now.moves.now a.log.now a.t.now a.costs.now l.costs m a.profile.now.shape.k) none (l.invariant.5 a.costs.now begun))
 
 pub row_of-end-requires : goal.row_of-end-requires
 row_of-end-requires c =
     let b = c in
     let a = b.args in
     let n = c.records_in-records.ensures in
-    let lt : c.records_in-records.result - 1 < records_in a.t.now = omega (arith, n, (given_laid a.shape a.moves.now a.t.now a.log.now a.starts.now a.places.now a.costs.now b.requires).some) in
-    omega (arith, row_fits a.shape a.moves.now a.t.now a.log.now a.starts.now a.places.now a.costs.now b.requires (c.records_in-records.result - 1) lt, b.well_formed)
+    let lt : c.records_in-records.result - 1 < records_in a.t.now = omega (arith, n, (given_laid a.profile.now.shape a.profile.now.moves.now a.t.now a.log.now a.placed.now.starts.now a.placed.now.places.now a.costs.now b.requires).some) in
+    omega (arith, row_fits a.profile.now.shape a.profile.now.moves.now a.t.now a.log.now a.placed.now.starts.now a.placed.now.places.now a.costs.now b.requires (c.records_in-records.result - 1) lt, b.well_formed)
 
 pub to_record-requires : goal.to_record-requires
 to_record-requires c =
@@ -109,7 +109,7 @@ to_record-requires c =
     let a = b.args in
     let l = c.loop-j in
     let up : suc (l.j - 1) ≡ l.j = omega arith in record {
-      given = given_as_long a.shape a.moves.now a.t.now a.log.now a.starts.now a.places.now a.costs.now l.costs (l.invariant.4 ∙ c.lower_all.auto.costs ∙ c.clear.auto.costs) b.requires;
+      given = given_as_long a.profile.now.shape a.profile.now.moves.now a.t.now a.log.now a.placed.now.starts.now a.placed.now.places.now a.costs.now l.costs (l.invariant.4 ∙ c.lower_all.auto.costs ∙ c.clear.auto.costs) b.requires;
       whole_value = l.invariant.1;
       j_bound = (omega (arith, up, l.invariant.0), l.invariant.2, l.invariant.3 (l.j - 1) up);
     }

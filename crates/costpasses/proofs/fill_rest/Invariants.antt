@@ -16,5 +16,5 @@ use Rattle.costpasses.proofs.fill_rest.Given as goal
 abbrev pub invariant-loop-j : goal.invariant-loop-j
 invariant-loop-j l =
     (l.j < records_in l.t) × (l.whole ≡ counts_at l.t (records_in l.t - 1)) × (length l.cursors ≡ most_letters)
-    × ((i : ℕ) → suc i ≡ l.j → HighAll l.t i l.shape.k l.cursors) × (length l.costs ≡ length l.initial.costs)
-    × ((before : List ℕ) → Backward l.shape l.moves l.log l.t before l.initial.costs (records_in l.t - 1) l.shape.k → Backward l.shape l.moves l.log l.t before l.costs l.j l.shape.k)
+    × ((i : ℕ) → suc i ≡ l.j → HighAll l.t i l.profile.shape.k l.cursors) × (length l.costs ≡ length l.initial.costs)
+    × ((before : List ℕ) → Backward l.profile.shape l.profile.moves.now l.log l.t before l.initial.costs (records_in l.t - 1) l.profile.shape.k → Backward l.profile.shape l.profile.moves.now l.log l.t before l.costs l.j l.profile.shape.k)

@@ -17,25 +17,25 @@ pub overflow_sub-records : goal.overflow_sub-records
 overflow_sub-records c =
     let b = c in
     let a = b.args in
-    omega (arith, (given_laid a.shape a.moves.now a.t.now a.log.now a.starts.now a.places.now a.costs.now b.requires).some, c.records_in-records.ensures)
+    omega (arith, (given_laid a.profile.now.shape a.profile.now.moves.now a.t.now a.log.now a.placed.now.starts.now a.placed.now.places.now a.costs.now b.requires).some, c.records_in-records.ensures)
 
 pub counts_at-requires : goal.counts_at-requires
 counts_at-requires c =
     let b = c in
     let a = b.args in
-    omega (arith, (given_laid a.shape a.moves.now a.t.now a.log.now a.starts.now a.places.now a.costs.now b.requires).some, c.records_in-records.ensures)
+    omega (arith, (given_laid a.profile.now.shape a.profile.now.moves.now a.t.now a.log.now a.placed.now.starts.now a.placed.now.places.now a.costs.now b.requires).some, c.records_in-records.ensures)
 
 pub clear-requires : goal.clear-requires
 clear-requires c =
     let b = c in
     let a = b.args in
-    omega (arith, c.row_of-cells.ensures ∙ ap (λ n. n * a.shape.s) c.records_in-records.ensures, b.requires.room)
+    omega (arith, c.row_of-cells.ensures ∙ ap (λ n. n * a.profile.now.shape.s) c.records_in-records.ensures, b.requires.room)
 
 pub lower-requires : goal.lower-requires
 lower-requires c =
     let b = c in
     let a = b.args in
-    omega (arith, row_fits a.shape a.moves.now a.t.now a.log.now a.starts.now a.places.now a.costs.now b.requires 0 (given_laid a.shape a.moves.now a.t.now a.log.now a.starts.now a.places.now a.costs.now b.requires).some, b.requires.lent.profile.starts, c.clear.ensures.as_long)
+    omega (arith, row_fits a.profile.now.shape a.profile.now.moves.now a.t.now a.log.now a.placed.now.starts.now a.placed.now.places.now a.costs.now b.requires 0 (given_laid a.profile.now.shape a.profile.now.moves.now a.t.now a.log.now a.placed.now.starts.now a.placed.now.places.now a.costs.now b.requires).some, b.requires.lent.profile.starts, c.clear.ensures.as_long)
 
 pub loop-j-init : goal.loop-j-init
 loop-j-init c =
@@ -45,7 +45,7 @@ loop-j-init c =
       n,
       c.numbers-whole.ensures ∙ c.counts_at.ensures ∙ ap (λ m. counts_at a.t.now (m - 1)) n,
       refl,
-      (λ lt. low_start a.t.now 0 a.shape.k (replicate most_letters 0) (λ x xk. get_or-replicate most_letters x 0 0 (omega (arith, b.requires.lent.records.letters, xk)))),
+      (λ lt. low_start a.t.now 0 a.profile.now.shape.k (replicate most_letters 0) (λ x xk. get_or-replicate most_letters x 0 0 (omega (arith, b.requires.lent.records.letters, xk)))),
       refl,
       λ before o. o,
     )
@@ -60,10 +60,10 @@ loop-j-preserved c =
       l.invariant.0,
       l.invariant.1,
       f.auto.cursors ∙ l.invariant.2,
-      (λ lt. subst (λ n. LowAll a.t.now n a.shape.k f.new.cursors) (sym one)
-          (low_record a.shape a.moves.now a.t.now a.log.now a.starts.now a.places.now a.costs.now b.requires l.j (subst (λ n. n < records_in a.t.now) one lt) f.new.cursors f.ensures.low_all)),
+      (λ lt. subst (λ n. LowAll a.t.now n a.profile.now.shape.k f.new.cursors) (sym one)
+          (low_record a.profile.now.shape a.profile.now.moves.now a.t.now a.log.now a.placed.now.starts.now a.placed.now.places.now a.costs.now b.requires l.j (subst (λ n. n < records_in a.t.now) one lt) f.new.cursors f.ensures.low_all)),
       f.auto.costs ∙ l.invariant.4,
-      λ before o. subst (λ n. Onward a.shape a.moves.now a.log.now a.t.now before f.new.costs n 0) (sym one)
+      λ before o. subst (λ n. Onward a.profile.now.shape a.profile.now.moves.now a.log.now a.t.now before f.new.costs n 0) (sym one)
           (f.ensures.by_index before (l.invariant.5 before o)),
     )
 
@@ -76,17 +76,17 @@ returns c =
     let b = c in
     let a = b.args in
     let l = c.loop-j in
-    let begun = onward_start a.shape a.moves.now a.log.now a.t.now (given_laid a.shape a.moves.now a.t.now a.log.now a.starts.now a.places.now a.costs.now b.requires) a.costs.now c.clear.new.costs c.lower.new.costs
-    (subst (λ m. Cleared a.costs.now c.clear.new.costs 0 m) (c.row_of-cells.ensures ∙ ap (λ m. m * a.shape.s) c.records_in-records.ensures) c.clear.ensures)
+    let begun = onward_start a.profile.now.shape a.profile.now.moves.now a.log.now a.t.now (given_laid a.profile.now.shape a.profile.now.moves.now a.t.now a.log.now a.placed.now.starts.now a.placed.now.places.now a.costs.now b.requires) a.costs.now c.clear.new.costs c.lower.new.costs
+    (subst (λ m. Cleared a.costs.now c.clear.new.costs 0 m) (c.row_of-cells.ensures ∙ ap (λ m. m * a.profile.now.shape.s) c.records_in-records.ensures) c.clear.ensures)
     c.lower.ensures b.requires.room in
-    λ masks may letter w g. onward_fills a.shape masks a.moves.now may letter w a.t.now a.log.now a.starts.now a.places.now g
+    λ masks may letter w g. onward_fills a.profile.now.shape masks a.profile.now.moves.now may letter w a.t.now a.log.now a.placed.now.starts.now a.placed.now.places.now g
     a.costs.now l.costs l.j 0 (omega (arith, l.invariant.0)) (l.invariant.5 a.costs.now begun)
 
 pub row_of-cells-requires : goal.row_of-cells-requires
 row_of-cells-requires c =
     let b = c in
     let a = b.args in
-    omega (arith, ap (λ n. n * a.shape.s) c.records_in-records.ensures, b.requires.room, b.well_formed)
+    omega (arith, ap (λ n. n * a.profile.now.shape.s) c.records_in-records.ensures, b.requires.room, b.well_formed)
 
 pub from_record-requires : goal.from_record-requires
 from_record-requires c =
@@ -94,7 +94,7 @@ from_record-requires c =
     let a = b.args in
     let l = c.loop-j in
     let lt : l.j < records_in a.t.now = omega (arith, l.invariant.0) in record {
-      given = given_as_long a.shape a.moves.now a.t.now a.log.now a.starts.now a.places.now a.costs.now l.costs (l.invariant.4 ∙ c.lower.auto.costs ∙ c.clear.auto.costs) b.requires;
+      given = given_as_long a.profile.now.shape a.profile.now.moves.now a.t.now a.log.now a.placed.now.starts.now a.placed.now.places.now a.costs.now l.costs (l.invariant.4 ∙ c.lower.auto.costs ∙ c.clear.auto.costs) b.requires;
       whole_value = l.invariant.1;
       j_bound = (lt, l.invariant.2, l.invariant.3 lt);
     }

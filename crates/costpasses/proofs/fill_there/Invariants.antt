@@ -17,5 +17,5 @@ use Rattle.costpasses.proofs.fill_there.Given as goal
 abbrev pub invariant-loop-j : goal.invariant-loop-j
 invariant-loop-j l =
     (l.records ≡ records_in l.t) × (l.whole ≡ counts_at l.t (records_in l.t - 1)) × (length l.cursors ≡ most_letters)
-    × (l.j < records_in l.t → LowAll l.t l.j l.shape.k l.cursors) × (length l.costs ≡ length l.initial.costs)
-    × ((before : List ℕ) → Onward l.shape l.moves l.log l.t before l.initial.costs 0 0 → Onward l.shape l.moves l.log l.t before l.costs l.j 0)
+    × (l.j < records_in l.t → LowAll l.t l.j l.profile.shape.k l.cursors) × (length l.costs ≡ length l.initial.costs)
+    × ((before : List ℕ) → Onward l.profile.shape l.profile.moves.now l.log l.t before l.initial.costs 0 0 → Onward l.profile.shape l.profile.moves.now l.log l.t before l.costs l.j 0)

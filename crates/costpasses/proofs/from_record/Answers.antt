@@ -27,8 +27,8 @@ loop-x-preserved c =
     let lt : l.x < length l.cursors = omega (arith, b.requires.given.lent.records.letters, l.invariant.1) in (
       f.auto.costs ∙ l.invariant.0,
       length-set l.cursors l.x f.result ∙ l.invariant.1,
-      low_set a.t.now a.j a.shape.k l.x f.result l.cursors f.ensures.splits lt l.invariant.2,
-      λ before o. subst (λ n. Onward a.shape a.moves.now a.log.now a.t.now before f.new.costs a.j n) (sym (add-one l.x))
+      low_set a.t.now a.j a.profile.now.shape.k l.x f.result l.cursors f.ensures.splits lt l.invariant.2,
+      λ before o. subst (λ n. Onward a.profile.now.shape a.profile.now.moves.now a.log.now a.t.now before f.new.costs a.j n) (sym (add-one l.x))
           (f.ensures.by_index before (l.invariant.3 before o)),
     )
 
@@ -42,8 +42,8 @@ lead_from-requires c =
     let b = c in
     let a = b.args in
     let l = c.loop-x in
-    let lt : l.x < a.shape.k = omega arith in record {
-      given = given_as_long a.shape a.moves.now a.t.now a.log.now a.starts.now a.places.now a.costs.now l.costs l.invariant.0 b.requires.given;
+    let lt : l.x < a.profile.now.shape.k = omega arith in record {
+      given = given_as_long a.profile.now.shape a.profile.now.moves.now a.t.now a.log.now a.placed.now.starts.now a.placed.now.places.now a.costs.now l.costs l.invariant.0 b.requires.given;
       whole_value = b.requires.whole_value;
       record_bound = (b.requires.j_bound.0, lt, (l.invariant.2 l.x lt).0, (l.invariant.2 l.x lt).1);
     }
@@ -53,7 +53,7 @@ returns c =
     let b = c in
     let a = b.args in
     let l = c.loop-x in
-    let all : a.shape.k ≤ l.x = omega arith in record {
+    let all : a.profile.now.shape.k ≤ l.x = omega arith in record {
       low_all = l.invariant.2;
-      by_index = λ before o. onward_record a.shape a.moves.now a.log.now a.t.now (given_laid a.shape a.moves.now a.t.now a.log.now a.starts.now a.places.now a.costs.now b.requires.given) before l.costs a.j l.x all (l.invariant.3 before o);
+      by_index = λ before o. onward_record a.profile.now.shape a.profile.now.moves.now a.log.now a.t.now (given_laid a.profile.now.shape a.profile.now.moves.now a.t.now a.log.now a.placed.now.starts.now a.placed.now.places.now a.costs.now b.requires.given) before l.costs a.j l.x all (l.invariant.3 before o);
     }

@@ -13,5 +13,5 @@ use Rattle.costpasses.proofs.from_record.Given as goal
 
 abbrev pub invariant-loop-x : goal.invariant-loop-x
 invariant-loop-x l =
-    (length l.costs ≡ length l.initial.costs) × (length l.cursors ≡ most_letters) × LowAll l.t l.j l.shape.k l.cursors
-    × ((before : List ℕ) → Onward l.shape l.moves l.log l.t before l.initial.costs l.j 0 → Onward l.shape l.moves l.log l.t before l.costs l.j l.x)
+    (length l.costs ≡ length l.initial.costs) × (length l.cursors ≡ most_letters) × LowAll l.t l.j l.profile.shape.k l.cursors
+    × ((before : List ℕ) → Onward l.profile.shape l.profile.moves.now l.log l.t before l.initial.costs l.j 0 → Onward l.profile.shape l.profile.moves.now l.log l.t before l.costs l.j l.x)

@@ -30,21 +30,21 @@ step_cost-more-requires c =
     let want : words c.one_more-d.result ≡ add_count layout (counts_at a.t.now a.step.record) a.step.letter =
     c.one_more-d.ensures ∙ ap (λ v. add_count layout v a.step.letter) c.counts_at-c.ensures in
     let r = c.forth-r.result in
-    let next : Next a.shape a.moves.now a.log.now a.t.now a.step.record a.step.letter r =
-    found_next a.shape a.moves.now a.t.now a.log.now a.starts.now a.places.now a.costs.now b.requires.given a.step.record a.step.letter r (words c.one_more-d.result) b.requires.record_bound.0 b.requires.record_bound.1 want
+    let next : Next a.profile.now.shape a.profile.now.moves.now a.log.now a.t.now a.step.record a.step.letter r =
+    found_next a.profile.now.shape a.profile.now.moves.now a.t.now a.log.now a.placed.now.starts.now a.placed.now.places.now a.costs.now b.requires.given a.step.record a.step.letter r (words c.one_more-d.result) b.requires.record_bound.0 b.requires.record_bound.1 want
     (sym c.stands_at.ensures ∙ c.if-stands_at.true) in
     let own = c.numbers-n.ensures ∙ c.counts_at-c.ensures in record {
       placed = b.requires.given.lent.placed;
-      within = subst (λ v. Within a.shape.k a.log.now v a.whole.now a.step.letter) (sym own)
-          (subst (λ v. Within a.shape.k a.log.now (counts_at a.t.now a.step.record) v a.step.letter) (sym b.requires.whole_value)
-          (next_within a.shape a.moves.now a.t.now a.log.now a.starts.now a.places.now a.costs.now b.requires.given a.step.record a.step.letter r (words c.one_more-d.result) b.requires.record_bound.0 b.requires.record_bound.1 want next));
+      within = subst (λ v. Within a.profile.now.shape.k a.log.now v a.whole.now a.step.letter) (sym own)
+          (subst (λ v. Within a.profile.now.shape.k a.log.now (counts_at a.t.now a.step.record) v a.step.letter) (sym b.requires.whole_value)
+          (next_within a.profile.now.shape a.profile.now.moves.now a.t.now a.log.now a.placed.now.starts.now a.placed.now.places.now a.costs.now b.requires.given a.step.record a.step.letter r (words c.one_more-d.result) b.requires.record_bound.0 b.requires.record_bound.1 want next));
     }
 
 pub row_of-from-requires : goal.row_of-from-requires
 row_of-from-requires c =
     let b = c in
     let a = b.args in
-    omega (arith, row_fits a.shape a.moves.now a.t.now a.log.now a.starts.now a.places.now a.costs.now b.requires.given a.step.record b.requires.record_bound.0, b.well_formed)
+    omega (arith, row_fits a.profile.now.shape a.profile.now.moves.now a.t.now a.log.now a.placed.now.starts.now a.placed.now.places.now a.costs.now b.requires.given a.step.record b.requires.record_bound.0, b.well_formed)
 
 pub row_of-to-requires : goal.row_of-to-requires
 row_of-to-requires c =
@@ -53,10 +53,10 @@ row_of-to-requires c =
     let want : words c.one_more-d.result ≡ add_count layout (counts_at a.t.now a.step.record) a.step.letter =
     c.one_more-d.ensures ∙ ap (λ v. add_count layout v a.step.letter) c.counts_at-c.ensures in
     let r = c.forth-r.result in
-    let next : Next a.shape a.moves.now a.log.now a.t.now a.step.record a.step.letter r =
-    found_next a.shape a.moves.now a.t.now a.log.now a.starts.now a.places.now a.costs.now b.requires.given a.step.record a.step.letter r (words c.one_more-d.result) b.requires.record_bound.0 b.requires.record_bound.1 want
+    let next : Next a.profile.now.shape a.profile.now.moves.now a.log.now a.t.now a.step.record a.step.letter r =
+    found_next a.profile.now.shape a.profile.now.moves.now a.t.now a.log.now a.placed.now.starts.now a.placed.now.places.now a.costs.now b.requires.given a.step.record a.step.letter r (words c.one_more-d.result) b.requires.record_bound.0 b.requires.record_bound.1 want
     (sym c.stands_at.ensures ∙ c.if-stands_at.true) in
-    omega (arith, row_fits a.shape a.moves.now a.t.now a.log.now a.starts.now a.places.now a.costs.now b.requires.given r next.inside, b.well_formed)
+    omega (arith, row_fits a.profile.now.shape a.profile.now.moves.now a.t.now a.log.now a.placed.now.starts.now a.placed.now.places.now a.costs.now b.requires.given r next.inside, b.well_formed)
 
 pub lead_on-requires : goal.lead_on-requires
 lead_on-requires c =
@@ -65,12 +65,12 @@ lead_on-requires c =
     let want : words c.one_more-d.result ≡ add_count layout (counts_at a.t.now a.step.record) a.step.letter =
     c.one_more-d.ensures ∙ ap (λ v. add_count layout v a.step.letter) c.counts_at-c.ensures in
     let r = c.forth-r.result in
-    let next : Next a.shape a.moves.now a.log.now a.t.now a.step.record a.step.letter r =
-    found_next a.shape a.moves.now a.t.now a.log.now a.starts.now a.places.now a.costs.now b.requires.given a.step.record a.step.letter r (words c.one_more-d.result) b.requires.record_bound.0 b.requires.record_bound.1 want
+    let next : Next a.profile.now.shape a.profile.now.moves.now a.log.now a.t.now a.step.record a.step.letter r =
+    found_next a.profile.now.shape a.profile.now.moves.now a.t.now a.log.now a.placed.now.starts.now a.placed.now.places.now a.costs.now b.requires.given a.step.record a.step.letter r (words c.one_more-d.result) b.requires.record_bound.0 b.requires.record_bound.1 want
     (sym c.stands_at.ensures ∙ c.if-stands_at.true) in
-    let rows = next_rows a.shape a.moves.now a.t.now a.log.now a.starts.now a.places.now a.costs.now b.requires.given a.step.record a.step.letter r (words c.one_more-d.result) b.requires.record_bound.0 b.requires.record_bound.1 want next in
-    subst (λ f. Rows a.costs.now f c.row_of-to.result a.shape.k a.shape.s a.moves.now a.step.letter) (sym c.row_of-from.ensures)
-    (subst (λ f. Rows a.costs.now (a.step.record * a.shape.s) f a.shape.k a.shape.s a.moves.now a.step.letter) (sym c.row_of-to.ensures) rows)
+    let rows = next_rows a.profile.now.shape a.profile.now.moves.now a.t.now a.log.now a.placed.now.starts.now a.placed.now.places.now a.costs.now b.requires.given a.step.record a.step.letter r (words c.one_more-d.result) b.requires.record_bound.0 b.requires.record_bound.1 want next in
+    subst (λ f. Rows a.costs.now f c.row_of-to.result a.profile.now.shape.k a.profile.now.shape.s a.profile.now.moves.now a.step.letter) (sym c.row_of-from.ensures)
+    (subst (λ f. Rows a.costs.now (a.step.record * a.profile.now.shape.s) f a.profile.now.shape.k a.profile.now.shape.s a.profile.now.moves.now a.step.letter) (sym c.row_of-to.ensures) rows)
 
 pub returns-then-stands_at : goal.returns-then-stands_at
 returns-then-stands_at c =
@@ -79,24 +79,24 @@ returns-then-stands_at c =
     let want : words c.one_more-d.result ≡ add_count layout (counts_at a.t.now a.step.record) a.step.letter =
     c.one_more-d.ensures ∙ ap (λ v. add_count layout v a.step.letter) c.counts_at-c.ensures in
     let r = c.forth-r.result in
-    let next : Next a.shape a.moves.now a.log.now a.t.now a.step.record a.step.letter r =
-    found_next a.shape a.moves.now a.t.now a.log.now a.starts.now a.places.now a.costs.now b.requires.given a.step.record a.step.letter r (words c.one_more-d.result) b.requires.record_bound.0 b.requires.record_bound.1 want
+    let next : Next a.profile.now.shape a.profile.now.moves.now a.log.now a.t.now a.step.record a.step.letter r =
+    found_next a.profile.now.shape a.profile.now.moves.now a.t.now a.log.now a.placed.now.starts.now a.placed.now.places.now a.costs.now b.requires.given a.step.record a.step.letter r (words c.one_more-d.result) b.requires.record_bound.0 b.requires.record_bound.1 want
     (sym c.stands_at.ensures ∙ c.if-stands_at.true) in
     let splits = c.forth-r.ensures b.requires.given.lent.records.ordered in
     let u = c.lead_on.new.costs in
     let from = c.row_of-from.ensures in
     let to = c.row_of-to.ensures in
-    let more : c.step_cost-more.result ≡ cost_after a.shape a.moves.now a.log.now a.t.now a.step.record a.step.letter =
+    let more : c.step_cost-more.result ≡ cost_after a.profile.now.shape a.profile.now.moves.now a.log.now a.t.now a.step.record a.step.letter =
     c.step_cost-more.ensures
     ∙ ap (λ v. step_cost (λ e. e) a.log.now (count_field layout v) a.step.letter) (c.numbers-n.ensures ∙ c.counts_at-c.ensures) in
-    let led : LedOn a.costs.now u (a.step.record * a.shape.s) (r * a.shape.s) a.shape.k a.shape.s a.moves.now a.step.letter
-    (cost_after a.shape a.moves.now a.log.now a.t.now a.step.record a.step.letter) a.shape.s =
-    subst (λ m. LedOn a.costs.now u (a.step.record * a.shape.s) (r * a.shape.s) a.shape.k a.shape.s a.moves.now a.step.letter m a.shape.s) more
-    (subst (λ m. LedOn a.costs.now u (a.step.record * a.shape.s) m a.shape.k a.shape.s a.moves.now a.step.letter c.step_cost-more.result a.shape.s) to
-    (subst (λ m. LedOn a.costs.now u m c.row_of-to.result a.shape.k a.shape.s a.moves.now a.step.letter c.step_cost-more.result a.shape.s) from
+    let led : LedOn a.costs.now u (a.step.record * a.profile.now.shape.s) (r * a.profile.now.shape.s) a.profile.now.shape.k a.profile.now.shape.s a.profile.now.moves.now a.step.letter
+    (cost_after a.profile.now.shape a.profile.now.moves.now a.log.now a.t.now a.step.record a.step.letter) a.profile.now.shape.s =
+    subst (λ m. LedOn a.costs.now u (a.step.record * a.profile.now.shape.s) (r * a.profile.now.shape.s) a.profile.now.shape.k a.profile.now.shape.s a.profile.now.moves.now a.step.letter m a.profile.now.shape.s) more
+    (subst (λ m. LedOn a.costs.now u (a.step.record * a.profile.now.shape.s) m a.profile.now.shape.k a.profile.now.shape.s a.profile.now.moves.now a.step.letter c.step_cost-more.result a.profile.now.shape.s) to
+    (subst (λ m. LedOn a.costs.now u m c.row_of-to.result a.profile.now.shape.k a.profile.now.shape.s a.profile.now.moves.now a.step.letter c.step_cost-more.result a.profile.now.shape.s) from
     c.lead_on.ensures)) in record {
       splits = subst (λ v. Splits a.t.now v r) want splits;
-      by_index = λ before o. onward_led a.shape a.moves.now a.log.now a.t.now (given_laid a.shape a.moves.now a.t.now a.log.now a.starts.now a.places.now a.costs.now b.requires.given) before a.costs.now u a.step.record a.step.letter r next led o;
+      by_index = λ before o. onward_led a.profile.now.shape a.profile.now.moves.now a.log.now a.t.now (given_laid a.profile.now.shape a.profile.now.moves.now a.t.now a.log.now a.placed.now.starts.now a.placed.now.places.now a.costs.now b.requires.given) before a.costs.now u a.step.record a.step.letter r next led o;
     }
 
 pub returns-else-stands_at : goal.returns-else-stands_at
@@ -108,6 +108,6 @@ returns-else-stands_at c =
     let r = c.forth-r.result in
     let splits = c.forth-r.ensures b.requires.given.lent.records.ordered in record {
       splits = subst (λ v. Splits a.t.now v r) want splits;
-      by_index = λ before o. onward_none a.shape a.moves.now a.log.now a.t.now (given_laid a.shape a.moves.now a.t.now a.log.now a.starts.now a.places.now a.costs.now b.requires.given) before a.costs.now a.step.record a.step.letter
-          (no_next a.shape a.moves.now a.t.now a.log.now a.starts.now a.places.now a.costs.now b.requires.given a.step.record a.step.letter r (words c.one_more-d.result) b.requires.record_bound.0 b.requires.record_bound.1 want (sym c.stands_at.ensures ∙ c.if-stands_at.false) splits) o;
+      by_index = λ before o. onward_none a.profile.now.shape a.profile.now.moves.now a.log.now a.t.now (given_laid a.profile.now.shape a.profile.now.moves.now a.t.now a.log.now a.placed.now.starts.now a.placed.now.places.now a.costs.now b.requires.given) before a.costs.now a.step.record a.step.letter
+          (no_next a.profile.now.shape a.profile.now.moves.now a.t.now a.log.now a.placed.now.starts.now a.placed.now.places.now a.costs.now b.requires.given a.step.record a.step.letter r (words c.one_more-d.result) b.requires.record_bound.0 b.requires.record_bound.1 want (sym c.stands_at.ensures ∙ c.if-stands_at.false) splits) o;
     }

@@ -29,8 +29,8 @@ loop-x-preserved c =
     let lt : l.x < length l.cursors = omega (arith, b.requires.given.lent.records.letters, l.invariant.1) in (
       f.auto.costs ∙ l.invariant.0,
       length-set l.cursors l.x f.result ∙ l.invariant.1,
-      high_set a.t.now a.j a.shape.k l.x f.result l.cursors f.ensures.splits lt l.invariant.2,
-      λ before o. subst (λ n. Backward a.shape a.moves.now a.log.now a.t.now before f.new.costs a.j n) (sym (add-one l.x))
+      high_set a.t.now a.j a.profile.now.shape.k l.x f.result l.cursors f.ensures.splits lt l.invariant.2,
+      λ before o. subst (λ n. Backward a.profile.now.shape a.profile.now.moves.now a.log.now a.t.now before f.new.costs a.j n) (sym (add-one l.x))
           (f.ensures.by_index before (l.invariant.3 before o)),
     )
 
@@ -43,14 +43,14 @@ row_of-row-requires c =
     let b = c in
     let a = b.args in
     let lt : a.j < records_in a.t.now = omega (arith, b.requires.j_bound.0) in
-    omega (arith, row_fits a.shape a.moves.now a.t.now a.log.now a.starts.now a.places.now a.costs.now b.requires.given a.j lt, b.well_formed)
+    omega (arith, row_fits a.profile.now.shape a.profile.now.moves.now a.t.now a.log.now a.placed.now.starts.now a.placed.now.places.now a.costs.now b.requires.given a.j lt, b.well_formed)
 
 pub clear-requires : goal.clear-requires
 clear-requires c =
     let b = c in
     let a = b.args in
     let lt : a.j < records_in a.t.now = omega (arith, b.requires.j_bound.0) in
-    omega (arith, row_fits a.shape a.moves.now a.t.now a.log.now a.starts.now a.places.now a.costs.now b.requires.given a.j lt, c.row_of-row.ensures)
+    omega (arith, row_fits a.profile.now.shape a.profile.now.moves.now a.t.now a.log.now a.placed.now.starts.now a.placed.now.places.now a.costs.now b.requires.given a.j lt, c.row_of-row.ensures)
 
 pub loop-x-init : goal.loop-x-init
 loop-x-init c =
@@ -62,8 +62,8 @@ lead_to-requires c =
     let b = c in
     let a = b.args in
     let l = c.loop-x in
-    let lt : l.x < a.shape.k = omega arith in record {
-      given = given_as_long a.shape a.moves.now a.t.now a.log.now a.starts.now a.places.now a.costs.now l.costs (l.invariant.0 ∙ c.clear.auto.costs) b.requires.given;
+    let lt : l.x < a.profile.now.shape.k = omega arith in record {
+      given = given_as_long a.profile.now.shape a.profile.now.moves.now a.t.now a.log.now a.placed.now.starts.now a.placed.now.places.now a.costs.now l.costs (l.invariant.0 ∙ c.clear.auto.costs) b.requires.given;
       whole_value = b.requires.whole_value;
       record_bound = (omega (arith, b.requires.j_bound.0), lt, (l.invariant.2 l.x lt).0, (l.invariant.2 l.x lt).1);
     }
@@ -73,11 +73,11 @@ returns c =
     let b = c in
     let a = b.args in
     let l = c.loop-x in
-    let all : l.x ≡ a.shape.k = omega arith in
-    let cleared : Cleared a.costs.now c.clear.new.costs (a.j * a.shape.s) a.shape.s =
-    subst (λ m. Cleared a.costs.now c.clear.new.costs m a.shape.s) c.row_of-row.ensures c.clear.ensures in record {
+    let all : l.x ≡ a.profile.now.shape.k = omega arith in
+    let cleared : Cleared a.costs.now c.clear.new.costs (a.j * a.profile.now.shape.s) a.profile.now.shape.s =
+    subst (λ m. Cleared a.costs.now c.clear.new.costs m a.profile.now.shape.s) c.row_of-row.ensures c.clear.ensures in record {
       high_all = l.invariant.2;
-      by_index = λ before o. subst (λ n. Backward a.shape a.moves.now a.log.now a.t.now before l.costs a.j n) all
-          (l.invariant.3 before (backward_row a.shape a.moves.now a.log.now a.t.now (given_laid a.shape a.moves.now a.t.now a.log.now a.starts.now a.places.now a.costs.now b.requires.given) before a.costs.now c.clear.new.costs a.j a.shape.k
+      by_index = λ before o. subst (λ n. Backward a.profile.now.shape a.profile.now.moves.now a.log.now a.t.now before l.costs a.j n) all
+          (l.invariant.3 before (backward_row a.profile.now.shape a.profile.now.moves.now a.log.now a.t.now (given_laid a.profile.now.shape a.profile.now.moves.now a.t.now a.log.now a.placed.now.starts.now a.placed.now.places.now a.costs.now b.requires.given) before a.costs.now c.clear.new.costs a.j a.profile.now.shape.k
           (omega arith) b.requires.j_bound.0 cleared o));
     }

@@ -15,5 +15,5 @@ use Rattle.costpasses.proofs.to_record.Given as goal
 
 abbrev pub invariant-loop-x : goal.invariant-loop-x
 invariant-loop-x l =
-    (length l.costs ≡ length l.initial.costs) × (length l.cursors ≡ most_letters) × HighAll l.t l.j l.shape.k l.cursors
-    × ((before : List ℕ) → Backward l.shape l.moves l.log l.t before l.initial.costs l.j 0 → Backward l.shape l.moves l.log l.t before l.costs l.j l.x)
+    (length l.costs ≡ length l.initial.costs) × (length l.cursors ≡ most_letters) × HighAll l.t l.j l.profile.shape.k l.cursors
+    × ((before : List ℕ) → Backward l.profile.shape l.profile.moves.now l.log l.t before l.initial.costs l.j 0 → Backward l.profile.shape l.profile.moves.now l.log l.t before l.costs l.j l.x)

@@ -8,7 +8,7 @@ use Rattle.costwalk.proofs.Trying.{Passed, chosen_of, passed_more, passed_none}
 use Rattle.costwalk.proofs.choose.Goals as goal
 
 pub loop-x-init : goal.loop-x-init
-loop-x-init c = let a = c.args in passed_none a.shape a.moves.now a.t.now a.log.now a.starts.now a.places.now a.costs.now (words a.taken.counts) a.taken.states a.taken.left
+loop-x-init c = let a = c.args in passed_none a.profile.now.shape a.profile.now.moves.now a.t.now a.log.now a.placed.now.starts.now a.placed.now.places.now a.costs.now (words a.taken.counts) a.taken.states a.taken.left
 
 pub try_letter-next-requires : goal.try_letter-next-requires
 try_letter-next-requires c = record {
@@ -20,15 +20,15 @@ pub returns-in-Some : goal.returns-in-Some
 returns-in-Some c =
     let a = c.args in
     let l = c.loop-x in
-    chosen_of a.shape a.moves.now a.t.now a.log.now a.starts.now a.places.now a.costs.now (words a.taken.counts) a.taken.states a.taken.left l.x c.in-Some.cost c.loop-x-test.true l.invariant
-    (subst (Tries a.shape a.moves.now a.t.now a.log.now a.starts.now a.places.now a.costs.now (words a.taken.counts) a.taken.states a.taken.left l.x) c.in-Some.is c.try_letter-next.ensures)
+    chosen_of a.profile.now.shape a.profile.now.moves.now a.t.now a.log.now a.placed.now.starts.now a.placed.now.places.now a.costs.now (words a.taken.counts) a.taken.states a.taken.left l.x c.in-Some.cost c.loop-x-test.true l.invariant
+    (subst (Tries a.profile.now.shape a.profile.now.moves.now a.t.now a.log.now a.placed.now.starts.now a.placed.now.places.now a.costs.now (words a.taken.counts) a.taken.states a.taken.left l.x) c.in-Some.is c.try_letter-next.ensures)
 
 pub loop-x-preserved : goal.loop-x-preserved
 loop-x-preserved c =
     let a = c.args in
     let l = c.loop-x in
-    passed_more a.shape a.moves.now a.t.now a.log.now a.starts.now a.places.now a.costs.now (words a.taken.counts) a.taken.states a.taken.left l.x l.invariant
-    (subst (Tries a.shape a.moves.now a.t.now a.log.now a.starts.now a.places.now a.costs.now (words a.taken.counts) a.taken.states a.taken.left l.x) c.in_default.is c.try_letter-next.ensures)
+    passed_more a.profile.now.shape a.profile.now.moves.now a.t.now a.log.now a.placed.now.starts.now a.placed.now.places.now a.costs.now (words a.taken.counts) a.taken.states a.taken.left l.x l.invariant
+    (subst (Tries a.profile.now.shape a.profile.now.moves.now a.t.now a.log.now a.placed.now.starts.now a.placed.now.places.now a.costs.now (words a.taken.counts) a.taken.states a.taken.left l.x) c.in_default.is c.try_letter-next.ensures)
 
 -- some letter leads to an end
 pub unreachable-requires : goal.unreachable-requires

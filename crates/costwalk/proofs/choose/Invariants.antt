@@ -10,4 +10,4 @@ use Rattle.costwalk.proofs.choose.Given as goal
 
 abbrev pub invariant-loop-x : goal.invariant-loop-x
 invariant-loop-x l =
-    Passed l.shape l.moves l.t l.log l.starts l.places l.costs (words l.taken.counts) l.taken.states l.taken.left l.x
+    Passed l.profile.shape l.profile.moves.now l.t l.log l.placed.starts.now l.placed.places.now l.costs (words l.taken.counts) l.taken.states l.taken.left l.x

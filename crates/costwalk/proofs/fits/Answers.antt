@@ -11,6 +11,6 @@ returns c =
     let f = c.step_forward-reached in
     let a = c.args in record {
       cost = c.least_in-least.result;
-      least = subst (λ S. Least a.costs.now (a.r * a.shape.s) S c.least_in-least.result) f.ensures c.least_in-least.ensures;
+      least = subst (λ S. Least a.costs.now (a.r * a.profile.now.shape.s) S c.least_in-least.result) f.ensures c.least_in-least.ensures;
       told = ap (λ n. leb n a.left) c.plus.ensures;
     }

@@ -13,19 +13,19 @@ overflow_shl-taken c = let g = c.requires.known.lent.profile in omega (arith, g.
 pub loop-i-init : goal.loop-i-init
 loop-i-init c =
     let a = c.args in
-    (refl, walks_none a.shape a.moves.now a.t.now a.log.now a.starts.now a.places.now a.costs.now a.fewest a.order.now (words c.none_counted.result) c.none_counted.ensures)
+    (refl, walks_none a.profile.now.shape a.profile.now.moves.now a.t.now a.log.now a.placed.now.starts.now a.placed.now.places.now a.costs.now a.fewest a.order.now (words c.none_counted.result) c.none_counted.ensures)
 
 pub choose-choice-requires : goal.choose-choice-requires
 choose-choice-requires c =
     let a = c.args in
     let l = c.loop-i in
-    walks_lead a.shape a.moves.now a.t.now a.log.now a.starts.now a.places.now a.costs.now a.fewest a.order.now l.invariant.1 c.requires.known c.loop-i-test.true
+    walks_lead a.profile.now.shape a.profile.now.moves.now a.t.now a.log.now a.placed.now.starts.now a.placed.now.places.now a.costs.now a.fewest a.order.now l.invariant.1 c.requires.known c.loop-i-test.true
 
 pub overflow_cast-order : goal.overflow_cast-order
 overflow_cast-order c =
     let a = c.args in
     let l = c.loop-i in
-    let b = walks_below a.shape a.moves.now a.t.now a.log.now a.starts.now a.places.now a.costs.now a.fewest a.order.now l.invariant.1 c.loop-i-test.true c.requires.log_in_bounds c.choose-choice.result c.choose-choice.ensures c.requires.known in
+    let b = walks_below a.profile.now.shape a.profile.now.moves.now a.t.now a.log.now a.placed.now.starts.now a.placed.now.places.now a.costs.now a.fewest a.order.now l.invariant.1 c.loop-i-test.true c.requires.log_in_bounds c.choose-choice.result c.choose-choice.ensures c.requires.known in
     omega (arith, b.0, b.1)
 
 pub bounds-order-i : goal.bounds-order-i
@@ -35,7 +35,7 @@ pub take_letter-taken-requires : goal.take_letter-taken-requires
 take_letter-taken-requires c =
     let a = c.args in
     let l = c.loop-i in
-    let b = walks_below a.shape a.moves.now a.t.now a.log.now a.starts.now a.places.now a.costs.now a.fewest a.order.now l.invariant.1 c.loop-i-test.true c.requires.log_in_bounds c.choose-choice.result c.choose-choice.ensures c.requires.known in
+    let b = walks_below a.profile.now.shape a.profile.now.moves.now a.t.now a.log.now a.placed.now.starts.now a.placed.now.places.now a.costs.now a.fewest a.order.now l.invariant.1 c.loop-i-test.true c.requires.log_in_bounds c.choose-choice.result c.choose-choice.ensures c.requires.known in
     (b.1, b.2, b.3)
 
 pub loop-i-preserved : goal.loop-i-preserved
@@ -44,7 +44,7 @@ loop-i-preserved c =
     let l = c.loop-i in
     let e = c.take_letter-taken.ensures in (
       length-set l.order l.i c.choose-choice.result.letter ∙ l.invariant.0,
-      walks_next a.shape a.moves.now a.t.now a.log.now a.starts.now a.places.now a.costs.now a.fewest a.order.now l.invariant.1 c.loop-i-test.true c.requires.log_in_bounds c.choose-choice.result c.choose-choice.ensures e.counts_value e.states_value e.left_value,
+      walks_next a.profile.now.shape a.profile.now.moves.now a.t.now a.log.now a.placed.now.starts.now a.placed.now.places.now a.costs.now a.fewest a.order.now l.invariant.1 c.loop-i-test.true c.requires.log_in_bounds c.choose-choice.result c.choose-choice.ensures e.counts_value e.states_value e.left_value,
     )
 
 pub shape_of-order : goal.shape_of-order
@@ -55,4 +55,4 @@ returns c =
     let a = c.args in
     let l = c.loop-i in
     let e : l.i ≡ length a.log.now = omega arith in
-    walks_all a.shape a.moves.now a.t.now a.log.now a.starts.now a.places.now a.costs.now a.fewest a.order.now (subst (λ i. Walks a.shape a.moves.now a.t.now a.log.now a.starts.now a.places.now a.costs.now a.fewest a.order.now i l.order (words l.taken.counts) l.taken.states l.taken.left) e l.invariant.1)
+    walks_all a.profile.now.shape a.profile.now.moves.now a.t.now a.log.now a.placed.now.starts.now a.placed.now.places.now a.costs.now a.fewest a.order.now (subst (λ i. Walks a.profile.now.shape a.profile.now.moves.now a.t.now a.log.now a.placed.now.starts.now a.placed.now.places.now a.costs.now a.fewest a.order.now i l.order (words l.taken.counts) l.taken.states l.taken.left) e l.invariant.1)

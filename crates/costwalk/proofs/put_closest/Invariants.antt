@@ -10,4 +10,4 @@ use Rattle.costwalk.proofs.put_closest.Given as goal
 
 abbrev pub invariant-loop-i : goal.invariant-loop-i
 invariant-loop-i l =
-    (length l.order ≡ length l.initial.order) × Walks l.shape l.moves l.t l.log l.starts l.places l.costs l.fewest l.initial.order l.i l.order (words l.taken.counts) l.taken.states l.taken.left
+    (length l.order ≡ length l.initial.order) × Walks l.profile.shape l.profile.moves.now l.t l.log l.placed.starts.now l.placed.places.now l.costs l.fewest l.initial.order l.i l.order (words l.taken.counts) l.taken.states l.taken.left

@@ -8,4 +8,4 @@ use Rattle.dates.proofs.code_events.Given as goal
 
 abbrev pub invariant-loop-i : goal.invariant-loop-i
 invariant-loop-i l =
-    (length l.codes ≡ length l.initial.codes) × (l.codes ≡ map (code_at l.log l.days l.terms) (below l.i) ++ drop l.i l.initial.codes)
+    (length l.codes ≡ length l.initial.codes) × (l.codes ≡ map (code_at l.log l.calendar.days.now l.calendar.terms.now) (below l.i) ++ drop l.i l.initial.codes)

@@ -9,8 +9,8 @@ use Rattle.dates.proofs.has_day_outside.Goals as goal
 
 pub returns : goal.returns
 returns c =
-    let days = c.args.days.now in
-    let terms = c.args.terms.now in
+    let days = c.args.calendar.now.days.now in
+    let terms = c.args.calendar.now.terms.now in
     any_answer (λ d. not (has_term? terms d)) days c.any.result
     (cases_from_any _ _ _ (λ d. not (has_term? terms d) ≡ true) (λ d. not (has_term? terms d) ≡ false) c.any.ensures.ran (YieldsList-from_slice days cc)
     (λ x q k. search rules) (λ x q k. search rules))

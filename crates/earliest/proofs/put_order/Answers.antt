@@ -39,18 +39,18 @@ choose-choice-requires c =
     let l = c.loop-i in
     let tab = l.invariant.0 in
     let part : take (record_length layout * a.records - 0) a.table.now ≡ used tab = ap (λ n. take n a.table.now) (whole a.records q.records_value) in record {
-      stands = (subst (λ u. Stands u a.shape.k l.at) (sym part) (stands_at (recorded tab) l.at l.invariant.1.inside), q.table.profile.states.1);
-      some = subst (λ u. Some (forward_step a.shape.k a.shape.s a.moves.now) u l.at l.states a.shape.k) (sym part) (written_some tab l.invariant.1 c.loop-i-test.true);
+      stands = (subst (λ u. Stands u a.profile.now.shape.k l.at) (sym part) (stands_at (recorded tab) l.at l.invariant.1.inside), q.table.profile.states.1);
+      some = subst (λ u. Some (forward_step a.profile.now.shape.k a.profile.now.shape.s a.profile.now.moves.now) u l.at l.states a.profile.now.shape.k) (sym part) (written_some tab l.invariant.1 c.loop-i-test.true);
     }
 
 -- the letter chosen, in the words of the law of the next letter
 chosen : (c : After-choose-choice)
-    → Smallest (forward_step c.args.shape.k c.args.shape.s c.args.moves.now) (used c.loop-i.invariant.0) c.loop-i.at c.loop-i.states c.args.shape.k
+    → Smallest (forward_step c.args.profile.now.shape.k c.args.profile.now.shape.s c.args.profile.now.moves.now) (used c.loop-i.invariant.0) c.loop-i.at c.loop-i.states c.args.profile.now.shape.k
     c.choose-choice.result.letter c.choose-choice.result.next c.choose-choice.result.states
 chosen c =
     let a = c.args in
     let l = c.loop-i in
-    subst (λ u. Smallest (forward_step a.shape.k a.shape.s a.moves.now) u l.at l.states a.shape.k c.choose-choice.result.letter c.choose-choice.result.next c.choose-choice.result.states)
+    subst (λ u. Smallest (forward_step a.profile.now.shape.k a.profile.now.shape.s a.profile.now.moves.now) u l.at l.states a.profile.now.shape.k c.choose-choice.result.letter c.choose-choice.result.next c.choose-choice.result.states)
     (ap (λ n. take n a.table.now) (whole a.records c.requires.records_value)) c.choose-choice.ensures
 
 pub overflow_cast-order : goal.overflow_cast-order

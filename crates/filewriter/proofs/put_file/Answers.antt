@@ -6,7 +6,7 @@ use native.Mathlib.Omega.{arith}
 use lib.ListN.{length}
 use lib.Seq.{sets}
 use Rattle.profile.specs.Limits.{trailer_length}
-use Rattle.profile.specs.Automata.{profile_of}
+use Rattle.profile.specs.Automata.{profile_of, lent}
 use Rattle.profile.specs.Lists.{flat_map}
 use Rattle.profile.specs.declared.Shape.{Shape}
 use Rattle.profile.proofs.Lists.{flat_map_length}
@@ -42,18 +42,18 @@ put_bytes-requires-2 c = omega (arith, room _ _ _ _ _ c.requires, c.put_masks.au
 pub returns : goal.returns
 returns c =
     let a = c.args in
-    let p = profile_of a.shape a.masks.now a.moves.now in
+    let p = lent a.profile.now in
     let w = a.log.now in
-    let i = 2 * length a.masks.now in
-    let j = i + 4 * length a.moves.now in
+    let i = 2 * length a.profile.now.masks.now in
+    let j = i + 4 * length a.profile.now.moves.now in
     let k = j + length w in
     let d = distances _ _ _ _ _ c.requires in
     let to_masks : k ≡ masks_distance p w = d.0 in
     let to_moves : k - i ≡ moves_distance p w = d.1 in
-    let m = flat_map (low_bytes 2) a.masks.now in
-    let v = flat_map (low_bytes 4) a.moves.now in
-    let trailer = c.trailer_bytes-trailer.ensures ∙ ap₂ (trailer_of a.shape (length w)) to_masks to_moves in
+    let m = flat_map (low_bytes 2) a.profile.now.masks.now in
+    let v = flat_map (low_bytes 4) a.profile.now.moves.now in
+    let trailer = c.trailer_bytes-trailer.ensures ∙ ap₂ (trailer_of a.profile.now.shape (length w)) to_masks to_moves in
     let three = c.put_bytes.ensures ∙ ap (λ l. sets l j w) (c.put_moves.ensures ∙ ap (λ l. sets l i v) c.put_masks.ensures) in
     c.put_bytes-2.ensures ∙ ap₂ (λ l t. sets l k t) three trailer
-    ∙ sets_four a.out.now m v w (trailer_bytes p w) (sym (flat_map_length (low_bytes 2) 2 (low_length 2) a.masks.now))
-    (ap (λ n. i + n) (sym (flat_map_length (low_bytes 4) 4 (low_length 4) a.moves.now))) refl
+    ∙ sets_four a.out.now m v w (trailer_bytes p w) (sym (flat_map_length (low_bytes 2) 2 (low_length 2) a.profile.now.masks.now))
+    (ap (λ n. i + n) (sym (flat_map_length (low_bytes 4) 4 (low_length 4) a.profile.now.moves.now))) refl

@@ -2,7 +2,7 @@
 use mathlib.Core.Path.{sym, subst}
 use native.Mathlib.Omega.{arith}
 use Rattle.terms.specs.Coded.{rules_of}
-use Rattle.profile.specs.Automata.{profile_of}
+use Rattle.profile.specs.Automata.{lent}
 use Rattle.forward.specs.Forward.{Ready}
 use Rattle.forward.proofs.Fills.{first_begun, from_first, some_prefix}
 use Rattle.forward.proofs.fill_forward.Goals as goal
@@ -24,7 +24,7 @@ fill_totals-requires c =
     let h = c.requires in
     let x = c.put_first-number in record {
       standing = (
-        subst (λ m. Ready (rules_of (profile_of a.shape a.masks.now a.moves.now) a.termed) a.log.now m a.room a.starts.now a.places.now a.turns.now a.termed) (sym x.auto.table) h,
+        subst (λ m. Ready (rules_of (lent a.profile.now) a.termed) a.log.now m a.room a.placed.now.starts.now a.placed.now.places.now a.turns.now a.termed) (sym x.auto.table) h,
         first_begun h (omega arith) a.table.now x.new.table x.ensures.1,
       );
       t_in_bounds = ((omega arith, x.ensures.0), (c.by_letter.ensures, c.all_keepers-keepers.ensures));

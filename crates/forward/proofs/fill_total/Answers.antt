@@ -23,7 +23,7 @@ merge_next-requires c =
     let a = c.args in
     let h = c.requires.0 in
     let f = c.loop-n.invariant in record {
-      halfway = (subst (λ m. Ready (rules_of (profile_of a.part.shape a.masks.now a.moves.now) a.termed) a.log.now m a.part.room a.starts.now a.places.now a.turns.now a.termed) (sym f.kept) h.0, filling_merging h.0 h.1 f);
+      halfway = (subst (λ m. Ready (rules_of (profile_of a.part.shape a.masks.now a.moves.now) a.termed) a.log.now m a.part.room a.placed.now.starts.now a.placed.now.places.now a.turns.now a.termed) (sym f.kept) h.0, filling_merging h.0 h.1 f);
       prepared = c.requires.1;
     }
 

@@ -27,11 +27,11 @@ fill_total-requires c =
     let f = l.invariant.2 in
     let e = sym l.invariant.0 in
     subst
-    (λ z. Standing (rules_of (profile_of z a.masks.now a.moves.now) a.termed) a.log.now l.table l.at a.starts.now a.places.now a.turns.now a.termed
+    (λ z. Standing (rules_of (profile_of z a.masks.now a.moves.now) a.termed) a.log.now l.table l.at a.placed.now.starts.now a.placed.now.places.now a.turns.now a.termed
     × Prepared (rules_of (profile_of z a.masks.now a.moves.now) a.termed) a.rows.now a.keepers.now)
     (sym l.invariant.1) (
       (
-        subst₂ (λ m z. Ready (rules_of (profile_of a.part.shape a.masks.now a.moves.now) a.termed) a.log.now m z a.starts.now a.places.now a.turns.now a.termed) (sym f.kept) e h.standing.0,
+        subst₂ (λ m z. Ready (rules_of (profile_of a.part.shape a.masks.now a.moves.now) a.termed) a.log.now m z a.placed.now.starts.now a.placed.now.places.now a.turns.now a.termed) (sym f.kept) e h.standing.0,
         subst (λ z. Begun (rules_of (profile_of a.part.shape a.masks.now a.moves.now) a.termed) a.log.now l.table z l.at.t l.at.from l.at.first) e f.begins,
       ),
       h.t_in_bounds.1,

@@ -71,9 +71,9 @@ returns-after-termed c =
     let handed = c.in-Some.handed in
     let found = ⊎_elim
     (λ u. merge_found h.0 h.1 v g.0 y.set (u.set-is ∙ u.addable_in_terms-found.ensures.0 ∙ ap (λ b. union (λ x. 2 ^ x) (letters_found b (independent a.masks.now) a.part.shape.k
-    (length a.log.now) a.starts.now a.places.now a.turns.now v)) (sym u.if-termed.true)))
+    (length a.log.now) a.placed.now.starts.now a.placed.now.places.now a.turns.now v)) (sym u.if-termed.true)))
     (λ u. merge_handed h.0 h.1 v g.0 u.if-termed.false (freely (profile_of a.part.shape a.masks.now a.moves.now) a.termed u.if-termed.false) handed.letters handed.passed y.set
-    g.2 g.3 (u.set-is ∙ ap (bit_or handed.letters) (u.tested.ensures ∙ ap (tested_by (independent a.masks.now) a.part.shape.k (length a.log.now) a.starts.now a.places.now v) u.in_neither-open.ensures)))
+    g.2 g.3 (u.set-is ∙ ap (bit_or handed.letters) (u.tested.ensures ∙ ap (tested_by (independent a.masks.now) a.part.shape.k (length a.log.now) a.placed.now.starts.now a.placed.now.places.now v) u.in_neither-open.ensures)))
     y.branch-raw in
     let z = c.put_in in
     merge_put h.0 h.1 v g.0 handed.forward y.set c.in-Some.from (ones y.set) z.new.table x.new.cursors

@@ -45,9 +45,9 @@ returns c =
     let l = c.loop-x in
     let e : l.x ≡ a.k = omega arith in
     let may = independent a.masks.now in
-    let places : ℕ → List ℕ = λ n. next_by n a.starts.now a.places.now (words a.c) ++ drop n (replicate most_letters 0) in
+    let places : ℕ → List ℕ = λ n. next_by n a.placed.now.starts.now a.placed.now.places.now (words a.c) ++ drop n (replicate most_letters 0) in
     let f : filter (comes_next? may a.k a.n c.next_places.new.next) (below l.x)
-    ≡ letters_by may a.k a.n a.starts.now a.places.now (words a.c) =
+    ≡ letters_by may a.k a.n a.placed.now.starts.now a.placed.now.places.now (words a.c) =
     ap₂ (λ m x. filter (comes_next? may a.k a.n m) (below x)) (c.next_places.ensures ∙ ap places l.invariant.0) e
-    ∙ letters_first may a.k a.n a.starts.now a.places.now (words a.c) (drop a.k (replicate most_letters 0)) in
+    ∙ letters_first may a.k a.n a.placed.now.starts.now a.placed.now.places.now (words a.c) (drop a.k (replicate most_letters 0)) in
     (l.invariant.2 ∙ ap (union (λ y. 2 ^ y)) f, l.invariant.3 ∙ ap length f)

@@ -16,8 +16,8 @@ loop-rest-preserved c =
     let t = c.numbers-t.result in
     let r = bit_and n (n - 1) in
     let some : 0 < n = omega arith in
-    let f = letter_by (independent a.masks.now) a.k a.n a.starts.now a.places.now t in
-    let all = tested_by (independent a.masks.now) a.k a.n a.starts.now a.places.now t in (
+    let f = letter_by (independent a.masks.now) a.k a.n a.placed.now.starts.now a.placed.now.places.now t in
+    let all = tested_by (independent a.masks.now) a.k a.n a.placed.now.starts.now a.placed.now.places.now t in (
       omega (arith, and_le_r n (n - 1), l.invariant.0),
       (elim c.if-x-k.branch [ then-x-k w ↦ ap (λ o. bit_or o (all r)) (w.out-is ∙ ap (bit_or l.out) w.tested_letter-out.ensures) ∙ over_taken f a.k n some l.invariant.0 l.out w.if-x-k.true ∙ l.invariant.1 | else-x-k w ↦ ap (λ o. bit_or o (all r)) w.out-is ∙ ap (bit_or l.out) (over_left f a.k n some l.invariant.0 w.if-x-k.false) ∙ l.invariant.1 ]),
     )
@@ -27,7 +27,7 @@ returns c =
     let a = c.args in
     let l = c.loop-rest in
     let t = c.numbers-t.result in
-    let f = letter_by (independent a.masks.now) a.k a.n a.starts.now a.places.now t in
-    let all = tested_by (independent a.masks.now) a.k a.n a.starts.now a.places.now in
+    let f = letter_by (independent a.masks.now) a.k a.n a.placed.now.starts.now a.placed.now.places.now t in
+    let all = tested_by (independent a.masks.now) a.k a.n a.placed.now.starts.now a.placed.now.places.now in
     let e : 0 ≡ l.rest = omega arith in
     sym (over_none f a.k l.out) ∙ ap (λ n. bit_or l.out (all t n)) e ∙ l.invariant.1 ∙ ap (λ v. all v a.set) c.numbers-t.ensures

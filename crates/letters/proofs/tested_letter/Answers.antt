@@ -21,8 +21,8 @@ use Rattle.letters.proofs.tested_letter.Goals as goal
 pub returns-then-n-own : goal.returns-then-n-own
 returns-then-n-own c =
     let a = c.args in
-    let next = next_by a.k a.starts.now a.places.now a.t.now in
-    let own : at next a.x ≡ place_by a.starts.now a.places.now a.t.now a.x = at_next_by a.k a.starts.now a.places.now a.t.now a.x c.requires.k_le_most_letters.1 in
+    let next = next_by a.k a.placed.now.starts.now a.placed.now.places.now a.t.now in
+    let own : at next a.x ≡ place_by a.placed.now.starts.now a.placed.now.places.now a.t.now a.x = at_next_by a.k a.placed.now.starts.now a.placed.now.places.now a.t.now a.x c.requires.k_le_most_letters.1 in
     let h : a.n ≤ at next a.x = omega (arith, c.place_of-own.ensures, own) in
     sym (ap (λ b. cond (b && all (lets_by? (independent a.masks.now) (at next) a.x) (below a.k)) (2 ^ a.x) 0) (le-ltb (at next a.x) a.n h))
 
@@ -31,7 +31,7 @@ loop-rest-init c =
     let s = c in
     let a = s.args in
     let may = independent a.masks.now in
-    let next = next_by a.k a.starts.now a.places.now a.t.now in
+    let next = next_by a.k a.placed.now.starts.now a.placed.now.places.now a.t.now in
     let e : at a.keepers.now a.x ≡ keepers may a.k a.x = ap (λ l. at l a.x) s.requires.keepers_value ∙ keepers_own may a.k a.x (omega arith) in
     subst (Left may a.k a.x (at next)) (sym e) (left_first may a.k a.x (at next) s.requires.k_le_most_letters.0)
 
@@ -43,12 +43,12 @@ place_of-requires c =
 pub returns-then-place_of-own : goal.returns-then-place_of-own
 returns-then-place_of-own c =
     let a = c.args in
-    let next = next_by a.k a.starts.now a.places.now a.t.now in
-    let own : at next a.x ≡ place_by a.starts.now a.places.now a.t.now a.x = at_next_by a.k a.starts.now a.places.now a.t.now a.x c.requires.k_le_most_letters.1 in
+    let next = next_by a.k a.placed.now.starts.now a.placed.now.places.now a.t.now in
+    let own : at next a.x ≡ place_by a.placed.now.starts.now a.placed.now.places.now a.t.now a.x = at_next_by a.k a.placed.now.starts.now a.placed.now.places.now a.t.now a.x c.requires.k_le_most_letters.1 in
     let l = c.loop-rest in
     let y = count_trailing_zeros 32 l.rest in
     let lt = (l.invariant.keep y (rest_first l.rest (omega arith) l.invariant.small)).0 in
-    let his : at next y ≡ place_by a.starts.now a.places.now a.t.now y = at_next_by a.k a.starts.now a.places.now a.t.now y lt in
+    let his : at next y ≡ place_by a.placed.now.starts.now a.placed.now.places.now a.t.now y = at_next_by a.k a.placed.now.starts.now a.placed.now.places.now a.t.now y lt in
     let p = lets_by? (independent a.masks.now) (at next) a.x in
     let q = ltb (at next a.x) a.n in
     let h : at next y ≤ at next a.x = omega (arith, c.place_of.ensures, c.place_of-own.ensures, own, his) in
@@ -58,20 +58,20 @@ returns-then-place_of-own c =
 pub loop-rest-preserved : goal.loop-rest-preserved
 loop-rest-preserved c =
     let a = c.args in
-    let next = next_by a.k a.starts.now a.places.now a.t.now in
-    let own : at next a.x ≡ place_by a.starts.now a.places.now a.t.now a.x = at_next_by a.k a.starts.now a.places.now a.t.now a.x c.requires.k_le_most_letters.1 in
+    let next = next_by a.k a.placed.now.starts.now a.placed.now.places.now a.t.now in
+    let own : at next a.x ≡ place_by a.placed.now.starts.now a.placed.now.places.now a.t.now a.x = at_next_by a.k a.placed.now.starts.now a.placed.now.places.now a.t.now a.x c.requires.k_le_most_letters.1 in
     let l = c.loop-rest in
     let y = count_trailing_zeros 32 l.rest in
     let lt = (l.invariant.keep y (rest_first l.rest (omega arith) l.invariant.small)).0 in
-    let his : at next y ≡ place_by a.starts.now a.places.now a.t.now y = at_next_by a.k a.starts.now a.places.now a.t.now y lt in
+    let his : at next y ≡ place_by a.placed.now.starts.now a.placed.now.places.now a.t.now y = at_next_by a.k a.placed.now.starts.now a.placed.now.places.now a.t.now y lt in
     let h : at next a.x < at next y = omega (arith, c.place_of.ensures, c.place_of-own.ensures, own, his) in
     left_next (independent a.masks.now) a.k a.x (at next) l.rest (omega arith) l.invariant h
 
 pub returns : goal.returns
 returns c =
     let a = c.args in
-    let next = next_by a.k a.starts.now a.places.now a.t.now in
-    let own : at next a.x ≡ place_by a.starts.now a.places.now a.t.now a.x = at_next_by a.k a.starts.now a.places.now a.t.now a.x c.requires.k_le_most_letters.1 in
+    let next = next_by a.k a.placed.now.starts.now a.placed.now.places.now a.t.now in
+    let own : at next a.x ≡ place_by a.placed.now.starts.now a.placed.now.places.now a.t.now a.x = at_next_by a.k a.placed.now.starts.now a.placed.now.places.now a.t.now a.x c.requires.k_le_most_letters.1 in
     let may = independent a.masks.now in
     let p = lets_by? may (at next) a.x in
     let q = ltb (at next a.x) a.n in

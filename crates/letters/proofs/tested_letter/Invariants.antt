@@ -7,7 +7,7 @@ use Rattle.letters.specs.Letters.{next_by}
 use Rattle.letters.proofs.tested_letter.Given as goal
 
 abbrev pub invariant-loop-rest : goal.invariant-loop-rest
-invariant-loop-rest l = Left (independent l.masks) l.k l.x (at (next_by l.k l.starts l.places l.t)) l.rest
+invariant-loop-rest l = Left (independent l.masks) l.k l.x (at (next_by l.k l.placed.starts.now l.placed.places.now l.t)) l.rest
 
 abbrev pub decreases-loop-rest : goal.decreases-loop-rest
 decreases-loop-rest l = l.rest

@@ -19,7 +19,7 @@ pub loop-x-preserved : goal.loop-x-preserved
 loop-x-preserved c =
     let a = c.args in
     let l = c.loop-x in
-    let f = first_of a.starts.now a.places.now in (
+    let f = first_of a.placed.now.starts.now a.placed.now.places.now in (
       omega arith,
       length-set l.next l.x c.next_place.result ∙ l.invariant.1,
       ap₂ (λ m v. set m l.x v) l.invariant.2 c.next_place.ensures ∙ front_put f a.next.now l.x (omega arith),
@@ -33,5 +33,5 @@ returns c =
     let a = c.args in
     let l = c.loop-x in
     let e : l.x ≡ length a.next.now = omega arith in
-    l.invariant.2 ∙ ap (λ n. map (first_of a.starts.now a.places.now) (below n) ++ drop n a.next.now) e
-    ∙ ap (λ m. map (first_of a.starts.now a.places.now) (below (length a.next.now)) ++ m) (drop-length a.next.now) ∙ append-nil _
+    l.invariant.2 ∙ ap (λ n. map (first_of a.placed.now.starts.now a.placed.now.places.now) (below n) ++ drop n a.next.now) e
+    ∙ ap (λ m. map (first_of a.placed.now.starts.now a.placed.now.places.now) (below (length a.next.now)) ++ m) (drop-length a.next.now) ∙ append-nil _

@@ -67,7 +67,7 @@ loop-t-preserved c =
       length-set l.used x (get_or l.used x 0 + 1) ∙ l.invariant.1,
       length-set l.out l.t x ∙ l.invariant.2,
       chosen_more a.k a.masks.now a.log.now (relation_at a.k a.masks.now p.relation) (log_at a.k a.log.now p.log) a.out.now l.next l.used l.out l.t l.invariant.3
-          (omega arith) x c.least_next-a.ensures a.starts.now a.places.now p.start p.place c.next_place.result c.next_place.ensures
+          (omega arith) x c.least_next-a.ensures a.placed.now.starts.now a.placed.now.places.now p.start p.place c.next_place.result c.next_place.ensures
           p.room (omega (arith, p.long)),
     )
 
@@ -94,6 +94,6 @@ pub loop-t-init : goal.loop-t-init
 loop-t-init c =
     let a = c.args in
     let p = c.requires.placed in
-    let e = c.first_places.ensures ∙ ap (λ n. map (λ x. get_or a.places.now (get_or a.starts.now x 0 + 0) 0) (below n)) p.wide in
-    let q = e ∙ first_coming a.k a.log.now a.starts.now a.places.now p.start p.place in
+    let e = c.first_places.ensures ∙ ap (λ n. map (λ x. get_or a.placed.now.places.now (get_or a.placed.now.starts.now x 0 + 0) 0) (below n)) p.wide in
+    let q = e ∙ first_coming a.k a.log.now a.placed.now.starts.now a.placed.now.places.now p.start p.place in
     (refl, refl, refl, chosen_none a.k a.masks.now a.log.now a.out.now c.first_places.new.next a.used.now q p.unused)

@@ -4,7 +4,7 @@ use Prim.Native.Nat.{◌-◌}
 use native.Mathlib.Omega.{arith}
 use lib.ListN.{length, replicate, length-take}
 use Rattle.profile.specs.Limits.{longest}
-use Rattle.profile.specs.Automata.{profile_of}
+use Rattle.profile.specs.Automata.{lent}
 use Rattle.verdict.specs.Verdict.{Promise}
 use Rattle.report.proofs.Printing.{order_room, table_none, table_refused, table_some, text_none, text_refused, text_some}
 use Rattle.report.proofs.Texts.{put_as, put_kept, put_then}
@@ -13,7 +13,7 @@ use Rattle.report.proofs.put_judged.Goals as goal
 pub slice_bounds-put_order-end : goal.slice_bounds-put_order-end
 slice_bounds-put_order-end c =
     let a = c.args in
-    let p = profile_of a.shape a.masks.now a.moves.now in
+    let p = lent a.profile.now in
     let j = c.judge in
     let h = rw c.in-Ok-Order.field-0-is at c.in-Ok-Order.ensures in
     omega (arith, order_room p a.log.now (replicate longest 0) j.new.order a.work.now j.new.work refl c.in-Ok-Order.prefixes c.in-Ok-Order.field-0-1 h, j.auto.order)
@@ -21,7 +21,7 @@ slice_bounds-put_order-end c =
 pub put_order-requires : goal.put_order-requires
 put_order-requires c =
     let a = c.args in
-    let p = profile_of a.shape a.masks.now a.moves.now in
+    let p = lent a.profile.now in
     let j = c.judge in
     let h = rw c.in-Ok-Order.field-0-is at c.in-Ok-Order.ensures in
     let v = c.put_verdict-end.ensures in
@@ -30,7 +30,7 @@ put_order-requires c =
 pub returns-in-Err-clause-put : goal.returns-in-Err-clause-put
 returns-in-Err-clause-put c =
     let a = c.args in
-    let p = profile_of a.shape a.masks.now a.moves.now in
+    let p = lent a.profile.now in
     let j = c.judge in
     let h = subst (Promise p a.log.now (replicate longest 0) j.new.order a.work.now j.new.work) c.in-Err.is j.ensures in
     put_as (sym (text_refused p a.log.now (replicate longest 0) j.new.order a.work.now j.new.work refl c.in-Err.r h)) c.put_refused.ensures
@@ -38,7 +38,7 @@ returns-in-Err-clause-put c =
 pub returns-in-Err-clause-judged_table : goal.returns-in-Err-clause-judged_table
 returns-in-Err-clause-judged_table c =
     let a = c.args in
-    let p = profile_of a.shape a.masks.now a.moves.now in
+    let p = lent a.profile.now in
     let j = c.judge in
     let h = subst (Promise p a.log.now (replicate longest 0) j.new.order a.work.now j.new.work) c.in-Err.is j.ensures in
     table_refused p a.log.now (replicate longest 0) j.new.order a.work.now j.new.work refl c.in-Err.r h
@@ -46,7 +46,7 @@ returns-in-Err-clause-judged_table c =
 pub returns-in-Ok-NoOrder-clause-put : goal.returns-in-Ok-NoOrder-clause-put
 returns-in-Ok-NoOrder-clause-put c =
     let a = c.args in
-    let p = profile_of a.shape a.masks.now a.moves.now in
+    let p = lent a.profile.now in
     let j = c.judge in
     let h = rw c.in-Ok-NoOrder.field-0-is at c.in-Ok-NoOrder.ensures in
     put_as (sym (text_none p a.log.now (replicate longest 0) j.new.order a.work.now j.new.work refl c.in-Ok-NoOrder.prefixes c.in-Ok-NoOrder.field-0-1 h)) c.put_verdict.ensures.put
@@ -54,7 +54,7 @@ returns-in-Ok-NoOrder-clause-put c =
 pub returns-in-Ok-NoOrder-clause-judged_table : goal.returns-in-Ok-NoOrder-clause-judged_table
 returns-in-Ok-NoOrder-clause-judged_table c =
     let a = c.args in
-    let p = profile_of a.shape a.masks.now a.moves.now in
+    let p = lent a.profile.now in
     let j = c.judge in
     let h = rw c.in-Ok-NoOrder.field-0-is at c.in-Ok-NoOrder.ensures in
     table_none p a.log.now (replicate longest 0) j.new.order a.work.now j.new.work refl c.in-Ok-NoOrder.prefixes c.in-Ok-NoOrder.field-0-1 h
@@ -62,7 +62,7 @@ returns-in-Ok-NoOrder-clause-judged_table c =
 pub returns-in-Ok-Order-clause-put : goal.returns-in-Ok-Order-clause-put
 returns-in-Ok-Order-clause-put c =
     let a = c.args in
-    let p = profile_of a.shape a.masks.now a.moves.now in
+    let p = lent a.profile.now in
     let j = c.judge in
     let h = rw c.in-Ok-Order.field-0-is at c.in-Ok-Order.ensures in
     put_as (sym (text_some p a.log.now (replicate longest 0) j.new.order a.work.now j.new.work refl c.in-Ok-Order.prefixes c.in-Ok-Order.field-0-1 h)) (put_then c.put_verdict-end.ensures.put c.put_order.ensures)
@@ -70,7 +70,7 @@ returns-in-Ok-Order-clause-put c =
 pub returns-in-Ok-Order-clause-judged_table : goal.returns-in-Ok-Order-clause-judged_table
 returns-in-Ok-Order-clause-judged_table c =
     let a = c.args in
-    let p = profile_of a.shape a.masks.now a.moves.now in
+    let p = lent a.profile.now in
     let j = c.judge in
     let h = rw c.in-Ok-Order.field-0-is at c.in-Ok-Order.ensures in
     table_some p a.log.now (replicate longest 0) j.new.order a.work.now j.new.work refl c.in-Ok-Order.prefixes c.in-Ok-Order.field-0-1 h

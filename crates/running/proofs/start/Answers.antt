@@ -4,7 +4,7 @@ use mathlib.Core.List.{[], ◌∷◌, ◌++◌}
 use native.Mathlib.Omega.{arith}
 use lib.Dec.{ltb}
 use lib.ListN.{length}
-use Rattle.profile.specs.Automata.{profile_of}
+use Rattle.profile.specs.Automata.{lent}
 use Rattle.profile.specs.Refusals.{lowest, profile_refusals}
 use Rattle.profile.specs.Tables.{layout, packed}
 use Rattle.profile.specs.declared.Refusal.TheVariants.{FullTable}
@@ -17,9 +17,9 @@ returns c =
     let a = c.args in
     let e = c.in_ok-check_question.ensures in
     record {
-      refused = e ∙ ap (λ n. lowest (profile_refusals (profile_of a.shape a.masks.now a.moves.now) ++ ((ltb n 1, FullTable) ∷ []))) c.capacity-room.ensures;
+      refused = e ∙ ap (λ n. lowest (profile_refusals (lent a.profile.now) ++ ((ltb n 1, FullTable) ∷ []))) c.capacity-room.ensures;
       left = (
         refl,
-        c.put_empty.ensures ∙ first_put (profile_of a.shape a.masks.now a.moves.now) a.table.now (packed layout []) _ _ refl refl refl (omega (arith, fits_of (profile_of a.shape a.masks.now a.moves.now) c.capacity-room.result 1 (length a.table.now) c.capacity-room.ensures e)),
+        c.put_empty.ensures ∙ first_put (lent a.profile.now) a.table.now (packed layout []) _ _ refl refl refl (omega (arith, fits_of (lent a.profile.now) c.capacity-room.result 1 (length a.table.now) c.capacity-room.ensures e)),
       );
     }

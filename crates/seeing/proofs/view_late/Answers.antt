@@ -1,7 +1,7 @@
 -- `seeing::view_late` meets its contract.
 use mathlib.Core.Path.{sym, ◌∙◌, ap}
 use native.Mathlib.Omega.{arith}
-use Rattle.profile.specs.Automata.{profile_of}
+use Rattle.profile.specs.Automata.{lent}
 use Rattle.profile.specs.Refusals.{refused_by}
 use Rattle.std.proofs.lemmas.Result.{err_from_is_err_and}
 use Rattle.theory.proofs.Refusals.{profile_at}
@@ -12,7 +12,7 @@ use Rattle.seeing.proofs.view_late.Goals as goal
 pub put_hulls-requires : goal.put_hulls-requires
 put_hulls-requires c =
     let a = c.args in
-    let p = profile_of a.shape a.masks.now a.moves.now in
+    let p = lent a.profile.now in
     let j = c.judge_cleared in
     let h = c.in_ok-judged.was in
     (omega (arith, hulls_fit p a.log.now a.order.now a.work.now a.reach.now c.requires.clean c.requires.log_in_bounds j.result j.ensures.value (ap refused_by h) c.prefixes_of-prefixes.result (ap told_prefixes h ∙ c.prefixes_of-prefixes.ensures), j.auto.work), (profile_at p c.requires.clean.profile).states.1)
@@ -20,7 +20,7 @@ put_hulls-requires c =
 pub returns-in_err-judged : goal.returns-in_err-judged
 returns-in_err-judged c =
     let a = c.args in
-    let p = profile_of a.shape a.masks.now a.moves.now in
+    let p = lent a.profile.now in
     let j = c.judge_cleared in
     let h = c.in_err-judged.was in
     let e = err_from_is_err_and c.from_residual.result c.from_residual.ensures.1 in
@@ -33,7 +33,7 @@ returns-in_err-judged c =
 pub returns : goal.returns
 returns c =
     let a = c.args in
-    let p = profile_of a.shape a.masks.now a.moves.now in
+    let p = lent a.profile.now in
     let j = c.judge_cleared in
     let h = c.in_ok-judged.was in
     record {

@@ -26,7 +26,7 @@ loop-low-preserved-then-next_place-place c =
     let l = c.loop-low in
     let m = l.low + (l.high - l.low) / 2 in
     let h : m ≤ count (λ a. a) a.log.now a.y = omega arith in
-    let e = placed_at a.k a.log.now a.starts.now a.places.now a.y m b.requires.placed (omega arith) h in
+    let e = placed_at a.k a.log.now a.placed.now.starts.now a.placed.now.places.now a.y m b.requires.placed (omega arith) h in
     let r = before_of a.log.now a.y m a.place h (omega arith) (omega (arith, e, c.next_place.ensures, c.if-next_place-place.true)) in
     (omega arith, omega arith, omega arith, omega (arith, r), omega arith)
 
@@ -37,7 +37,7 @@ loop-low-preserved c =
     let l = c.loop-low in
     let m = l.low + (l.high - l.low) / 2 in
     let h : m ≤ count (λ a. a) a.log.now a.y = omega arith in
-    let e = placed_at a.k a.log.now a.starts.now a.places.now a.y m b.requires.placed (omega arith) h in
+    let e = placed_at a.k a.log.now a.placed.now.starts.now a.placed.now.places.now a.y m b.requires.placed (omega arith) h in
     let r = not_before_of a.log.now a.y m a.place h (omega arith) (omega (arith, e, c.next_place.ensures, c.if-next_place-place.false)) in
     (omega arith, omega arith, omega arith, omega arith, omega (arith, r))
 

@@ -25,8 +25,8 @@ loop-y-init c =
     let b = c in
     let a = b.args in
     let n = count_field layout a.c.now a.x in (
-      c.next_place-own.ensures ∙ ap (λ i. get_or a.places.now (get_or a.starts.now a.x 0 + i) 0) c.count_of.ensures
-          ∙ placed_at a.k a.log.now a.starts.now a.places.now a.x n b.requires.placed b.requires.within.letter (lt_le n (count (λ a. a) a.log.now a.x) b.requires.within.left),
+      c.next_place-own.ensures ∙ ap (λ i. get_or a.placed.now.places.now (get_or a.placed.now.starts.now a.x 0 + i) 0) c.count_of.ensures
+          ∙ placed_at a.k a.log.now a.placed.now.starts.now a.placed.now.places.now a.x n b.requires.placed b.requires.within.letter (lt_le n (count (λ a. a) a.log.now a.x) b.requires.within.left),
       sym (left_none a.log.now a.c.now c.next_place-own.result),
     )
 

@@ -4,7 +4,7 @@ use mathlib.Core.Path.{◌≡◌, subst}
 use mathlib.Core.List.{◌++◌}
 use Prim.Native.Nat.{ℕ, ◌-◌, ◌*◌}
 use lib.ListN.{drop, take}
-use Rattle.profile.specs.Automata.{profile_of}
+use Rattle.profile.specs.Automata.{lent}
 use Rattle.profile.specs.Tables.{layout, record_length}
 use native.Mathlib.Omega.{arith}
 use Rattle.terms.specs.Coded.{rules_of}
@@ -20,7 +20,7 @@ fill_backward-requires c =
     let s = c in
     let x = c.fill_forward in
     let a = s.args in
-    let p = rules_of (profile_of a.shape a.masks.now a.moves.now) a.termed in
+    let p = rules_of (lent a.profile.now) a.termed in
     let z : ℕ = record_length layout * a.room - 0 in
     let e : z ≡ record_length layout * a.room = omega arith in
     let q : x.result ≡ Some c.in_ok-pass.pass = grind arith in
@@ -32,7 +32,7 @@ returns-in_err-pass c =
     let s = c in
     let x = c.fill_forward in
     let a = s.args in
-    let p = rules_of (profile_of a.shape a.masks.now a.moves.now) a.termed in
+    let p = rules_of (lent a.profile.now) a.termed in
     let z : ℕ = record_length layout * a.room - 0 in
     let e : z ≡ record_length layout * a.room = omega arith in
     let q : x.result ≡ None = grind arith in
@@ -46,7 +46,7 @@ returns c =
     let s = c in
     let x = c.fill_forward in
     let a = s.args in
-    let p = rules_of (profile_of a.shape a.masks.now a.moves.now) a.termed in
+    let p = rules_of (lent a.profile.now) a.termed in
     let z : ℕ = record_length layout * a.room - 0 in
     let e : z ≡ record_length layout * a.room = omega arith in
     let q : x.result ≡ Some c.in_ok-pass.pass = grind arith in

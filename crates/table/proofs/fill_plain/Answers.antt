@@ -12,9 +12,9 @@ pub fill-requires : goal.fill-requires
 fill-requires c =
     let s = c in
     let e = c.place_events in
-    let k = s.args.shape.k in
+    let k = s.args.profile.now.shape.k in
     let w = s.args.log.now in record {
       sound = s.requires;
-      finds = λ v h. ap₂ (λ i q. letters_by (independent s.args.masks.now) k (length w) i q (packed layout v)) e.ensures.0 e.ensures.1
-          ∙ letters_placed (independent s.args.masks.now) k w v _ _ s.requires.log.short s.requires.profile.relation.most h s.requires.log.apart s.requires.log.letters;
+      finds = λ v h. ap₂ (λ i q. letters_by (independent s.args.profile.now.masks.now) k (length w) i q (packed layout v)) e.ensures.0 e.ensures.1
+          ∙ letters_placed (independent s.args.profile.now.masks.now) k w v _ _ s.requires.log.short s.requires.profile.relation.most h s.requires.log.apart s.requires.log.letters;
     }

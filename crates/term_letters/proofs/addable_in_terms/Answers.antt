@@ -52,12 +52,12 @@ returns c =
     let nx = c.next_places in
     let af = c.next_places-2 in
     let z : List ℕ = drop a.k (replicate most_letters 0) in
-    let en : nx.new.next ≡ next_by a.k a.starts.now a.places.now (words a.c) ++ z =
+    let en : nx.new.next ≡ next_by a.k a.placed.now.starts.now a.placed.now.places.now (words a.c) ++ z =
     nx.ensures in
-    let ea : af.new.next ≡ next_by a.k a.starts.now a.turns.now (words a.c) ++ z =
+    let ea : af.new.next ≡ next_by a.k a.placed.now.starts.now a.turns.now (words a.c) ++ z =
     af.ensures in
-    let f : filter (passes may a.k a.n nx.new.next af.new.next) (below l.x) ≡ letters_in_terms may a.k a.n a.starts.now a.places.now a.turns.now (words a.c) =
+    let f : filter (passes may a.k a.n nx.new.next af.new.next) (below l.x) ≡ letters_in_terms may a.k a.n a.placed.now.starts.now a.placed.now.places.now a.turns.now (words a.c) =
     ap (λ x. filter (passes may a.k a.n nx.new.next af.new.next) (below x)) e
     ∙ ap₂ (λ u v. filter (passes may a.k a.n u v) (below a.k)) en ea
-    ∙ terms_first a.masks.now a.k a.n a.starts.now a.places.now a.turns.now (words a.c) z z in
+    ∙ terms_first a.masks.now a.k a.n a.placed.now.starts.now a.placed.now.places.now a.turns.now (words a.c) z z in
     (l.invariant.1 ∙ ap (union (λ y. 2 ^ y)) f, l.invariant.2 ∙ ap length f)

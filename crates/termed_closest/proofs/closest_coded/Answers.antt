@@ -3,7 +3,7 @@ use borrow.Author.Rules.{rules}
 use mathlib.Core.Path.{sym, subst}
 use mathlib.Core.Bool.{true}
 use Rattle.std.proofs.lemmas.Result.{err_from_is_err_and}
-use Rattle.profile.specs.Automata.{profile_of}
+use Rattle.profile.specs.Automata.{lent}
 use Rattle.terms.specs.Coded.{rules_of}
 use Rattle.table.specs.Table.{Fills}
 use Rattle.termed_judge.proofs.Answers.{ready}
@@ -15,7 +15,7 @@ answer-requires c =
     let s = c in
     let a = s.args in
     let b = c.fill_coded in
-    let p = rules_of (profile_of a.shape a.masks.now a.moves.now) true in
+    let p = rules_of (lent a.profile.now) true in
     let h = subst (Fills p a.codes.now a.work.now b.new.table) c.in_ok-prefixes.was b.ensures in
     record {
       table = ready p a.codes.now a.order.now a.work.now b.new.table _ h s.requires.coded_call.profile s.requires.coded_call.events b.auto.table;
@@ -28,7 +28,7 @@ pub returns-in_err-prefixes : goal.returns-in_err-prefixes
 returns-in_err-prefixes c =
     let a = c.args in
     let b = c.fill_coded in
-    let p = rules_of (profile_of a.shape a.masks.now a.moves.now) true in
+    let p = rules_of (lent a.profile.now) true in
     let h = subst (Fills p a.codes.now a.work.now b.new.table) c.in_err-prefixes.was b.ensures in
     let e = err_from_is_err_and c.from_residual.result c.from_residual.ensures.1 in
     rw (e.1, e.2) (told_refused p a.codes.now a.budget a.order.now a.work.now b.new.table a.costs.now _ h)
@@ -37,7 +37,7 @@ pub returns : goal.returns
 returns c =
     let a = c.args in
     let b = c.fill_coded in
-    let p = rules_of (profile_of a.shape a.masks.now a.moves.now) true in
+    let p = rules_of (lent a.profile.now) true in
     let h = subst (Fills p a.codes.now a.work.now b.new.table) c.in_ok-prefixes.was b.ensures in
     let o = c.answer in
     told_answer p a.codes.now a.budget a.order.now a.work.now b.new.table a.costs.now _ h o.new.order o.new.costs o.result o.ensures

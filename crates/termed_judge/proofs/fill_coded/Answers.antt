@@ -2,7 +2,7 @@
 use mathlib.Core.Path.{ap}
 use native.Mathlib.Omega.{arith}
 use lib.ListN.{length, length-map}
-use Rattle.profile.specs.Automata.{profile_of}
+use Rattle.profile.specs.Automata.{lent}
 use Rattle.terms.specs.Coded.{code_letter}
 use Rattle.termed_judge.proofs.Finding.{finds}
 use Rattle.termed_judge.proofs.fill_coded.Goals as goal
@@ -20,5 +20,5 @@ fill-requires c =
     let e = c.place_events in
     let t = c.put_turns in record {
       sound = record { profile = s.requires.profile; log = s.requires.events; place = c.capacity-room.ensures };
-      finds = finds (profile_of a.shape a.masks.now a.moves.now) a.log.now a.codes.now _ _ _ _ _ _ s.requires e.ensures.0 e.ensures.1 t.ensures;
+      finds = finds (lent a.profile.now) a.log.now a.codes.now _ _ _ _ _ _ s.requires e.ensures.0 e.ensures.1 t.ensures;
     }

@@ -1,7 +1,7 @@
 -- `verdict::judge` meets its contract: 9 is told before building, and what is told of the order and the table follows from the table's promise.
 use borrow.Author.Rules.{rules}
 use mathlib.Core.Path.{sym, ◌∙◌, subst}
-use Rattle.profile.specs.Automata.{profile_of}
+use Rattle.profile.specs.Automata.{lent}
 use Rattle.std.proofs.lemmas.Result.{err_from_is_err_and}
 use Rattle.table.specs.Table as Built
 use Rattle.verdict.proofs.Judging.{ready, told_none, told_refused, told_short, told_some}
@@ -10,15 +10,15 @@ use Rattle.verdict.proofs.judge.Goals as goal
 pub returns-then-order-log : goal.returns-then-order-log
 returns-then-order-log c =
     let a = c.args in
-    told_short (profile_of a.shape a.masks.now a.moves.now) a.log.now a.order.now a.work.now c.if-order-log.true c.refusal_of_short.ensures
+    told_short (lent a.profile.now) a.log.now a.order.now a.work.now c.if-order-log.true c.refusal_of_short.ensures
 
 pub returns-in_err-prefixes : goal.returns-in_err-prefixes
 returns-in_err-prefixes c =
     let a = c.args in
     let t = c.build.new.table in
-    let h = subst (Built.Promise (profile_of a.shape a.masks.now a.moves.now) a.log.now a.work.now t) c.in_err-prefixes.was c.build.ensures in
+    let h = subst (Built.Promise (lent a.profile.now) a.log.now a.work.now t) c.in_err-prefixes.was c.build.ensures in
     let e = err_from_is_err_and c.from_residual.result c.from_residual.ensures.1 in
-    rw (e.1, e.2) (told_refused (profile_of a.shape a.masks.now a.moves.now) a.log.now a.order.now a.work.now c.if-order-log.false t _ h)
+    rw (e.1, e.2) (told_refused (lent a.profile.now) a.log.now a.order.now a.work.now c.if-order-log.false t _ h)
 
 pub returns-then-put_verdict : goal.returns-then-put_verdict
 returns-then-put_verdict c =
@@ -26,8 +26,8 @@ returns-then-put_verdict c =
     let b = c.build in
     let t = b.new.table in
     let v = c.put_verdict in
-    let h = subst (Built.Promise (profile_of a.shape a.masks.now a.moves.now) a.log.now a.work.now t) c.in_ok-prefixes.was b.ensures in
-    told_some (profile_of a.shape a.masks.now a.moves.now) a.log.now a.order.now a.work.now c.if-order-log.false t _ h v.new.order
+    let h = subst (Built.Promise (lent a.profile.now) a.log.now a.work.now t) c.in_ok-prefixes.was b.ensures in
+    told_some (lent a.profile.now) a.log.now a.order.now a.work.now c.if-order-log.false t _ h v.new.order
     (sym c.put_verdict.ensures.value ∙ c.if-put_verdict.true) v.ensures.order_after
 
 pub returns-else-put_verdict : goal.returns-else-put_verdict
@@ -36,8 +36,8 @@ returns-else-put_verdict c =
     let b = c.build in
     let t = b.new.table in
     let v = c.put_verdict in
-    let h = subst (Built.Promise (profile_of a.shape a.masks.now a.moves.now) a.log.now a.work.now t) c.in_ok-prefixes.was b.ensures in
-    told_none (profile_of a.shape a.masks.now a.moves.now) a.log.now a.order.now a.work.now c.if-order-log.false t _ h v.new.order
+    let h = subst (Built.Promise (lent a.profile.now) a.log.now a.work.now t) c.in_ok-prefixes.was b.ensures in
+    told_none (lent a.profile.now) a.log.now a.order.now a.work.now c.if-order-log.false t _ h v.new.order
     (sym c.put_verdict.ensures.value ∙ c.if-put_verdict.false) v.ensures.order_after
 
 pub put_verdict-requires : goal.put_verdict-requires
@@ -45,8 +45,8 @@ put_verdict-requires c =
     let a = c.args in
     let b = c.build in
     let t = b.new.table in
-    let h = subst (Built.Promise (profile_of a.shape a.masks.now a.moves.now) a.log.now a.work.now t) c.in_ok-prefixes.was b.ensures in record {
-      table = ready (profile_of a.shape a.masks.now a.moves.now) a.log.now a.order.now a.work.now c.if-order-log.false t _ h b.auto.table;
+    let h = subst (Built.Promise (lent a.profile.now) a.log.now a.work.now t) c.in_ok-prefixes.was b.ensures in record {
+      table = ready (lent a.profile.now) a.log.now a.order.now a.work.now c.if-order-log.false t _ h b.auto.table;
       records_value = h.table.0;
       log_in_bounds = c.if-order-log.false;
     }
