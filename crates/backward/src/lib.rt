@@ -2,18 +2,17 @@
 #![tactic(auto)]
 
 ghost use Rattle.std.specs.Prelude.{◌≡◌, ℕ, ◌+◌, ◌*◌, ◌<◌, ◌≤◌, ◌++◌, length, drop, slice_index};
-ghost use Rattle.profile.specs.Limits.{most_letters, most_states};
+ghost use Rattle.profile.specs.Limits.{most_letters};
 ghost use Rattle.profile.specs.Automata.{lent};
 ghost use Rattle.terms.specs.Coded.{rules_of};
 ghost use Rattle.profile.specs.Tables.{layout, record_length};
 ghost use Rattle.profile.specs.Traces.{bit};
-ghost use Rattle.rows.specs.Rows.{by_letter};
 ghost use Rattle.backward.specs.Backward.{Drafted, Inside, back_from, clear_at, cleared, done_at, filled_all, flag_before, flags as flags_in, moved, with_flags, without_flags};
 
 use profile::Profile;
-use profile::limits::{MOST_LETTERS, MOST_MOVES};
+use profile::limits::MOST_LETTERS;
 use records::{RECORD, last_at};
-use rows::{backward_by, by_letter};
+use rows::Rows;
 
 // What a count stays below: the bits from here on of a count are free.
 const FREE: u32 = 4096;
@@ -56,23 +55,16 @@ fn flagged_before(table: &[u32], from: usize, x: usize) -> usize
     0
 }
 
-// The backward set of record j, from the records that have one more of a letter that can be added; the letter's cursor moves to that record; `rows` are the
-// moves by letter. Each turn takes the lowest letter out of those that are left.
-fn back_of(
-    table: &[u32],
-    j: usize,
-    k: usize,
-    s: usize,
-    moves: &[u32],
-    rows: &[u32; MOST_MOVES],
-    cursors: &mut [usize],
-) -> u32
-    requires k_le_most_letters { (k ≤ most_letters) × (s ≤ most_states) × (k ≤ length cursors.old) }
-    requires inside { Inside table.now j k (λ x. slice_index cursors.old x) }
-    requires rows_value { rows.now ≡ by_letter k s moves.now }
-    ensures value { result ≡ back_from table.now j k s moves.now (λ x. slice_index cursors.old x) }
-    ensures by_index { (x : ℕ) → x < k → slice_index cursors.new x ≡ moved table.now j (λ x. slice_index cursors.old x) x }
+// The backward set of record j, from the records that have one more of a letter that can be added; the letter's cursor moves to that record. Each turn takes
+// the lowest letter out of those that are left.
+fn back_of(table: &[u32], j: usize, rows: &Rows, cursors: &mut [usize]) -> u32
+    requires k_in_bounds { rows.now.profile.shape.k ≤ length cursors.old }
+    requires inside { Inside table.now j rows.now.profile.shape.k (λ x. slice_index cursors.old x) }
+    ensures value { result
+        ≡ back_from table.now j rows.now.profile.shape.k rows.now.profile.shape.s rows.now.profile.moves.now (λ x. slice_index cursors.old x) }
+    ensures by_index { (x : ℕ) → x < rows.now.profile.shape.k → slice_index cursors.new x ≡ moved table.now j (λ x. slice_index cursors.old x) x }
 {
+    let k = rows.profile.shape.k;
     let letters = last_at(table, j) % HALF;
     let mut out = 0u32;
     let mut rest = letters;
@@ -82,7 +74,7 @@ fn back_of(
             let from = cursors[x];
             let r = flagged_before(table, from, x);
             cursors[x] = r;
-            out = out | backward_by(rows, s, last_at(table, r), x);
+            out = out | rows.backward_by(last_at(table, r), x);
         }
         rest = rest & (rest - 1);
     }
@@ -154,21 +146,12 @@ pub fn fill_backward(table: &mut [u32], records: usize, profile: &Profile, log: 
         ++ drop (record_length layout * records) table.old }
 {
     let finals = profile.shape.finals;
-    let mut rows = [0u32; MOST_MOVES];
-    by_letter(profile.moves, profile.shape.k, profile.shape.s, &mut rows);
+    let rows = Rows::of(profile);
     let mut cursors = [records; MOST_LETTERS];
     let last = records - 1;
     put_done(table, last, finals);
     for j in (0..last).rev() {
-        let back = back_of(
-            table,
-            j,
-            profile.shape.k,
-            profile.shape.s,
-            profile.moves,
-            &rows,
-            &mut cursors,
-        );
+        let back = back_of(table, j, &rows, &mut cursors);
         put_done(table, j, back);
     }
     clear_flags(table, records);

@@ -2,6 +2,7 @@
 use Rattle.std.specs.Prelude.{Option, Some, None, ◌≡◌, Bool, List, [], ◌++◌, ℕ, suc, ◌+◌, ◌-◌, ◌*◌, ◌≤◌, ◌<◌, length, get_or, take, drop}
 use Rattle.std.proofs.Math.Option.{none, some}
 use Rattle.profile.specs.Limits.{most_letters}
+use Rattle.profile.specs.Automata.{Profile}
 use Rattle.profile.specs.Rules.{Rules}
 use Rattle.profile.specs.Lists.{below, flat_map}
 use Rattle.profile.specs.Prefixes.{at}
@@ -15,7 +16,6 @@ use Rattle.events.specs.Events.{all_keepers}
 use Rattle.cursors.specs.Cursors.{advanced}
 use Rattle.merge.specs.declared.Handed.{Handed}
 use Rattle.merge.specs.Merge.{givers, inherited, least_of, passing, united}
-use Rattle.rows.specs.Rows.{by_letter}
 use Rattle.forward.specs.declared.Part.{Part}
 use Rattle.forward.specs.Forward.{Ready}
 use Rattle.records.specs.Drafts.{drafted, letters_of, of_total}
@@ -32,9 +32,9 @@ module _ (p : Rules) (w : List ℕ) where
   abbrev pub begun : List (List ℕ) → List ℕ → List ℕ
   begun C t = drafted p w C ++ drop (record_length layout * length C) t
 
--- what is computed once for all records: the moves by letter, and the letters that keep each letter from coming next
-abbrev pub Prepared : Rules → List ℕ → List ℕ → Type 0
-Prepared p rows keepers = (rows ≡ by_letter p.profile.k p.profile.s p.profile.moves) × (keepers ≡ all_keepers (independent p.profile.masks) p.profile.k)
+-- what is computed once for all records: the letters that keep each letter from coming next
+abbrev pub Prepared : Rules → List ℕ → Type 0
+Prepared p keepers = (keepers ≡ all_keepers (independent p.profile.masks) p.profile.k)
 
 -- the records of the table from record a on and before record b
 abbrev pub records_between : List ℕ → ℕ → ℕ → List ℕ
@@ -52,7 +52,7 @@ Standing p w table a starts places turns termed = Ready p w (length table) a.roo
 
 -- where total t + 1 stands, if it has n records
 abbrev pub part_behind : Part → ℕ → Part
-part_behind a n = record { shape = a.shape; room = a.room; t = a.t + 1; from = a.first; first = a.first + n }
+part_behind a n = record { room = a.room; t = a.t + 1; from = a.first; first = a.first + n }
 
 -- total t + 1 is put behind them, or does not fit
 abbrev pub Grows : Rules → List ℕ → ℕ → ℕ → ℕ → List ℕ → List ℕ → Option (ℕ × ℕ) → Type 0
@@ -94,12 +94,12 @@ Steps p w room t first j before after cursors (Some (Some n)) =
     × Placed p w t (suc j) cursors
 
 -- the counts that come next by the cursors, the letters of these, and what the records there hand on; the cursors move on
-abbrev pub Comes : ℕ → ℕ → List ℕ → List ℕ → List ℕ → List ℕ → List ℕ → Option (Counts × ℕ × Handed) → Type 0
-Comes k s masks moves t before after None = least_of t k before ≡ none
-Comes k s masks moves t before after (Some n) =
-    (least_of t k before ≡ some (words n.0))
-    × (n.2.forward ≡ united k s moves t before (givers t k before))
-    × (n.2.letters ≡ inherited k t before (givers t k before))
-    × (n.2.passed ≡ passing k masks (givers t k before))
-    × (after ≡ advanced k t before (givers t k before))
-    × (n.1 ≡ givers t k before)
+abbrev pub Comes : Profile → List ℕ → List ℕ → List ℕ → Option (Counts × ℕ × Handed) → Type 0
+Comes p t before after None = least_of t p.k before ≡ none
+Comes p t before after (Some n) =
+    (least_of t p.k before ≡ some (words n.0))
+    × (n.2.forward ≡ united p.k p.s p.moves t before (givers t p.k before))
+    × (n.2.letters ≡ inherited p.k t before (givers t p.k before))
+    × (n.2.passed ≡ passing p.k p.masks (givers t p.k before))
+    × (after ≡ advanced p.k t before (givers t p.k before))
+    × (n.1 ≡ givers t p.k before)

@@ -2,8 +2,8 @@
 #![tactic(auto)]
 
 ghost use Rattle.std.specs.Prelude.{◌≡◌, [], ◌∷◌, ◌++◌, suc, ◌+◌, ◌*◌, ◌≤◌, ◌<◌, length, replicate};
-ghost use Rattle.profile.specs.Limits.{most_letters, most_states};
-ghost use Rattle.profile.specs.Automata.{lent, profile_of};
+ghost use Rattle.profile.specs.Limits.{most_letters};
+ghost use Rattle.profile.specs.Automata.{lent};
 ghost use Rattle.profile.specs.Refusals.{longest};
 ghost use Rattle.profile.specs.Tables.{layout, record_length};
 ghost use Rattle.profile.specs.Traces.{independent};
@@ -12,15 +12,15 @@ ghost use Rattle.counts.specs.Counts.{words};
 ghost use Rattle.events.specs.Events.{all_keepers};
 ghost use Rattle.cursors.specs.Cursors.{started};
 ghost use Rattle.records.specs.Records.{put_record};
-ghost use Rattle.rows.specs.Rows.{by_letter};
 ghost use Rattle.forward.specs.Forward.{Forward, Ready};
 ghost use Rattle.forward.specs.Merging.{Comes, Grows, Halfway, Prepared, Standing, Steps, begun, pairs, part_behind, records_between, totals};
 
 use counts::Counts;
 use merge::Handed;
-use profile::limits::{MOST_LETTERS, MOST_MOVES, Place};
-use profile::{Places, Profile, Shape};
+use profile::limits::{MOST_LETTERS, Place};
+use profile::{Places, Profile};
 use records::RECORD;
+use rows::Rows;
 
 // The bits of the half of a record's last number that has the letters that can be added; above it are those that lead to the record.
 const HALF: u32 = 16;
@@ -32,11 +32,10 @@ pub struct Filled {
     pub looks: u64,
 }
 
-// Where total t of a profile of this shape stands in a table that `room` records fit: from record `from` to before record `first`, at which the
+// Where total t stands in a table that `room` records fit: from record `from` to before record `first`, at which the
 // next total begins.
 #[derive(Clone, Copy)]
 struct Part {
-    shape: Shape,
     room: usize,
     t: usize,
     from: usize,
@@ -46,27 +45,25 @@ struct Part {
 // Puts the record of the empty prefix; the number of letters that can be added to it.
 fn put_first(
     table: &mut [u32],
-    shape: Shape,
-    masks: &[u16],
+    profile: &Profile,
     keepers: &[u32; MOST_LETTERS],
-    moves: &[u32],
     log: &[u8],
     placed: &Places,
     turns: &[Place],
     termed: bool,
 ) -> u32
-    requires keepers_value { keepers.now ≡ all_keepers (independent masks.now) shape.k }
-    requires ready { Ready (rules_of (profile_of shape masks.now moves.now) termed) log.now (length table.old) 1 placed.now.starts.now placed.now.places.now turns.now termed }
-    ensures { (result ≡ pairs (rules_of (profile_of shape masks.now moves.now) termed) log.now (totals (rules_of (profile_of shape masks.now moves.now) termed) log.now 1))
-        × (table.new ≡ begun (rules_of (profile_of shape masks.now moves.now) termed) log.now (totals (rules_of (profile_of shape masks.now moves.now) termed) log.now 1) table.old) }
+    requires keepers_value { keepers.now ≡ all_keepers (independent profile.now.masks.now) profile.now.shape.k }
+    requires ready { Ready (rules_of (lent profile.now) termed) log.now (length table.old) 1 placed.now.starts.now placed.now.places.now turns.now termed }
+    ensures { (result ≡ pairs (rules_of (lent profile.now) termed) log.now (totals (rules_of (lent profile.now) termed) log.now 1))
+        × (table.new ≡ begun (rules_of (lent profile.now) termed) log.now (totals (rules_of (lent profile.now) termed) log.now 1) table.old) }
 {
-    let k = shape.k;
-    let start = shape.start;
+    let k = profile.shape.k;
+    let start = profile.shape.start;
     let c = counts::none_counted();
     let letters = if termed {
-        term_letters::addable_in_terms(c, k, masks, keepers, log.len(), placed, turns)
+        term_letters::addable_in_terms(c, k, profile.masks, keepers, log.len(), placed, turns)
     } else {
-        letters::addable(c, k, masks, keepers, log.len(), placed)
+        letters::addable(c, k, profile.masks, keepers, log.len(), placed)
     };
     records::put(table, 0, c, 1u32 << start, letters.set);
     letters.number
@@ -74,21 +71,15 @@ fn put_first(
 
 // The next counts by the cursors, of the total after the one in `level`, the letters that lead to them, and what the records from which these lead hand
 // on; none where there are none. Their cursors move on.
-fn next_counts(
-    level: &[u32],
-    k: usize,
-    s: usize,
-    masks: &[u16],
-    moves: &[u32],
-    rows: &[u32; MOST_MOVES],
-    cursors: &mut [usize],
-) -> Option<(Counts, u32, Handed)>
-    requires k_le_most_letters { (k ≤ most_letters) × (s ≤ most_states) × (most_letters ≤ length cursors.old) × (k ≤ length masks.now) }
-    requires rows_value { rows.now ≡ by_letter k s moves.now }
-    ensures { Comes k s masks.now moves.now level.now cursors.old cursors.new result }
+fn next_counts(level: &[u32], rows: &Rows, cursors: &mut [usize]) -> Option<(Counts, u32, Handed)>
+    requires { (rows.now.profile.shape.k ≤ most_letters)
+        × (most_letters ≤ length cursors.old)
+        × (rows.now.profile.shape.k ≤ length rows.now.profile.masks.now) }
+    ensures { Comes (lent rows.now.profile) level.now cursors.old cursors.new result }
 {
+    let k = rows.profile.shape.k;
     let (c, set) = merge::least_counts(level, k, cursors)?;
-    let handed = merge::unite(level, moves, rows, masks, k, s, cursors, set);
+    let handed = merge::unite(level, rows, cursors, set);
     cursors::advance(level, k, cursors, set);
     Some((c, set, handed))
 }
@@ -107,9 +98,7 @@ fn merge_next(
     table: &mut [u32],
     part: Part,
     j: usize,
-    masks: &[u16],
-    moves: &[u32],
-    rows: &[u32; MOST_MOVES],
+    rows: &Rows,
     keepers: &[u32; MOST_LETTERS],
     log: &[u8],
     placed: &Places,
@@ -117,17 +106,16 @@ fn merge_next(
     turns: &[Place],
     termed: bool,
 ) -> Option<Option<u32>>
-    requires halfway { Halfway (rules_of (profile_of part.shape masks.now moves.now) termed) log.now table.old part j cursors.old placed.now.starts.now placed.now.places.now turns.now termed }
-    requires prepared { Prepared (rules_of (profile_of part.shape masks.now moves.now) termed) rows.now keepers.now }
-    ensures { Steps (rules_of (profile_of part.shape masks.now moves.now) termed) log.now part.room part.t part.first j table.old table.new cursors.new result }
+    requires halfway { Halfway (rules_of (lent rows.now.profile) termed) log.now table.old part j cursors.old placed.now.starts.now placed.now.places.now turns.now termed }
+    requires prepared { Prepared (rules_of (lent rows.now.profile) termed) keepers.now }
+    ensures { Steps (rules_of (lent rows.now.profile) termed) log.now part.room part.t part.first j table.old table.new cursors.new result }
 {
-    let k = part.shape.k;
-    let s = part.shape.s;
+    let k = rows.profile.shape.k;
     let room = part.room;
     let first = part.first;
     let start = RECORD * part.from;
     let end = RECORD * first;
-    let next = next_counts(&table[start..end], k, s, masks, moves, rows, cursors);
+    let next = next_counts(&table[start..end], rows, cursors);
     match next {
         None => Some(None),
         Some((c, from, handed)) => {
@@ -137,7 +125,7 @@ fn merge_next(
                     let found = term_letters::addable_in_terms(
                         c,
                         k,
-                        masks,
+                        rows.profile.masks,
                         keepers,
                         log.len(),
                         placed,
@@ -147,7 +135,16 @@ fn merge_next(
                 } else {
                     // What is handed on can be added. What may pass one of the letters that lead here, and is not handed on, cannot. The others are tested.
                     let open = letters::in_neither(k, handed.letters, handed.passed);
-                    handed.letters | letters::tested(c, k, masks, keepers, log.len(), placed, open)
+                    handed.letters
+                        | letters::tested(
+                            c,
+                            k,
+                            rows.profile.masks,
+                            keepers,
+                            log.len(),
+                            placed,
+                            open,
+                        )
                 };
                 put_in(table, first, j, c, handed.forward, set | (from << HALF));
                 Some(Some(u32::count_ones(set)))
@@ -174,19 +171,17 @@ fn first_cursors(table: &[u32], part: Part, k: usize) -> [usize; MOST_LETTERS]
 fn fill_total(
     table: &mut [u32],
     part: Part,
-    masks: &[u16],
-    moves: &[u32],
-    rows: &[u32; MOST_MOVES],
+    rows: &Rows,
     keepers: &[u32; MOST_LETTERS],
     log: &[u8],
     placed: &Places,
     turns: &[Place],
     termed: bool,
 ) -> Option<(usize, u64)>
-    requires { Standing (rules_of (profile_of part.shape masks.now moves.now) termed) log.now table.old part placed.now.starts.now placed.now.places.now turns.now termed × Prepared (rules_of (profile_of part.shape masks.now moves.now) termed) rows.now keepers.now }
-    ensures { Grows (rules_of (profile_of part.shape masks.now moves.now) termed) log.now part.room part.t part.first table.old table.new result }
+    requires { Standing (rules_of (lent rows.now.profile) termed) log.now table.old part placed.now.starts.now placed.now.places.now turns.now termed × Prepared (rules_of (lent rows.now.profile) termed) keepers.now }
+    ensures { Grows (rules_of (lent rows.now.profile) termed) log.now part.room part.t part.first table.old table.new result }
 {
-    let mut cursors = first_cursors(table, part, part.shape.k);
+    let mut cursors = first_cursors(table, part, rows.profile.shape.k);
     let mut pairs = 0u64;
     let mut j = 0;
     // Kept: a `for` has no end to go to, since only the merge tells how many records the total has.
@@ -194,8 +189,6 @@ fn fill_total(
         table,
         part,
         j,
-        masks,
-        moves,
         rows,
         keepers,
         log,
@@ -215,9 +208,7 @@ fn next_part(part: Part, records: usize) -> Part
     requires { (part.t < longest) × (part.first + records ≤ part.room) }
     ensures { result ≡ part_behind part records }
 {
-    let shape = part.shape;
     Part {
-        shape: shape,
         room: part.room,
         t: part.t + 1,
         from: part.first,
@@ -230,26 +221,22 @@ fn fill_totals(
     table: &mut [u32],
     part: Part,
     number: u32,
-    masks: &[u16],
-    moves: &[u32],
-    rows: &[u32; MOST_MOVES],
+    rows: &Rows,
     keepers: &[u32; MOST_LETTERS],
     log: &[u8],
     placed: &Places,
     turns: &[Place],
     termed: bool,
 ) -> Option<Filled>
-    requires standing { Standing (rules_of (profile_of part.shape masks.now moves.now) termed) log.now table.old part placed.now.starts.now placed.now.places.now turns.now termed }
-    requires t_in_bounds { ((part.t ≤ length log.now) × (number ≡ pairs (rules_of (profile_of part.shape masks.now moves.now) termed) log.now (totals (rules_of (profile_of part.shape masks.now moves.now) termed) log.now (suc part.t)))) × Prepared (rules_of (profile_of part.shape masks.now moves.now) termed) rows.now keepers.now }
-    ensures { Forward (rules_of (profile_of part.shape masks.now moves.now) termed) log.now part.room table.old table.new result }
+    requires standing { Standing (rules_of (lent rows.now.profile) termed) log.now table.old part placed.now.starts.now placed.now.places.now turns.now termed }
+    requires t_in_bounds { ((part.t ≤ length log.now) × (number ≡ pairs (rules_of (lent rows.now.profile) termed) log.now (totals (rules_of (lent rows.now.profile) termed) log.now (suc part.t)))) × Prepared (rules_of (lent rows.now.profile) termed) keepers.now }
+    ensures { Forward (rules_of (lent rows.now.profile) termed) log.now part.room table.old table.new result }
 {
     let mut at = part;
     let mut looks = number as u64;
     // Kept: the part has the number of its total, which the next part comes from; a `for` would count the totals twice.
     while at.t < log.len() {
-        let (records, pairs) = fill_total(
-            table, at, masks, moves, rows, keepers, log, placed, turns, termed,
-        )?;
+        let (records, pairs) = fill_total(table, at, rows, keepers, log, placed, turns, termed)?;
         at = next_part(at, records);
         looks += pairs;
     }
@@ -276,37 +263,15 @@ pub fn fill_forward(
         return None;
     }
     let keepers = events::all_keepers(profile.masks, profile.shape.k);
-    let number = put_first(
-        table,
-        profile.shape,
-        profile.masks,
-        &keepers,
-        profile.moves,
-        log,
-        placed,
-        turns,
-        termed,
-    );
-    let mut rows = [0u32; MOST_MOVES];
-    rows::by_letter(profile.moves, profile.shape.k, profile.shape.s, &mut rows);
+    let number = put_first(table, profile, &keepers, log, placed, turns, termed);
+    let rows = Rows::of(profile);
     let part = Part {
-        shape: profile.shape,
         room: room,
         t: 0,
         from: 0,
         first: 1,
     };
     fill_totals(
-        table,
-        part,
-        number,
-        profile.masks,
-        profile.moves,
-        &rows,
-        &keepers,
-        log,
-        placed,
-        turns,
-        termed,
+        table, part, number, &rows, &keepers, log, placed, turns, termed,
     )
 }

@@ -5,15 +5,15 @@
 ghost use Rattle.std.specs.Prelude.{◌≡◌, ◌≤◌, ◌<◌, length, get_or};
 ghost use Rattle.std.proofs.Math.Option.{some};
 ghost use Rattle.std.specs.Int.Bits.{bit_or};
-ghost use Rattle.profile.specs.Limits.{most_letters, most_states};
+ghost use Rattle.profile.specs.Automata.{forward_step};
+ghost use Rattle.profile.specs.Limits.{most_letters};
 ghost use Rattle.counts.specs.Counts.{words};
-ghost use Rattle.rows.specs.Rows.{by_letter, forward_by};
 ghost use Rattle.records.specs.Records.{forward_at, records_in};
 ghost use Rattle.cursors.specs.Cursors.{Given};
 ghost use Rattle.merge.specs.Merge.{better, candidate, givers, inherited, joined, least_letters, least_of, least_words, other_letters, passing, united};
 
 use counts::Counts;
-use profile::limits::MOST_MOVES;
+use rows::Rows;
 
 // The half of a record's last number that has the letters that can be added.
 const LETTERS: u32 = 65535;
@@ -79,23 +79,16 @@ pub struct Handed {
 }
 
 // What is handed on, with record j and letter x beside the records before.
-fn with_parent(
-    level: &[u32],
-    rows: &[u32; MOST_MOVES],
-    masks: &[u16],
-    s: usize,
-    j: usize,
-    x: usize,
-    out: Handed,
-) -> Handed
-    requires { (s ≤ most_states) × (x < most_letters) × (x < length masks.now) × (j < records_in level.now) }
-    ensures { (result.forward ≡ bit_or out.forward (forward_by s rows.now (forward_at level.now j) x))
+fn with_parent(level: &[u32], rows: &Rows, j: usize, x: usize, out: Handed) -> Handed
+    requires { (x < rows.now.profile.shape.k) × (x < length rows.now.profile.masks.now) × (j < records_in level.now) }
+    ensures { (result.forward
+        ≡ bit_or out.forward (forward_step rows.now.profile.shape.k rows.now.profile.shape.s rows.now.profile.moves.now (forward_at level.now j) x))
         × (result.letters ≡ bit_or out.letters (other_letters level.now j x))
-        × (result.passed ≡ bit_or out.passed (get_or masks.now x 0)) }
+        × (result.passed ≡ bit_or out.passed (get_or rows.now.profile.masks.now x 0)) }
 {
-    let forward = out.forward | rows::forward_by(rows, s, records::forward_at(level, j), x);
+    let forward = out.forward | rows.forward_by(records::forward_at(level, j), x);
     let letters = out.letters | (records::last_at(level, j) & LETTERS & !(1u32 << x));
-    let passed = out.passed | (masks[x] as u32);
+    let passed = out.passed | (rows.profile.masks[x] as u32);
     Handed {
         forward: forward,
         letters: letters,
@@ -103,26 +96,16 @@ fn with_parent(
     }
 }
 
-// What the records at the cursors of a set of letters hand on; `rows` are the moves by letter. Each turn takes the lowest letter out of those that are
-// left.
-pub fn unite(
-    level: &[u32],
-    moves: &[u32],
-    rows: &[u32; MOST_MOVES],
-    masks: &[u16],
-    k: usize,
-    s: usize,
-    cursors: &[usize],
-    set: u32,
-) -> Handed
-    requires k_le_most_letters { (k ≤ most_letters) × (s ≤ most_states) }
-    requires k_in_bounds { (k ≤ length cursors.now) × (k ≤ length masks.now) }
-    requires rows_value { rows.now ≡ by_letter k s moves.now }
-    requires given { Given k level.now cursors.now set }
-    ensures { (result.forward ≡ united k s moves.now level.now cursors.now set)
-        × (result.letters ≡ inherited k level.now cursors.now set)
-        × (result.passed ≡ passing k masks.now set) }
+// What the records at the cursors of a set of letters hand on. Each turn takes the lowest letter out of those that are left.
+pub fn unite(level: &[u32], rows: &Rows, cursors: &[usize], set: u32) -> Handed
+    requires in_bounds { (rows.now.profile.shape.k ≤ length cursors.now) × (rows.now.profile.shape.k ≤ length rows.now.profile.masks.now) }
+    requires given { Given rows.now.profile.shape.k level.now cursors.now set }
+    ensures { (result.forward
+        ≡ united rows.now.profile.shape.k rows.now.profile.shape.s rows.now.profile.moves.now level.now cursors.now set)
+        × (result.letters ≡ inherited rows.now.profile.shape.k level.now cursors.now set)
+        × (result.passed ≡ passing rows.now.profile.shape.k rows.now.profile.masks.now set) }
 {
+    let k = rows.profile.shape.k;
     let mut out = Handed {
         forward: 0,
         letters: 0,
@@ -132,7 +115,7 @@ pub fn unite(
     while rest != 0 {
         let x = u32::trailing_zeros(rest) as usize;
         if x < k {
-            out = with_parent(level, rows, masks, s, cursors[x], x, out);
+            out = with_parent(level, rows, cursors[x], x, out);
         }
         rest = rest & (rest - 1);
     }

@@ -1,2 +1,2 @@
 -- Laws about the moves by letter; the functions' proofs cite them.
-pub mod Rows
+pub mod Steps

@@ -9,8 +9,6 @@ use Rattle.profile.proofs.Lists.{is_false, is_true, test}
 use Rattle.theory.proofs.SetLoops.{lowest, rest_first, rest_in, rest_other, rest_without}
 use Rattle.profile.proofs.Sets.{not_in_none, or_assoc}
 use Rattle.records.specs.Records.{last_at, records_in}
-use Rattle.rows.specs.Rows.{backward_by}
-use Rattle.rows.proofs.Rows.{backward_same}
 use Rattle.theory.proofs.Unions.{union_in, union_none, union_out}
 use Rattle.backward.specs.Backward.{flag_before, flag?, letters_at, moved}
 use Rattle.backward.proofs.Sweep.{last_inside}
@@ -51,14 +49,15 @@ module _ (t : List ℕ) (j k : ℕ) (cursors₀ : List ℕ) (n : ℕ) (p : 0 < n
 pub loop-rest-init : goal.loop-rest-init
 loop-rest-init c =
     let a = c.args in
+    let p = a.rows.now.profile in
     let t = a.table.now in
     let from : ℕ → ℕ = λ y. get_or a.cursors.now y 0 in
-    let f : ℕ → ℕ = λ y. backward_step a.k a.s a.moves.now (last_at t (flag_before t y (from y))) y in
+    let f : ℕ → ℕ = λ y. backward_step p.shape.k p.shape.s p.moves.now (last_at t (flag_before t y (from y))) y in
     let e = ap (λ n. n % 65536) c.last_at-letters.ensures in (
       search rules,
       refl,
       λ y m. subst (λ S. T (bit S y)) e m,
-      ap (λ S. union f (filter (bit S) (below a.k))) e,
+      ap (λ S. union f (filter (bit S) (below p.shape.k))) e,
       (
         (λ y m. refl),
         λ y h m. sym (ap (λ b. cond b (flag_before t y (from y)) (from y)) (is_false (bit (letters_at t a.j) y) (subst (λ S. T (not (bit S y))) e m))),
@@ -73,16 +72,17 @@ flagged_before-r-requires c =
     let s = c in
     let l = c.loop-rest in
     let x = count_trailing_zeros 32 l.rest in
-    let h : x < s.args.k = c.if-x-k.true in
+    let h : x < s.args.rows.now.profile.shape.k = c.if-x-k.true in
     (omega (arith, l.invariant.4.0 x (rest_first l.rest (omega arith) (omega arith)), s.requires.inside.cursors_in x h), omega arith)
 
 pub last_at-requires : goal.last_at-requires
 last_at-requires c =
     let s = c in
     let a = s.args in
+    let p = a.rows.now.profile in
     let l = c.loop-rest in
     let x = count_trailing_zeros 32 l.rest in
-    let h : x < a.k = c.if-x-k.true in
+    let h : x < p.shape.k = c.if-x-k.true in
     let e = l.invariant.4.0 x (rest_first l.rest (omega arith) (omega arith)) in
     let g : flag_before a.table.now x (get_or l.cursors x 0) < records_in a.table.now =
     last_inside (flag? a.table.now x) (get_or l.cursors x 0) (records_in a.table.now) (omega (arith, e, s.requires.inside.cursors_in x h)) (omega (arith, s.requires.inside.record_in)) in
@@ -94,6 +94,7 @@ loop-rest-smaller c = let n = c.loop-rest.rest in omega (arith, and_le_r n (n - 
 pub loop-rest-preserved : goal.loop-rest-preserved
 loop-rest-preserved c =
     let a = c.args in
+    let p = a.rows.now.profile in
     let t = a.table.now in
     let l = c.loop-rest in
     let i = l.invariant in
@@ -101,8 +102,8 @@ loop-rest-preserved c =
     let x = count_trailing_zeros 32 n in
     let r = bit_and n (n - 1) in
     let from : ℕ → ℕ = λ y. get_or a.cursors.now y 0 in
-    let f : ℕ → ℕ = λ y. backward_step a.k a.s a.moves.now (last_at t (flag_before t y (from y))) y in
-    let back : ℕ → ℕ = λ S. union f (filter (bit S) (below a.k)) in
+    let f : ℕ → ℕ = λ y. backward_step p.shape.k p.shape.s p.moves.now (last_at t (flag_before t y (from y))) y in
+    let back : ℕ → ℕ = λ S. union f (filter (bit S) (below p.shape.k)) in
     let some : 0 < n = omega arith in
     let few : n < 2 ^ 32 = i.0 in
     let first = rest_first n some few in
@@ -110,35 +111,35 @@ loop-rest-preserved c =
     let less : r < 2 ^ 32 = omega (arith, and_le_r n (n - 1)) in (elim c.if-x-k.branch [
       | then-x-k w ↦ let q = w.flagged_before-r.ensures ∙ ap (flag_before t x) (i.4.0 x first) in
           let e = is_true (bit (letters_at t a.j) x) (i.2 x first) in
-          let same = backward_same a.k a.s a.moves.now a.rows.now c.requires.rows_value (omega arith) (omega arith) x w.if-x-k.true in
-          let to = w.backward_by-out.ensures ∙ ap (λ S. backward_by a.s a.rows.now S x) (w.last_at.ensures ∙ ap (last_at t) q) ∙ same (last_at t (flag_before t x (from x))) in (
+          let to = w.backward_by-out.ensures ∙ ap (λ S. backward_step p.shape.k p.shape.s p.moves.now S x) (w.last_at.ensures ∙ ap (last_at t) q) in (
             less,
             ap length w.cursors-is ∙ simp length-set i.1,
             λ y m. i.2 y (rest_in n some few y m),
             ap (λ o. bit_or o (back r)) (w.out-is ∙ ap (bit_or l.out) to) ∙ or_assoc l.out (f x) (back r)
-                ∙ ap (bit_or l.out) (sym (union_in f x r a.k w.if-x-k.true) ∙ whole) ∙ i.3,
-            subst (Moved t a.j a.k a.cursors.now r) (sym w.cursors-is)
-                (move_yes t a.j a.k a.cursors.now n some few l.cursors i.4 w.flagged_before-r.result (omega arith)
+                ∙ ap (bit_or l.out) (sym (union_in f x r p.shape.k w.if-x-k.true) ∙ whole) ∙ i.3,
+            subst (Moved t a.j p.shape.k a.cursors.now r) (sym w.cursors-is)
+                (move_yes t a.j p.shape.k a.cursors.now n some few l.cursors i.4 w.flagged_before-r.result (omega arith)
                 (q ∙ sym (ap (λ b. cond b (flag_before t x (from x)) (from x)) e))),
           )
       | else-x-k w ↦ (
         less,
         ap length w.cursors-is ∙ i.1,
         λ y m. i.2 y (rest_in n some few y m),
-        ap (λ o. bit_or o (back r)) w.out-is ∙ ap (bit_or l.out) (sym (union_out f x r a.k w.if-x-k.false) ∙ whole) ∙ i.3,
-        subst (Moved t a.j a.k a.cursors.now r) (sym w.cursors-is) (move_no t a.j a.k a.cursors.now n some few l.cursors i.4 w.if-x-k.false),
+        ap (λ o. bit_or o (back r)) w.out-is ∙ ap (bit_or l.out) (sym (union_out f x r p.shape.k w.if-x-k.false) ∙ whole) ∙ i.3,
+        subst (Moved t a.j p.shape.k a.cursors.now r) (sym w.cursors-is) (move_no t a.j p.shape.k a.cursors.now n some few l.cursors i.4 w.if-x-k.false),
       )
     ])
 
 pub returns : goal.returns
 returns c =
     let a = c.args in
+    let p = a.rows.now.profile in
     let t = a.table.now in
     let l = c.loop-rest in
     let from : ℕ → ℕ = λ y. get_or a.cursors.now y 0 in
-    let f : ℕ → ℕ = λ y. backward_step a.k a.s a.moves.now (last_at t (flag_before t y (from y))) y in
+    let f : ℕ → ℕ = λ y. backward_step p.shape.k p.shape.s p.moves.now (last_at t (flag_before t y (from y))) y in
     let e : l.rest ≡ 0 = omega arith in
-    let none : union f (filter (bit l.rest) (below a.k)) ≡ 0 = ap (λ S. union f (filter (bit S) (below a.k))) e ∙ union_none f (bit 0) (below a.k) not_in_none in record {
+    let none : union f (filter (bit l.rest) (below p.shape.k)) ≡ 0 = ap (λ S. union f (filter (bit S) (below p.shape.k))) e ∙ union_none f (bit 0) (below p.shape.k) not_in_none in record {
       value = sym (ap (bit_or l.out) none ∙ or_zero_r l.out) ∙ l.invariant.3;
       by_index = λ y h. l.invariant.4.1 y h (not_T (bit l.rest y) (λ m. not_in_none y (subst (λ S. T (bit S y)) e m)));
     }

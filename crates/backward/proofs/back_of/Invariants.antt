@@ -18,9 +18,9 @@ Moved t j k cursors₀ rest cursors =
 abbrev pub invariant-loop-rest : goal.invariant-loop-rest
 invariant-loop-rest l =
     (l.rest < 2 ^ 32) × (length l.cursors ≡ length l.initial.cursors) × ((y : ℕ) → T (bit l.rest y) → T (bit (letters_at l.table l.j) y))
-    × (bit_or l.out (union (λ x. backward_step l.k l.s l.moves (last_at l.table (flag_before l.table x (get_or l.initial.cursors x 0))) x) (filter (bit l.rest) (below l.k)))
-    ≡ back_from l.table l.j l.k l.s l.moves (λ y. get_or l.initial.cursors y 0))
-    × Moved l.table l.j l.k l.initial.cursors l.rest l.cursors
+    × (bit_or l.out (union (λ x. backward_step l.rows.profile.shape.k l.rows.profile.shape.s l.rows.profile.moves.now (last_at l.table (flag_before l.table x (get_or l.initial.cursors x 0))) x) (filter (bit l.rest) (below l.rows.profile.shape.k)))
+    ≡ back_from l.table l.j l.rows.profile.shape.k l.rows.profile.shape.s l.rows.profile.moves.now (λ y. get_or l.initial.cursors y 0))
+    × Moved l.table l.j l.rows.profile.shape.k l.initial.cursors l.rest l.cursors
 
 abbrev pub decreases-loop-rest : goal.decreases-loop-rest
 decreases-loop-rest l = l.rest

@@ -2,12 +2,13 @@ use Rattle.std.proofs.Common.{◌≡◌, ℕ, suc, ◌-◌, ◌*◌, ◌<◌, �
 use lib.ListN.{get_or-replicate}
 use Rattle.profile.specs.Limits.{most_letters}
 use Rattle.profile.specs.Rules.{Rules}
+use Rattle.profile.specs.declared.Profile.{Profile}
 use Rattle.terms.specs.Coded.{rules_of}
 use Rattle.profile.specs.Automata.{lent}
 use Rattle.profile.specs.Tables.{layout, record_length}
 use Rattle.theory.proofs.Refusals.{GoodEvents}
 use Rattle.records.specs.Drafts.{in_order}
-use Rattle.backward.specs.Backward.{Drafted, Inside, done_at, filled_all}
+use Rattle.backward.specs.Backward.{Drafted, Inside, back_from, done_at, filled_all}
 use Rattle.backward.proofs.Swept.{Swept, cleared_all, done_behind, records_any, records_are, swept_back, swept_inside, swept_next, swept_start}
 use Rattle.backward.proofs.fill_backward.Goals as goal
 
@@ -29,6 +30,9 @@ inside p w t n d u rest j from h s = swept_inside d.profile d.log u rest (j - 1)
 pub overflow_sub-last : goal.overflow_sub-last
 overflow_sub-last c = some _ _ _ _ c.requires
 
+pub of-rows-requires : goal.of-rows-requires
+of-rows-requires c = (c.requires.profile.relation.most, c.requires.profile.states.1)
+
 pub put_done-requires : goal.put_done-requires
 put_done-requires c = omega (arith, some _ _ _ _ c.requires, c.requires.fits)
 
@@ -45,11 +49,10 @@ loop-j-init c =
 
 pub back_of-back-requires : goal.back_of-back-requires
 back_of-back-requires c =
-    let g = c.requires.profile in
     let l = c.loop-j in record {
-      k_le_most_letters = (g.relation.most, g.states.1, omega (arith, g.relation.most));
-      inside = inside _ _ _ _ c.requires l.table _ l.j (λ x. get_or l.cursors x 0) (omega arith) (l.invariant.2 c.requires.log);
-      rows_value = c.by_letter.ensures;
+      k_in_bounds = subst (λ (q : Profile). q.shape.k ≤ length l.cursors) (sym c.of-rows.ensures) (omega (arith, c.requires.profile.relation.most));
+      inside = subst (λ (q : Profile). Inside l.table (l.j - 1) q.shape.k (λ x. get_or l.cursors x 0)) (sym c.of-rows.ensures)
+          (inside _ _ _ _ c.requires l.table _ l.j (λ x. get_or l.cursors x 0) (omega arith) (l.invariant.2 c.requires.log));
     }
 
 pub put_done-requires-in-loop-j : goal.put_done-requires-in-loop-j
@@ -72,11 +75,13 @@ loop-j-preserved c =
     let put = c.put_done-in-loop-j.ensures
     ∙ ap (done_at l.table (l.j - 1))
     (b.ensures.value
+    ∙ ap (λ (q : Profile). back_from l.table (l.j - 1) q.shape.k q.shape.s q.moves.now from) c.of-rows.ensures
     ∙ swept_back s.requires.profile s.requires.log l.table _ (l.j - 1) from (down p w s.requires.log l.table _ l.j from least (l.invariant.2 s.requires.log)) before) in (
       c.put_done-in-loop-j.auto.table ∙ l.invariant.0,
       b.auto.cursors ∙ l.invariant.1,
       λ good. subst (λ t. Swept good t (drop (record_length layout * a.records) c.put_done.new.table) (l.j - 1) after) (sym put)
-          (swept_next s.requires.profile good l.table _ (l.j - 1) from (down p w good l.table _ l.j from least (l.invariant.2 good)) after b.ensures.by_index),
+          (swept_next s.requires.profile good l.table _ (l.j - 1) from (down p w good l.table _ l.j from least (l.invariant.2 good)) after
+          (λ x h. b.ensures.by_index x (subst (λ (q : Profile). x < q.shape.k) (sym c.of-rows.ensures) h))),
     )
 
 pub clear_flags-requires : goal.clear_flags-requires

@@ -5,7 +5,7 @@ use native.Mathlib.Omega.{arith}
 use lib.ListN.{replicate}
 use Rattle.profile.specs.Limits.{most_letters}
 use Rattle.terms.specs.Coded.{rules_of}
-use Rattle.profile.specs.Automata.{profile_of}
+use Rattle.profile.specs.Automata.{lent}
 use Rattle.forward.specs.Forward.{Ready}
 use Rattle.forward.specs.Merging.{Steps}
 use Rattle.forward.proofs.Fills.{Filling, filling_done, filling_few, filling_merging, filling_next, filling_start}
@@ -16,14 +16,14 @@ pub loop-n-init : goal.loop-n-init
 loop-n-init c =
     let a = c.args in
     let h = c.requires.0 in
-    subst (Filling (rules_of (profile_of a.part.shape a.masks.now a.moves.now) a.termed) a.log.now a.table.now a.table.now a.part.room a.part.t a.part.first 0 0) (sym c.first_cursors-cursors.ensures) (filling_start h.0 h.1 (replicate most_letters 0) refl)
+    subst (Filling (rules_of (lent a.rows.now.profile) a.termed) a.log.now a.table.now a.table.now a.part.room a.part.t a.part.first 0 0) (sym c.first_cursors-cursors.ensures) (filling_start h.0 h.1 (replicate most_letters 0) refl)
 
 pub merge_next-requires : goal.merge_next-requires
 merge_next-requires c =
     let a = c.args in
     let h = c.requires.0 in
     let f = c.loop-n.invariant in record {
-      halfway = (subst (λ m. Ready (rules_of (profile_of a.part.shape a.masks.now a.moves.now) a.termed) a.log.now m a.part.room a.placed.now.starts.now a.placed.now.places.now a.turns.now a.termed) (sym f.kept) h.0, filling_merging h.0 h.1 f);
+      halfway = (subst (λ m. Ready (rules_of (lent a.rows.now.profile) a.termed) a.log.now m a.part.room a.placed.now.starts.now a.placed.now.places.now a.turns.now a.termed) (sym f.kept) h.0, filling_merging h.0 h.1 f);
       prepared = c.requires.1;
     }
 
@@ -33,7 +33,7 @@ returns c =
     let h = c.requires.0 in
     let l = c.loop-n in
     let x = c.merge_next in
-    let s = subst (Steps (rules_of (profile_of a.part.shape a.masks.now a.moves.now) a.termed) a.log.now a.part.room a.part.t a.part.first l.j l.table x.new.table x.new.cursors) (c.in_ok-n.was ∙ ap Some c.in_default.is) x.ensures in
+    let s = subst (Steps (rules_of (lent a.rows.now.profile) a.termed) a.log.now a.part.room a.part.t a.part.first l.j l.table x.new.table x.new.cursors) (c.in_ok-n.was ∙ ap Some c.in_default.is) x.ensures in
     filling_done h.0 h.1 l.invariant x.new.table x.new.cursors s
 
 pub returns-in_err-n : goal.returns-in_err-n
@@ -41,18 +41,18 @@ returns-in_err-n c =
     let a = c.args in
     let l = c.loop-n in
     let x = c.merge_next in
-    rw c.from_residual.ensures (subst (Steps (rules_of (profile_of a.part.shape a.masks.now a.moves.now) a.termed) a.log.now a.part.room a.part.t a.part.first l.j l.table x.new.table x.new.cursors) c.in_err-n.was x.ensures)
+    rw c.from_residual.ensures (subst (Steps (rules_of (lent a.rows.now.profile) a.termed) a.log.now a.part.room a.part.t a.part.first l.j l.table x.new.table x.new.cursors) c.in_err-n.was x.ensures)
 
 -- the invariant behind an iteration that puts a record
 further : (c : In-Some)
-    → Filling (rules_of (profile_of c.args.part.shape c.args.masks.now c.args.moves.now) c.args.termed) c.args.log.now c.args.table.now
+    → Filling (rules_of (lent c.args.rows.now.profile) c.args.termed) c.args.log.now c.args.table.now
     c.merge_next.new.table c.args.part.room c.args.part.t c.args.part.first (c.loop-n.j + 1) (c.loop-n.pairs + c.in-Some.n) c.merge_next.new.cursors
 further c =
     let a = c.args in
     let h = c.requires.0 in
     let l = c.loop-n in
     let x = c.merge_next in
-    let s = subst (Steps (rules_of (profile_of a.part.shape a.masks.now a.moves.now) a.termed) a.log.now a.part.room a.part.t a.part.first l.j l.table x.new.table x.new.cursors) (c.in_ok-n.was ∙ ap Some c.in-Some.is) x.ensures in
+    let s = subst (Steps (rules_of (lent a.rows.now.profile) a.termed) a.log.now a.part.room a.part.t a.part.first l.j l.table x.new.table x.new.cursors) (c.in_ok-n.was ∙ ap Some c.in-Some.is) x.ensures in
     filling_next h.0 h.1 l.invariant c.in-Some.n x.new.table x.new.cursors s x.auto.table x.auto.cursors
 
 pub loop-n-preserved : goal.loop-n-preserved

@@ -6,7 +6,7 @@ use lib.Bits.{bit_or}
 use lib.Count.{ones}
 use lib.ListN.{length}
 use Prim.Native.Nat.{◌^◌}
-use Rattle.profile.specs.Automata.{profile_of, union}
+use Rattle.profile.specs.Automata.{lent, union}
 use Rattle.profile.specs.Traces.{independent}
 use Rattle.counts.specs.Counts.{words}
 use Rattle.letters.specs.Letters.{tested_by}
@@ -20,10 +20,7 @@ pub next_counts-next-requires : goal.next_counts-next-requires
 next_counts-next-requires c =
     let s = c in
     let g = s.requires.halfway.0.profile in
-    record {
-      k_le_most_letters = (g.relation.most, g.states.1, s.requires.halfway.1.long, omega (arith, g.relation.long));
-      rows_value = s.requires.prepared.0;
-    }
+    (g.relation.most, s.requires.halfway.1.long, omega (arith, g.relation.long))
 
 pub overflow_add-first : goal.overflow_add-first
 overflow_add-first c = let h = c.requires.halfway in omega (arith, h.0.few, h.1.inside)
@@ -33,7 +30,7 @@ addable_in_terms-found-requires c =
     let h = c.requires in
     record {
       k_le_most_letters = h.halfway.0.profile.relation.most;
-      keepers_value = h.prepared.1;
+      keepers_value = h.prepared;
     }
 
 pub in_neither-open-requires : goal.in_neither-open-requires
@@ -44,7 +41,7 @@ tested-requires c =
     let h = c.requires in
     record {
       k_le_most_letters = h.halfway.0.profile.relation.most;
-      keepers_value = h.prepared.1;
+      keepers_value = h.prepared;
     }
 
 pub put_in-requires : goal.put_in-requires
@@ -56,7 +53,7 @@ returns-in-None c =
     let h = c.requires.halfway in
     let x = c.next_counts-next in
     let level = records_between a.table.now a.part.from a.part.first in
-    let g = subst (Comes a.part.shape.k a.part.shape.s a.masks.now a.moves.now level a.cursors.now x.new.cursors) c.in-None.is x.ensures in
+    let g = subst (Comes (lent a.rows.now.profile) level a.cursors.now x.new.cursors) c.in-None.is x.ensures in
     (merge_none h.0 h.1 g, refl)
 
 pub returns-after-termed : goal.returns-after-termed
@@ -65,15 +62,15 @@ returns-after-termed c =
     let h = c.requires.halfway in
     let x = c.next_counts-next in
     let level = records_between a.table.now a.part.from a.part.first in
-    let g = subst (Comes a.part.shape.k a.part.shape.s a.masks.now a.moves.now level a.cursors.now x.new.cursors) c.in-Some.is x.ensures in
+    let g = subst (Comes (lent a.rows.now.profile) level a.cursors.now x.new.cursors) c.in-Some.is x.ensures in
     let y = c.if-termed in
     let v = words c.in-Some.c in
     let handed = c.in-Some.handed in
     let found = ⊎_elim
-    (λ u. merge_found h.0 h.1 v g.0 y.set (u.set-is ∙ u.addable_in_terms-found.ensures.0 ∙ ap (λ b. union (λ x. 2 ^ x) (letters_found b (independent a.masks.now) a.part.shape.k
+    (λ u. merge_found h.0 h.1 v g.0 y.set (u.set-is ∙ u.addable_in_terms-found.ensures.0 ∙ ap (λ b. union (λ x. 2 ^ x) (letters_found b (independent a.rows.now.profile.masks.now) a.rows.now.profile.shape.k
     (length a.log.now) a.placed.now.starts.now a.placed.now.places.now a.turns.now v)) (sym u.if-termed.true)))
-    (λ u. merge_handed h.0 h.1 v g.0 u.if-termed.false (freely (profile_of a.part.shape a.masks.now a.moves.now) a.termed u.if-termed.false) handed.letters handed.passed y.set
-    g.2 g.3 (u.set-is ∙ ap (bit_or handed.letters) (u.tested.ensures ∙ ap (tested_by (independent a.masks.now) a.part.shape.k (length a.log.now) a.placed.now.starts.now a.placed.now.places.now v) u.in_neither-open.ensures)))
+    (λ u. merge_handed h.0 h.1 v g.0 u.if-termed.false (freely (lent a.rows.now.profile) a.termed u.if-termed.false) handed.letters handed.passed y.set
+    g.2 g.3 (u.set-is ∙ ap (bit_or handed.letters) (u.tested.ensures ∙ ap (tested_by (independent a.rows.now.profile.masks.now) a.rows.now.profile.shape.k (length a.log.now) a.placed.now.starts.now a.placed.now.places.now v) u.in_neither-open.ensures)))
     y.branch-raw in
     let z = c.put_in in
     merge_put h.0 h.1 v g.0 handed.forward y.set c.in-Some.from (ones y.set) z.new.table x.new.cursors
@@ -85,5 +82,5 @@ returns-else-first-j c =
     let h = c.requires.halfway in
     let x = c.next_counts-next in
     let level = records_between a.table.now a.part.from a.part.first in
-    let g = subst (Comes a.part.shape.k a.part.shape.s a.masks.now a.moves.now level a.cursors.now x.new.cursors) c.in-Some.is x.ensures in
+    let g = subst (Comes (lent a.rows.now.profile) level a.cursors.now x.new.cursors) c.in-Some.is x.ensures in
     merge_full h.0 h.1 (words c.in-Some.c) g.0 c.if-first-j.false

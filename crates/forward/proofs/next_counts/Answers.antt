@@ -14,10 +14,8 @@ unite-handed-requires c =
     let a = c.args in
     let e = sym (ap least_letters c.in_ok-c.was) ∙ c.least_counts.ensures.result_value_2 in
     record {
-      k_le_most_letters = search rules;
-      k_in_bounds = search rules;
-      rows_value = c.requires.rows_value;
-      given = λ x h m. givers_inside a.level.now a.cursors.now a.k x (subst (λ S. T (bit S x)) e m);
+      in_bounds = search rules;
+      given = λ x h m. givers_inside a.level.now a.cursors.now a.rows.now.profile.shape.k x (subst (λ S. T (bit S x)) e m);
     }
 
 pub advance-requires : goal.advance-requires
@@ -26,8 +24,8 @@ advance-requires c =
     let a = s.args in
     let e = sym (ap least_letters c.in_ok-c.was) ∙ c.least_counts.ensures.result_value_2 in
     record {
-      k_le_most_letters = (s.requires.k_le_most_letters.0, omega (arith, s.requires.k_le_most_letters.0, s.requires.k_le_most_letters.2));
-      given = λ x h m. givers_inside a.level.now a.cursors.now a.k x (subst (λ S. T (bit S x)) e m);
+      k_le_most_letters = (s.requires.0, omega (arith, s.requires.0, s.requires.1));
+      given = λ x h m. givers_inside a.level.now a.cursors.now a.rows.now.profile.shape.k x (subst (λ S. T (bit S x)) e m);
     }
 
 pub returns-in_err-c : goal.returns-in_err-c
@@ -36,13 +34,14 @@ returns-in_err-c c = rw c.from_residual.ensures (sym c.least_counts.ensures.resu
 pub returns : goal.returns
 returns c =
     let a = c.args in
+    let p = a.rows.now.profile in
     let x = c.least_counts in
     let u = c.unite-handed.ensures in
     let e = sym (ap least_letters c.in_ok-c.was) ∙ x.ensures.result_value_2 in (
       sym x.ensures.result_value ∙ ap least_words c.in_ok-c.was,
-      u.0 ∙ ap (united a.k a.s a.moves.now a.level.now a.cursors.now) e,
-      u.1 ∙ ap (inherited a.k a.level.now a.cursors.now) e,
-      u.2 ∙ ap (passing a.k a.masks.now) e,
-      c.advance.ensures ∙ ap (advanced a.k a.level.now a.cursors.now) e,
+      u.0 ∙ ap (united p.shape.k p.shape.s p.moves.now a.level.now a.cursors.now) e,
+      u.1 ∙ ap (inherited p.shape.k a.level.now a.cursors.now) e,
+      u.2 ∙ ap (passing p.shape.k p.masks.now) e,
+      c.advance.ensures ∙ ap (advanced p.shape.k a.level.now a.cursors.now) e,
       e,
     )

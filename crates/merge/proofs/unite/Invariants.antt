@@ -11,9 +11,9 @@ use Rattle.merge.proofs.unite.Given as goal
 abbrev pub invariant-loop-rest : goal.invariant-loop-rest
 invariant-loop-rest l =
     (l.rest < 2 ^ 32) × ((y : ℕ) → T (bit l.rest y) → T (bit l.set y))
-    × (bit_or l.out.forward (united l.k l.s l.moves l.level l.cursors l.rest) ≡ united l.k l.s l.moves l.level l.cursors l.set)
-    × (bit_or l.out.letters (inherited l.k l.level l.cursors l.rest) ≡ inherited l.k l.level l.cursors l.set)
-    × (bit_or l.out.passed (passing l.k l.masks l.rest) ≡ passing l.k l.masks l.set)
+    × (bit_or l.out.forward (united l.rows.profile.shape.k l.rows.profile.shape.s l.rows.profile.moves.now l.level l.cursors l.rest) ≡ united l.rows.profile.shape.k l.rows.profile.shape.s l.rows.profile.moves.now l.level l.cursors l.set)
+    × (bit_or l.out.letters (inherited l.rows.profile.shape.k l.level l.cursors l.rest) ≡ inherited l.rows.profile.shape.k l.level l.cursors l.set)
+    × (bit_or l.out.passed (passing l.rows.profile.shape.k l.rows.profile.masks.now l.rest) ≡ passing l.rows.profile.shape.k l.rows.profile.masks.now l.set)
 
 abbrev pub decreases-loop-rest : goal.decreases-loop-rest
 decreases-loop-rest l = l.rest

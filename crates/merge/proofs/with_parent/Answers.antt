@@ -5,18 +5,16 @@ use native.Mathlib.Nat.{one-mul}
 use native.Mathlib.Omega.{arith}
 use lib.Bits.{bit_and, bit_or}
 use lib.Pow.{shl_exact}
-use Rattle.rows.specs.Rows.{forward_by}
+use Rattle.profile.specs.Automata.{forward_step}
 use Rattle.merge.proofs.with_parent.Goals as goal
-
-pub overflow_cast-passed : goal.overflow_cast-passed
-overflow_cast-passed c = omega (arith, c.type_inv.masks c.args.x)
 
 pub returns : goal.returns
 returns c =
     let a = c.args in
+    let p = a.rows.now.profile in
     let bit-x : 1 * 2 ^ a.x % 2 ^ 32 ≡ 2 ^ a.x = shl_exact {a = 1} 1 a.x 32 (omega arith) (omega arith) ∙ one-mul (2 ^ a.x) in (
       ap (bit_or a.out.forward) (c.forward_by.ensures
-          ∙ ap (λ S. forward_by a.s a.rows.now S a.x) c.forward_at.ensures),
+          ∙ ap (λ S. forward_step p.shape.k p.shape.s p.moves.now S a.x) c.forward_at.ensures),
       ap (bit_or a.out.letters) (ap₂ (λ S m. bit_and (bit_and S 65535) (2 ^ 32 - 1 - m)) c.last_at.ensures bit-x),
       refl,
     )
