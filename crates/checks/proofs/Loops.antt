@@ -1,12 +1,11 @@
 -- What a search through a list, or through the numbers below n, has found at its end.
 use mathlib.Core.Path.{◌≡◌, refl, sym, ◌∙◌, ap}
-use mathlib.Core.Bool.{Bool, true, false, ◌||◌}
+use mathlib.Core.Bool.{Bool, true, false}
 use mathlib.Core.List.Memᴰ
 use mathlib.Core.List.{List, [], ◌∷◌}
 use Prim.Native.Nat.{ℕ, ◌<◌, ◌≤◌}
 use native.Mathlib.Omega.{arith}
 use lib.ListN.{length, get_or}
-use Rattle.std.specs.List.{list_any}
 use Rattle.profile.specs.Lists.{Mem, any, below}
 use Rattle.profile.proofs.Lists.{any_of, below_at, below_of, is_true, mem_getd, mem_place}
 
@@ -28,8 +27,3 @@ any_none_below p n i k h = any_none p (below n) (λ j m. h j (omega (arith, belo
 
 pub any_some_below : (p : ℕ → Bool) (n i : ℕ) → i < n → p i ≡ true → any p (below n) ≡ true
 any_some_below p n i h e = is_true (any p (below n)) (any_of p (below_of n i h) (rw e tt))
-
--- std's test of a list is that of the definitions
-pub any_std : {A : Type 0} (p : A → Bool) (l : List A) → list_any p l ≡ any p l
-any_std p [] = refl
-any_std p (a ∷ l) = ap (p a ||◌) (any_std p l)

@@ -9,9 +9,6 @@ use lib.Dec.{T, eqb, leb, not_T}
 use borrow.Author.Tests.{eq-eqb, le-leb, lt-leb, ne_eqb}
 use lib.ListN.{length, get_or, drop, length-drop, drop_of_length-le}
 use lib.Seq.{drop-cons, drop-drop, get_or-drop}
-use Rattle.std.specs.Bool.{MatchBool}
-use Rattle.std.specs.List.{AllWithin, HoldsAt, range_with_len}
-use Rattle.std.proofs.lemmas.List.FromFn.{get_or-range_with_len, length-range_with_len}
 use Rattle.profile.specs.Lists.{all, below, equal?, filter, first_place, range}
 use Rattle.profile.specs.Orders.{project, same?}
 use Rattle.profile.specs.Traces.{independent}
@@ -110,19 +107,6 @@ all_range_of : (p : ℕ → Bool) (n a : ℕ) → ((y : ℕ) → a ≤ y → y <
 all_range_of p zero a f = tt
 all_range_of p (suc n) a f =
     both (p a) (all p (range (suc a) n)) (f a (omega arith) (omega arith)) (all_range_of p n (suc a) (λ y h k. f y (omega arith) (omega arith)))
-
--- so a chain's `all` answers
-pub all_answer : (p : ℕ → Bool) (a n : ℕ) (b : Bool)
-    → MatchBool b (AllWithin (λ y. p y ≡ true) (range_with_len a n) 0 (length (range_with_len a n)))
-    ((k : ℕ) × (k < length (range_with_len a n)) × HoldsAt (λ y. p y ≡ false) (range_with_len a n) k)
-    → b ≡ all p (range a n)
-all_answer p a n true h = sym (is_true (all p (range a n)) (all_range_of p n a (λ y l m.
-    let e : get_or (range_with_len a n) (y - a) 0 ≡ y = omega (arith, get_or-range_with_len a n (y - a) 0 (omega arith)) in
-    subst T (sym (ap p (sym e) ∙ h (y - a) 0 (omega arith) (omega (arith, length-range_with_len a n)))) tt)))
-all_answer p a n false h = sym (is_false (all p (range a n)) (not_T (all p (range a n)) (λ t.
-    let lt : h.0 < n = omega (arith, h.1, length-range_with_len a n) in
-    let e : get_or (range_with_len a n) h.0 0 ≡ a + h.0 = get_or-range_with_len a n h.0 0 lt in
-    subst T (ap p (sym e) ∙ h.2 0) (all_range_at p n a t (a + h.0) (omega arith) (omega arith)))))
 
 -- a test of pairs that holds of x, y as of y, x: one order of each pair is enough
 half_pairs : (p : ℕ → ℕ → Bool) → ((x y : ℕ) → p x y ≡ p y x) → (k : ℕ)

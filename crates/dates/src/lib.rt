@@ -75,12 +75,7 @@ fn term_of(terms: &[u32], d: u32) -> usize
     ensures { result ≡ term_by terms.now d }
 {
     let n = terms.len() / 2;
-    for i in 0..n {
-        if in_term(terms, d, i) {
-            return i;
-        }
-    }
-    n
+    (0..n).position(|i| in_term(terms, d, i)).unwrap_or(n)
 }
 
 // The day is in no term.

@@ -6,7 +6,6 @@ use Prim.Native.Nat.{ℕ, zero, suc, ◌+◌, ◌<◌, ◌≤◌}
 use native.Mathlib.Omega.{arith}
 use lib.Dec.{ltb, leb-suc-suc, leb-zero}
 use lib.ListN.{length, get_or}
-use Rattle.std.specs.List.{position_or_len}
 use Rattle.profile.specs.Lists.{any, first_place}
 
 module _ {A : Type 0} (p : A → Bool) where
@@ -26,12 +25,3 @@ module _ {A : Type 0} (p : A → Bool) where
       go : (c : Bool) → p a ≡ c → any p l ≡ ltb (first_place p l) (length l) → any p (a ∷ l) ≡ ltb (first_place p (a ∷ l)) (length (a ∷ l))
       go true e ih = rw (e, first_place) (sym (leb-suc-suc 0 (length l) ∙ leb-zero (length l)))
       go false e ih = rw (e, first_place) (ih ∙ sym (leb-suc-suc (suc (first_place p l)) (length l)))
-
-  -- std's first place is that of the definitions
-  pub first_std : (l : List A) → position_or_len p l ≡ first_place p l
-  first_std [] = refl
-  first_std (a ∷ l) = go (p a) refl (first_std l)
-    where
-      go : (c : Bool) → p a ≡ c → position_or_len p l ≡ first_place p l → position_or_len p (a ∷ l) ≡ first_place p (a ∷ l)
-      go true e ih = rw (e, first_place) refl
-      go false e ih = let q : 1 + position_or_len p l ≡ suc (first_place p l) = omega (arith, ih) in rw (e, first_place) q

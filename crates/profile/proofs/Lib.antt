@@ -11,3 +11,5 @@ pub mod Orders
 -- worked cases
 pub mod Cases
 pub mod Edges
+-- what the chain of an iterator answers
+pub mod Chains

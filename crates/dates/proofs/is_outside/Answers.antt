@@ -2,7 +2,7 @@
 use mathlib.Core.Path.{◌∙◌, ap}
 use lib.Dec.{leb}
 use Rattle.terms.specs.Terms.{in_term?, term_count}
-use Rattle.days.proofs.Loops.{stands}
+use Rattle.dates.proofs.Firsts.{stands}
 use Rattle.dates.proofs.is_outside.Goals as goal
 
 pub returns : goal.returns

@@ -1,14 +1,16 @@
--- `dates::rise` meets its contract: the chain stops at the first term that does not rise.
-use Rattle.std.proofs.Common.{arith, rules}
-use mathlib.Core.Path.{◌≡◌}
-use mathlib.Core.Bool.{true, false}
-use Rattle.std.proofs.lemmas.Iterator.{YieldsList-from_range, cases_from_all}
+-- `dates::rise` meets its contract: the chain tests each term.
+use Rattle.std.proofs.Common.{arith, rules, tests}
+use mathlib.Core.Path.{◌∙◌, ap}
+use Rattle.std.proofs.lemmas.Iterator.{YieldsList-from_range}
+use Rattle.std.proofs.lemmas.Iterator.Search.{all_from_yields_List}
+use Rattle.profile.specs.Lists.{all}
+use Rattle.profile.proofs.Chains.{all_std, range_std}
 use Rattle.terms.specs.Terms.{rises?, term_count}
-use Rattle.days.proofs.Loops.{all_answer}
 use Rattle.dates.proofs.rise.Goals as goal
 
 pub returns : goal.returns
 returns c =
     let terms = c.args.terms.now in
-    all_answer (rises? terms) (term_count terms) c.all.result
-    (cases_from_all _ _ _ (λ i. rises? terms i ≡ true) (λ i. rises? terms i ≡ false) c.all.ensures.ran (YieldsList-from_range 0 (term_count terms) (term_count terms) (search rules) (omega arith)) (λ x q k. search rules) (λ x q k. search rules))
+    let n = term_count terms in
+    all_from_yields_List (rises? terms) _ _ c.all.result c.all.ensures.ran (YieldsList-from_range 0 n n (search rules) (omega arith)) (λ i b q k. search (rules, tests))
+    ∙ all_std (rises? terms) _ ∙ ap (all (rises? terms)) (range_std 0 n)

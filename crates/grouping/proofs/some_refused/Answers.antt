@@ -4,7 +4,7 @@ use Rattle.std.proofs.Common.{rules, tests}
 use Rattle.std.proofs.lemmas.Iterator.{YieldsList-from_slice}
 use Rattle.std.proofs.lemmas.Iterator.Search.{any_from_yields_List}
 use Rattle.ceilings.specs.Ceilings.{group_bad}
-use Rattle.checks.proofs.Loops.{any_std}
+use Rattle.profile.proofs.Chains.{any_std}
 use Rattle.grouping.proofs.some_refused.Goals as goal
 
 pub returns : goal.returns

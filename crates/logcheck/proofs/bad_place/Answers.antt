@@ -6,7 +6,8 @@ use Rattle.std.proofs.lemmas.Iterator.{YieldsList-from_slice}
 use Rattle.std.proofs.lemmas.Iterator.Search.{position_from_yields_List}
 use lib.Dec.{leb, ltb}
 use lib.ListN.{length}
-use Rattle.logcheck.proofs.Search.{any_first, first_std}
+use Rattle.profile.proofs.Chains.{first_std}
+use Rattle.logcheck.proofs.Search.{any_first}
 use Rattle.logcheck.proofs.bad_place.Goals as goal
 
 pub returns : goal.returns

@@ -1,2 +1,0 @@
--- Laws by subject; `dates` cites them too.
-pub mod Loops
