@@ -1,19 +1,103 @@
 // The passes over the table of costs: for each prefix and state the fewest swaps to come there, or to go from there to an accepted end; document 02, Paper 10.
 #![tactic(auto)]
 
-ghost use Rattle.std.specs.Prelude.{◌≡◌, List, ℕ, suc, ◌-◌, ◌≤◌, ◌<◌, length};
+ghost use Rattle.std.specs.Prelude.{◌≡◌, List, ℕ, suc, ◌+◌, ◌-◌, ◌*◌, ◌≤◌, ◌<◌, length};
 ghost use Rattle.profile.specs.Limits.{most_letters};
 ghost use Rattle.profile.specs.Tables.{layout};
-ghost use Rattle.counts.specs.Counts.{add_count};
+ghost use Rattle.profile.specs.declared.Shape.{Shape};
+ghost use Rattle.counts.specs.Counts.{add_count, words};
 ghost use Rattle.records.specs.Records.{counts_at, records_in};
+ghost use Rattle.search.specs.Search.{Ordered};
 ghost use Rattle.costcursors.specs.Cursors.{High, Low, Splits};
+ghost use Rattle.costrows.specs.Rows.{LedBack, LedOn, Rows};
 ghost use Rattle.costtable.specs.Costs.{FillsRest, FillsThere, Given};
-ghost use Rattle.costtable.proofs.Onward.{Onward};
-ghost use Rattle.costtable.proofs.Backward.{Backward};
-ghost use Rattle.costtable.proofs.Stepping.{HighAll, LowAll};
+ghost use Rattle.costtable.proofs.Ways.{Laid, Next, cost_after};
+ghost use Rattle.costtable.proofs.Onward.{Onward, onward_led, onward_none};
+ghost use Rattle.costtable.proofs.Backward.{Backward, backward_led, backward_none};
+ghost use Rattle.costtable.proofs.Stepping.{StandsAll};
 
+use costrows::Arrow;
+use counts::Counts;
 use profile::limits::{COUNT_NUMBERS, MOST_LETTERS, Place};
 use profile::{Places, Profile};
+
+// A pass over the records, in their order or back.
+trait Pass {
+    // Where a letter's cursor may stand in the records, for the counts that it seeks.
+    ghost stands: { List ℕ → List ℕ → ℕ → Type 0 };
+
+    // The costs before and after a letter led between two rows.
+    ghost leads: { List ℕ → List ℕ → ℕ → ℕ → ℕ → ℕ → List ℕ → ℕ → ℕ → ℕ → Type 0 };
+
+    // The costs before the pass and when it comes to a record and a letter.
+    ghost finds: { Shape → List ℕ → List ℕ → List ℕ → List ℕ → List ℕ → ℕ → ℕ → Type 0 };
+
+    // Moves a cursor to the first record that does not stand before the counts c.
+    fn seek(t: &[u32], from: usize, c: Counts) -> usize
+        requires { (from ≤ records_in t.now) × stands t.now (words c) from }
+        ensures { Ordered t.now → Splits t.now (words c) result };
+
+    // A letter leads between two rows.
+    fn lead(costs: &mut [u32], profile: &Profile, arrow: Arrow)
+        requires { Rows costs.old arrow.from arrow.to profile.now.shape.k profile.now.shape.s profile.now.moves.now arrow.letter }
+        ensures { leads costs.old costs.new arrow.from arrow.to profile.now.shape.k profile.now.shape.s profile.now.moves.now arrow.letter arrow.more profile.now.shape.s };
+
+    ghost stops: { (t c : List ℕ) (j : ℕ) → Splits t c j → stands t c j };
+
+    ghost led: { (h : Shape) (moves log t : List ℕ) → Laid h moves log t → (u v v' : List ℕ) (j x r : ℕ) → Next h moves log t j x r → leads v v' (j * h.s) (r * h.s) h.k h.s moves x (cost_after h moves log t j x) h.s → finds h moves log t u v j x → finds h moves log t u v' j (suc x) };
+
+    ghost none: { (h : Shape) (moves log t : List ℕ) → Laid h moves log t → (u v : List ℕ) (j x : ℕ) → ((r : ℕ) → Next h moves log t j x r → ⊥) → finds h moves log t u v j x → finds h moves log t u v j (suc x) };
+}
+
+// In the order of the records: the costs to each prefix.
+struct There;
+
+impl Pass for There {
+    ghost stands = { Low };
+
+    ghost leads = { LedOn };
+
+    ghost finds = { Onward };
+
+    ghost stops = { λ t c j s. s.low };
+
+    ghost led = { onward_led };
+
+    ghost none = { onward_none };
+
+    fn seek(t: &[u32], from: usize, c: Counts) -> usize {
+        costcursors::forth(t, from, c)
+    }
+
+    fn lead(costs: &mut [u32], profile: &Profile, arrow: Arrow) {
+        costrows::lead_on(costs, profile, arrow);
+    }
+}
+
+// From the last record back: the costs from each prefix to an accepted end.
+struct Rest;
+
+impl Pass for Rest {
+    ghost stands = { High };
+
+    ghost leads = { LedBack };
+
+    ghost finds = { Backward };
+
+    ghost stops = { λ t c j s. s.high };
+
+    ghost led = { backward_led };
+
+    ghost none = { backward_none };
+
+    fn seek(t: &[u32], from: usize, c: Counts) -> usize {
+        costcursors::back(t, from, c)
+    }
+
+    fn lead(costs: &mut [u32], profile: &Profile, arrow: Arrow) {
+        costrows::lead_back(costs, profile, arrow);
+    }
+}
 
 // A letter of a record, and where the letter's cursor stands.
 #[derive(Clone, Copy)]
@@ -23,8 +107,8 @@ struct Step {
     cursor: usize,
 }
 
-// One letter leads on from a record, to the record with one more of it, if there is one; the letter's cursor moves there.
-fn lead_from(
+// One letter leads between a record and the record with one more of it, if there is one; the letter's cursor moves there.
+fn lead<P: Pass>(
     t: &[u32],
     step: Step,
     whole: &[u32; COUNT_NUMBERS],
@@ -35,34 +119,31 @@ fn lead_from(
 ) -> usize
     requires given { Given profile.now.shape profile.now.moves.now t.now log.now placed.now.starts.now placed.now.places.now costs.old }
     requires whole_value { whole.now ≡ counts_at t.now (records_in t.now - 1) }
-    requires record_bound { (step.record < records_in t.now) × (step.letter < profile.now.shape.k) × (step.cursor ≤ records_in t.now) × Low t.now (add_count layout (counts_at t.now step.record) step.letter) step.cursor }
+    requires record_bound { (step.record < records_in t.now) × (step.letter < profile.now.shape.k) × (step.cursor ≤ records_in t.now) × P.stands t.now (add_count layout (counts_at t.now step.record) step.letter) step.cursor }
     ensures splits { Splits t.now (add_count layout (counts_at t.now step.record) step.letter) result }
-    ensures by_index { (before : List ℕ) → Onward profile.now.shape profile.now.moves.now log.now t.now before costs.old step.record step.letter → Onward profile.now.shape profile.now.moves.now log.now t.now before costs.new step.record (suc step.letter) }
+    ensures by_index { (before : List ℕ) → P.finds profile.now.shape profile.now.moves.now log.now t.now before costs.old step.record step.letter → P.finds profile.now.shape profile.now.moves.now log.now t.now before costs.new step.record (suc step.letter) }
 {
     let c = records::counts_at(t, step.record);
     let d = counts::one_more(c, step.letter);
-    let r = costcursors::forth(t, step.cursor, d);
+    let r = P::seek(t, step.cursor, d);
     if costcursors::stands_at(t, r, d) {
         let n = counts::numbers(c);
         let more = stepcost::step_cost(log, &n, whole, profile.shape.k, placed, step.letter);
         let from = costcursors::row_of(step.record, profile.shape.s);
         let to = costcursors::row_of(r, profile.shape.s);
-        costrows::lead_on(
-            costs,
+        let arrow = Arrow {
             from,
             to,
-            profile.shape.k,
-            profile.shape.s,
-            profile.moves,
-            step.letter,
+            letter: step.letter,
             more,
-        );
+        };
+        P::lead(costs, profile, arrow);
     }
     r
 }
 
-// Every letter leads on from record j; each letter's cursor stands at or before the record with one more of it.
-fn from_record(
+// Every letter of record j leads; each letter's cursor stands right for record j.
+fn lead_all<P: Pass>(
     t: &[u32],
     j: usize,
     whole: &[u32; COUNT_NUMBERS],
@@ -74,9 +155,9 @@ fn from_record(
 )
     requires given { Given profile.now.shape profile.now.moves.now t.now log.now placed.now.starts.now placed.now.places.now costs.old }
     requires whole_value { whole.now ≡ counts_at t.now (records_in t.now - 1) }
-    requires j_bound { (j < records_in t.now) × (length cursors.old ≡ most_letters) × LowAll t.now j profile.now.shape.k cursors.old }
-    ensures low_all { LowAll t.now j profile.now.shape.k cursors.new }
-    ensures by_index { (before : List ℕ) → Onward profile.now.shape profile.now.moves.now log.now t.now before costs.old j 0 → Onward profile.now.shape profile.now.moves.now log.now t.now before costs.new (suc j) 0 }
+    requires j_bound { (j < records_in t.now) × (length cursors.old ≡ most_letters) × StandsAll P.stands t.now j profile.now.shape.k cursors.old }
+    ensures stand { StandsAll P.stands t.now j profile.now.shape.k cursors.new }
+    ensures by_index { (before : List ℕ) → P.finds profile.now.shape profile.now.moves.now log.now t.now before costs.old j 0 → P.finds profile.now.shape profile.now.moves.now log.now t.now before costs.new j profile.now.shape.k }
 {
     for x in 0..profile.shape.k {
         let step = Step {
@@ -84,7 +165,7 @@ fn from_record(
             letter: x,
             cursor: cursors[x],
         };
-        cursors[x] = lead_from(t, step, whole, profile, log, placed, costs);
+        cursors[x] = lead::<P>(t, step, whole, profile, log, placed, costs);
     }
 }
 
@@ -100,74 +181,7 @@ pub fn fill_there(t: &[u32], profile: &Profile, log: &[u8], placed: &Places, cos
     costwrites::clear(costs, 0, cells);
     costwrites::lower(costs, profile.shape.start, 0);
     for j in 0..records {
-        from_record(t, j, &whole, profile, log, placed, &mut cursors, costs);
-    }
-}
-
-// One letter leads back to a record, from the record with one more of it, if there is one; the letter's cursor moves there.
-fn lead_to(
-    t: &[u32],
-    step: Step,
-    whole: &[u32; COUNT_NUMBERS],
-    profile: &Profile,
-    log: &[u8],
-    placed: &Places,
-    costs: &mut [u32],
-) -> usize
-    requires given { Given profile.now.shape profile.now.moves.now t.now log.now placed.now.starts.now placed.now.places.now costs.old }
-    requires whole_value { whole.now ≡ counts_at t.now (records_in t.now - 1) }
-    requires record_bound { (step.record < records_in t.now) × (step.letter < profile.now.shape.k) × (step.cursor ≤ records_in t.now) × High t.now (add_count layout (counts_at t.now step.record) step.letter) step.cursor }
-    ensures splits { Splits t.now (add_count layout (counts_at t.now step.record) step.letter) result }
-    ensures by_index { (before : List ℕ) → Backward profile.now.shape profile.now.moves.now log.now t.now before costs.old step.record step.letter → Backward profile.now.shape profile.now.moves.now log.now t.now before costs.new step.record (suc step.letter) }
-{
-    let c = records::counts_at(t, step.record);
-    let d = counts::one_more(c, step.letter);
-    let r = costcursors::back(t, step.cursor, d);
-    if costcursors::stands_at(t, r, d) {
-        let n = counts::numbers(c);
-        let more = stepcost::step_cost(log, &n, whole, profile.shape.k, placed, step.letter);
-        let from = costcursors::row_of(step.record, profile.shape.s);
-        let to = costcursors::row_of(r, profile.shape.s);
-        costrows::lead_back(
-            costs,
-            from,
-            to,
-            profile.shape.k,
-            profile.shape.s,
-            profile.moves,
-            step.letter,
-            more,
-        );
-    }
-    r
-}
-
-// Every letter leads back to record j, whose row is written anew; each letter's cursor stands at or behind the record with one more of it.
-fn to_record(
-    t: &[u32],
-    j: usize,
-    whole: &[u32; COUNT_NUMBERS],
-    profile: &Profile,
-    log: &[u8],
-    placed: &Places,
-    cursors: &mut [usize],
-    costs: &mut [u32],
-)
-    requires given { Given profile.now.shape profile.now.moves.now t.now log.now placed.now.starts.now placed.now.places.now costs.old }
-    requires whole_value { whole.now ≡ counts_at t.now (records_in t.now - 1) }
-    requires j_bound { (suc j < records_in t.now) × (length cursors.old ≡ most_letters) × HighAll t.now j profile.now.shape.k cursors.old }
-    ensures high_all { HighAll t.now j profile.now.shape.k cursors.new }
-    ensures by_index { (before : List ℕ) → Backward profile.now.shape profile.now.moves.now log.now t.now before costs.old (suc j) profile.now.shape.k → Backward profile.now.shape profile.now.moves.now log.now t.now before costs.new j profile.now.shape.k }
-{
-    let row = costcursors::row_of(j, profile.shape.s);
-    costwrites::clear(costs, row, profile.shape.s);
-    for x in 0..profile.shape.k {
-        let step = Step {
-            record: j,
-            letter: x,
-            cursor: cursors[x],
-        };
-        cursors[x] = lead_to(t, step, whole, profile, log, placed, costs);
+        lead_all::<There>(t, j, &whole, profile, log, placed, &mut cursors, costs);
     }
 }
 
@@ -184,6 +198,8 @@ pub fn fill_rest(t: &[u32], profile: &Profile, log: &[u8], placed: &Places, cost
     costwrites::clear(costs, end, profile.shape.s);
     costwrites::lower_all(costs, end, profile.shape.s, profile.shape.finals, 0);
     for j in (0..last).rev() {
-        to_record(t, j, &whole, profile, log, placed, &mut cursors, costs);
+        let row = costcursors::row_of(j, profile.shape.s);
+        costwrites::clear(costs, row, profile.shape.s);
+        lead_all::<Rest>(t, j, &whole, profile, log, placed, &mut cursors, costs);
     }
 }

@@ -110,44 +110,32 @@ module _ (h : Shape) (moves t log starts places costs : List ℕ) (g : Given h m
       pub next_within : Within h.k log (counts_at t j) (counts_at t (records_in t - 1)) x
       next_within = within h g.masks moves g.may g.letter g.events t log starts places g.lent j x r (records_in t - 1) n (omega (arith, lt))
 
--- the cursor of each letter may go on from where it stands, for record j; or back
-abbrev pub LowAll : List ℕ → ℕ → ℕ → List ℕ → Type 0
-LowAll t j k cursors = (x : ℕ) → x < k → (get_or cursors x 0 ≤ records_in t) × Low t (add_count layout (counts_at t j) x) (get_or cursors x 0)
+-- the cursor of each letter may go on from where it stands, for record j; `stands` says where one may stand that seeks given counts: Low or High
+abbrev pub StandsAll : (List ℕ → List ℕ → ℕ → Type 0) → List ℕ → ℕ → ℕ → List ℕ → Type 0
+StandsAll stands t j k cursors = (x : ℕ) → x < k → (get_or cursors x 0 ≤ records_in t) × stands t (add_count layout (counts_at t j) x) (get_or cursors x 0)
 
-abbrev pub HighAll : List ℕ → ℕ → ℕ → List ℕ → Type 0
-HighAll t j k cursors = (x : ℕ) → x < k → (get_or cursors x 0 ≤ records_in t) × High t (add_count layout (counts_at t j) x) (get_or cursors x 0)
-
--- the cursor of letter x moves to where the records divide
-module _ (t : List ℕ) (j k x r : ℕ) (cursors : List ℕ) (splits : Splits t (add_count layout (counts_at t j) x) r) (inside : x < length cursors) where
-  pub low_set : LowAll t j k cursors → LowAll t j k (set cursors x r)
-  low_set all y yk = ⊎_elim
-      (λ e.
-      let v : get_or (set cursors x r) y 0 ≡ r = ap (λ i. get_or (set cursors x r) i 0) e ∙ get_or-set_same cursors x r 0 inside in
-      (omega (arith, v, splits.inside), subst (λ n. Low t (add_count layout (counts_at t j) y) n) (sym v) (subst (λ i. Low t (add_count layout (counts_at t j) i) r) (sym e) splits.low)))
-      (λ ne.
-      let v : get_or (set cursors x r) y 0 ≡ get_or cursors y 0 = get_or-set_other cursors x y r 0 ne in
-      (omega (arith, v, (all y yk).0), subst (λ n. Low t (add_count layout (counts_at t j) y) n) (sym v) (all y yk).1)) (same_or_not y x)
-
-  pub high_set : HighAll t j k cursors → HighAll t j k (set cursors x r)
-  high_set all y yk = ⊎_elim
-      (λ e.
-      let v : get_or (set cursors x r) y 0 ≡ r = ap (λ i. get_or (set cursors x r) i 0) e ∙ get_or-set_same cursors x r 0 inside in
-      (omega (arith, v, splits.inside), subst (λ n. High t (add_count layout (counts_at t j) y) n) (sym v) (subst (λ i. High t (add_count layout (counts_at t j) i) r) (sym e) splits.high)))
-      (λ ne.
-      let v : get_or (set cursors x r) y 0 ≡ get_or cursors y 0 = get_or-set_other cursors x y r 0 ne in
-      (omega (arith, v, (all y yk).0), subst (λ n. High t (add_count layout (counts_at t j) y) n) (sym v) (all y yk).1)) (same_or_not y x)
+-- the cursor of letter x moves to another place where it may stand
+pub stands_set : (stands : List ℕ → List ℕ → ℕ → Type 0) (t : List ℕ) (j k x r : ℕ) (cursors : List ℕ) → x < length cursors → r ≤ records_in t
+    → stands t (add_count layout (counts_at t j) x) r → StandsAll stands t j k cursors → StandsAll stands t j k (set cursors x r)
+stands_set stands t j k x r cursors inside le here all y yk = ⊎_elim
+    (λ e.
+    let v : get_or (set cursors x r) y 0 ≡ r = ap (λ i. get_or (set cursors x r) i 0) e ∙ get_or-set_same cursors x r 0 inside in
+    (omega (arith, v, le), subst (λ n. stands t (add_count layout (counts_at t j) y) n) (sym v) (subst (λ i. stands t (add_count layout (counts_at t j) i) r) (sym e) here)))
+    (λ ne.
+    let v : get_or (set cursors x r) y 0 ≡ get_or cursors y 0 = get_or-set_other cursors x y r 0 ne in
+    (omega (arith, v, (all y yk).0), subst (λ n. stands t (add_count layout (counts_at t j) y) n) (sym v) (all y yk).1)) (same_or_not y x)
 
 -- every cursor stands at the first record, or behind the last
-pub low_start : (t : List ℕ) (j k : ℕ) (cursors : List ℕ) → ((x : ℕ) → x < k → get_or cursors x 0 ≡ 0) → LowAll t j k cursors
+pub low_start : (t : List ℕ) (j k : ℕ) (cursors : List ℕ) → ((x : ℕ) → x < k → get_or cursors x 0 ≡ 0) → StandsAll Low t j k cursors
 low_start t j k cursors zeros x xk = (omega (arith, zeros x xk), λ i lt. absurd (omega (arith, lt, zeros x xk)))
 
-pub high_start : (t : List ℕ) (j k : ℕ) (cursors : List ℕ) → ((x : ℕ) → x < k → get_or cursors x 0 ≡ records_in t) → HighAll t j k cursors
+pub high_start : (t : List ℕ) (j k : ℕ) (cursors : List ℕ) → ((x : ℕ) → x < k → get_or cursors x 0 ≡ records_in t) → StandsAll High t j k cursors
 high_start t j k cursors last x xk = (omega (arith, last x xk), λ i ge lt. absurd (omega (arith, ge, lt, last x xk)))
 
 -- from record to record
 module _ (h : Shape) (moves t log starts places costs : List ℕ) (g : Given h moves t log starts places costs) (j : ℕ) (lt : suc j < records_in t) (cursors : List ℕ) where
-  pub low_record : LowAll t j h.k cursors → LowAll t (suc j) h.k cursors
+  pub low_record : StandsAll Low t j h.k cursors → StandsAll Low t (suc j) h.k cursors
   low_record all x xk = ((all x xk).0, low_next h moves t log starts places costs g j (suc j) x (omega arith) lt xk (get_or cursors x 0) (all x xk).1)
 
-  pub high_record : HighAll t (suc j) h.k cursors → HighAll t j h.k cursors
+  pub high_record : StandsAll High t (suc j) h.k cursors → StandsAll High t j h.k cursors
   high_record all x xk = ((all x xk).0, high_next h moves t log starts places costs g j (suc j) x (omega arith) lt xk (get_or cursors x 0) (all x xk).1)

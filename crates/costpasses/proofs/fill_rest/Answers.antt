@@ -7,9 +7,10 @@ use lib.ListN.{length, get_or, get_or-replicate, replicate}
 use Rattle.profile.specs.Limits.{most_letters}
 use Rattle.records.specs.Records.{counts_at, records_in}
 use Rattle.costcells.specs.Cells.{Cleared, Lowered}
+use Rattle.costcursors.specs.Cursors.{High}
 use Rattle.costtable.proofs.Filling.{backward_fills}
-use Rattle.costtable.proofs.Backward.{Backward, backward_start}
-use Rattle.costtable.proofs.Stepping.{HighAll, given_as_long, given_laid, high_record, high_start, row_fits}
+use Rattle.costtable.proofs.Backward.{Backward, backward_row, backward_start}
+use Rattle.costtable.proofs.Stepping.{StandsAll, given_as_long, given_laid, high_record, high_start, row_fits}
 use Rattle.costpasses.proofs.fill_rest.Goals as goal
 
 pub overflow_sub-last : goal.overflow_sub-last
@@ -61,15 +62,19 @@ loop-j-preserved c =
     let b = c in
     let a = b.args in
     let l = c.loop-j in
-    let f = c.to_record in
-    let up : suc (l.j - 1) ≡ l.j = omega arith in (
+    let f = c.lead_all in
+    let up : suc (l.j - 1) ≡ l.j = omega arith in
+    let cleared : Cleared l.costs c.clear-in-loop-j.new.costs ((l.j - 1) * a.profile.now.shape.s) a.profile.now.shape.s =
+    subst (λ m. Cleared l.costs c.clear-in-loop-j.new.costs m a.profile.now.shape.s) c.row_of-row.ensures c.clear-in-loop-j.ensures in (
       omega (arith, l.invariant.0),
       l.invariant.1,
       f.auto.cursors ∙ l.invariant.2,
       (λ i e. high_record a.profile.now.shape a.profile.now.moves.now a.t.now a.log.now a.placed.now.starts.now a.placed.now.places.now a.costs.now b.requires i (omega (arith, e, l.invariant.0)) f.new.cursors
-          (subst (λ m. HighAll a.t.now m a.profile.now.shape.k f.new.cursors) (sym e) f.ensures.high_all)),
-      f.auto.costs ∙ l.invariant.4,
-      λ before o. f.ensures.by_index before (subst (λ m. Backward a.profile.now.shape a.profile.now.moves.now a.log.now a.t.now before l.costs m a.profile.now.shape.k) (sym up) (l.invariant.5 before o)),
+          (subst (λ m. StandsAll High a.t.now m a.profile.now.shape.k f.new.cursors) (sym e) f.ensures.stand)),
+      f.auto.costs ∙ c.clear-in-loop-j.auto.costs ∙ l.invariant.4,
+      λ before o. f.ensures.by_index before (backward_row a.profile.now.shape a.profile.now.moves.now a.log.now a.t.now (given_laid a.profile.now.shape a.profile.now.moves.now a.t.now a.log.now a.placed.now.starts.now a.placed.now.places.now a.costs.now b.requires) before l.costs c.clear-in-loop-j.new.costs (l.j - 1) a.profile.now.shape.k
+          (omega arith) (omega (arith, up, l.invariant.0)) cleared
+          (subst (λ m. Backward a.profile.now.shape a.profile.now.moves.now a.log.now a.t.now before l.costs m a.profile.now.shape.k) (sym up) (l.invariant.5 before o))),
     )
 
 pub shape_of-costs : goal.shape_of-costs
@@ -103,13 +108,28 @@ row_of-end-requires c =
     let lt : c.records_in-records.result - 1 < records_in a.t.now = omega (arith, n, (given_laid a.profile.now.shape a.profile.now.moves.now a.t.now a.log.now a.placed.now.starts.now a.placed.now.places.now a.costs.now b.requires).some) in
     omega (arith, row_fits a.profile.now.shape a.profile.now.moves.now a.t.now a.log.now a.placed.now.starts.now a.placed.now.places.now a.costs.now b.requires (c.records_in-records.result - 1) lt, b.well_formed)
 
-pub to_record-requires : goal.to_record-requires
-to_record-requires c =
+pub lead_all-requires : goal.lead_all-requires
+lead_all-requires c =
     let b = c in
     let a = b.args in
     let l = c.loop-j in
     let up : suc (l.j - 1) ≡ l.j = omega arith in record {
-      given = given_as_long a.profile.now.shape a.profile.now.moves.now a.t.now a.log.now a.placed.now.starts.now a.placed.now.places.now a.costs.now l.costs (l.invariant.4 ∙ c.lower_all.auto.costs ∙ c.clear.auto.costs) b.requires;
+      given = given_as_long a.profile.now.shape a.profile.now.moves.now a.t.now a.log.now a.placed.now.starts.now a.placed.now.places.now a.costs.now c.clear-in-loop-j.new.costs (c.clear-in-loop-j.auto.costs ∙ l.invariant.4 ∙ c.lower_all.auto.costs ∙ c.clear.auto.costs) b.requires;
       whole_value = l.invariant.1;
-      j_bound = (omega (arith, up, l.invariant.0), l.invariant.2, l.invariant.3 (l.j - 1) up);
+      j_bound = (omega (arith, l.invariant.0), l.invariant.2, l.invariant.3 (l.j - 1) up);
     }
+
+pub row_of-row-requires : goal.row_of-row-requires
+row_of-row-requires c =
+    let b = c in
+    let a = b.args in
+    let lt : c.loop-j.j - 1 < records_in a.t.now = omega (arith, c.loop-j.invariant.0) in
+    omega (arith, row_fits a.profile.now.shape a.profile.now.moves.now a.t.now a.log.now a.placed.now.starts.now a.placed.now.places.now a.costs.now b.requires (c.loop-j.j - 1) lt, b.well_formed)
+
+pub clear-requires-in-loop-j : goal.clear-requires-in-loop-j
+clear-requires-in-loop-j c =
+    let b = c in
+    let a = b.args in
+    let l = c.loop-j in
+    let lt : l.j - 1 < records_in a.t.now = omega (arith, l.invariant.0) in
+    omega (arith, row_fits a.profile.now.shape a.profile.now.moves.now a.t.now a.log.now a.placed.now.starts.now a.placed.now.places.now a.costs.now b.requires (l.j - 1) lt, c.row_of-row.ensures, l.invariant.4, c.lower_all.auto.costs, c.clear.auto.costs)

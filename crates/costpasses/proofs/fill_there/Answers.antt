@@ -8,9 +8,10 @@ use lib.ListN.{length, get_or, get_or-replicate, replicate}
 use Rattle.profile.specs.Limits.{most_letters}
 use Rattle.records.specs.Records.{counts_at, records_in}
 use Rattle.costcells.specs.Cells.{Cleared}
+use Rattle.costcursors.specs.Cursors.{Low}
 use Rattle.costtable.proofs.Filling.{onward_fills}
-use Rattle.costtable.proofs.Onward.{Onward, onward_start}
-use Rattle.costtable.proofs.Stepping.{LowAll, given_as_long, given_laid, low_record, low_start, row_fits}
+use Rattle.costtable.proofs.Onward.{Onward, onward_record, onward_start}
+use Rattle.costtable.proofs.Stepping.{StandsAll, given_as_long, given_laid, low_record, low_start, row_fits}
 use Rattle.costpasses.proofs.fill_there.Goals as goal
 
 pub overflow_sub-records : goal.overflow_sub-records
@@ -55,16 +56,17 @@ loop-j-preserved c =
     let b = c in
     let a = b.args in
     let l = c.loop-j in
-    let f = c.from_record in
+    let f = c.lead_all in
     let one = add-one l.j in (
       l.invariant.0,
       l.invariant.1,
       f.auto.cursors ∙ l.invariant.2,
-      (λ lt. subst (λ n. LowAll a.t.now n a.profile.now.shape.k f.new.cursors) (sym one)
-          (low_record a.profile.now.shape a.profile.now.moves.now a.t.now a.log.now a.placed.now.starts.now a.placed.now.places.now a.costs.now b.requires l.j (subst (λ n. n < records_in a.t.now) one lt) f.new.cursors f.ensures.low_all)),
+      (λ lt. subst (λ n. StandsAll Low a.t.now n a.profile.now.shape.k f.new.cursors) (sym one)
+          (low_record a.profile.now.shape a.profile.now.moves.now a.t.now a.log.now a.placed.now.starts.now a.placed.now.places.now a.costs.now b.requires l.j (subst (λ n. n < records_in a.t.now) one lt) f.new.cursors f.ensures.stand)),
       f.auto.costs ∙ l.invariant.4,
       λ before o. subst (λ n. Onward a.profile.now.shape a.profile.now.moves.now a.log.now a.t.now before f.new.costs n 0) (sym one)
-          (f.ensures.by_index before (l.invariant.5 before o)),
+          (onward_record a.profile.now.shape a.profile.now.moves.now a.log.now a.t.now (given_laid a.profile.now.shape a.profile.now.moves.now a.t.now a.log.now a.placed.now.starts.now a.placed.now.places.now a.costs.now b.requires)
+          before f.new.costs l.j a.profile.now.shape.k (omega arith) (f.ensures.by_index before (l.invariant.5 before o))),
     )
 
 pub shape_of-costs : goal.shape_of-costs
@@ -88,8 +90,8 @@ row_of-cells-requires c =
     let a = b.args in
     omega (arith, ap (λ n. n * a.profile.now.shape.s) c.records_in-records.ensures, b.requires.room, b.well_formed)
 
-pub from_record-requires : goal.from_record-requires
-from_record-requires c =
+pub lead_all-requires : goal.lead_all-requires
+lead_all-requires c =
     let b = c in
     let a = b.args in
     let l = c.loop-j in

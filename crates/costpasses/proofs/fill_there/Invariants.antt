@@ -9,13 +9,14 @@ use lib.ListN.{length, get_or, get_or-replicate, replicate}
 use Rattle.profile.specs.Limits.{most_letters}
 use Rattle.records.specs.Records.{counts_at, records_in}
 use Rattle.costcells.specs.Cells.{Cleared}
+use Rattle.costcursors.specs.Cursors.{Low}
 use Rattle.costtable.proofs.Filling.{onward_fills}
-use Rattle.costtable.proofs.Onward.{Onward, onward_start}
-use Rattle.costtable.proofs.Stepping.{LowAll, given_as_long, given_laid, low_record, low_start, row_fits}
+use Rattle.costtable.proofs.Onward.{Onward, onward_record, onward_start}
+use Rattle.costtable.proofs.Stepping.{StandsAll, given_as_long, given_laid, low_record, low_start, row_fits}
 use Rattle.costpasses.proofs.fill_there.Given as goal
 
 abbrev pub invariant-loop-j : goal.invariant-loop-j
 invariant-loop-j l =
     (l.records ≡ records_in l.t) × (l.whole ≡ counts_at l.t (records_in l.t - 1)) × (length l.cursors ≡ most_letters)
-    × (l.j < records_in l.t → LowAll l.t l.j l.profile.shape.k l.cursors) × (length l.costs ≡ length l.initial.costs)
+    × (l.j < records_in l.t → StandsAll Low l.t l.j l.profile.shape.k l.cursors) × (length l.costs ≡ length l.initial.costs)
     × ((before : List ℕ) → Onward l.profile.shape l.profile.moves.now l.log l.t before l.initial.costs 0 0 → Onward l.profile.shape l.profile.moves.now l.log l.t before l.costs l.j 0)

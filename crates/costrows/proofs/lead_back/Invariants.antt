@@ -10,4 +10,4 @@ use Rattle.costrows.proofs.Leading.{back_more, back_none}
 use Rattle.costrows.proofs.lead_back.Given as goal
 
 abbrev pub invariant-loop-q : goal.invariant-loop-q
-invariant-loop-q l = LedBack l.initial.costs l.costs l.from l.to l.k l.s l.moves l.x l.more l.q
+invariant-loop-q l = LedBack l.initial.costs l.costs l.arrow.from l.arrow.to l.profile.shape.k l.profile.shape.s l.profile.moves.now l.arrow.letter l.arrow.more l.q

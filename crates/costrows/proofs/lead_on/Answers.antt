@@ -15,29 +15,29 @@ lower_all-requires c =
     let b = c in
     let l = c.loop-q in
     let h = b.requires in
-    (h.states, omega (arith, h.second, l.invariant.as_long), subst (λ n. n < 2 ^ b.args.s) (sym c.leads_from-states.ensures) (h.small l.q (omega arith)))
+    (h.states, omega (arith, h.second, l.invariant.as_long), subst (λ n. n < 2 ^ b.args.profile.now.shape.s) (sym c.leads_from-states.ensures) (h.small l.q (omega arith)))
 
 pub loop-q-init : goal.loop-q-init
 loop-q-init c =
     let b = c in
     let a = b.args in
-    led_none a.costs.now a.from a.to a.k a.s a.moves.now a.x a.more b.requires
+    led_none a.costs.now a.arrow.from a.arrow.to a.profile.now.shape.k a.profile.now.shape.s a.profile.now.moves.now a.arrow.letter a.arrow.more b.requires
 
 pub loop-q-preserved : goal.loop-q-preserved
 loop-q-preserved c =
     let b = c in
     let a = b.args in
     let l = c.loop-q in
-    let i : a.from + l.q < length l.costs = omega (arith, b.requires.first, l.invariant.as_long) in
-    let e = inside l.costs (a.from + l.q) 0 none_cost i in
-    subst (λ n. LedOn a.costs.now c.lower_all.new.costs a.from a.to a.k a.s a.moves.now a.x a.more n) (sym (add-one l.q))
-    (led_more a.costs.now a.from a.to a.k a.s a.moves.now a.x a.more b.requires l.costs c.lower_all.new.costs l.q
-    c.plus-v.result (omega arith) (c.plus-v.ensures ∙ ap (λ i. with_step i a.more) e) l.invariant
-    (subst (λ S. Lowered l.costs c.lower_all.new.costs a.to S c.plus-v.result) c.leads_from-states.ensures c.lower_all.ensures))
+    let i : a.arrow.from + l.q < length l.costs = omega (arith, b.requires.first, l.invariant.as_long) in
+    let e = inside l.costs (a.arrow.from + l.q) 0 none_cost i in
+    subst (λ n. LedOn a.costs.now c.lower_all.new.costs a.arrow.from a.arrow.to a.profile.now.shape.k a.profile.now.shape.s a.profile.now.moves.now a.arrow.letter a.arrow.more n) (sym (add-one l.q))
+    (led_more a.costs.now a.arrow.from a.arrow.to a.profile.now.shape.k a.profile.now.shape.s a.profile.now.moves.now a.arrow.letter a.arrow.more b.requires l.costs c.lower_all.new.costs l.q
+    c.plus-v.result (omega arith) (c.plus-v.ensures ∙ ap (λ i. with_step i a.arrow.more) e) l.invariant
+    (subst (λ S. Lowered l.costs c.lower_all.new.costs a.arrow.to S c.plus-v.result) c.leads_from-states.ensures c.lower_all.ensures))
 
 pub returns : goal.returns
 returns c =
     let a = c.args in
     let l = c.loop-q in
-    let e : l.q ≡ a.s = omega arith in
-    subst (λ n. LedOn a.costs.now l.costs a.from a.to a.k a.s a.moves.now a.x a.more n) e l.invariant
+    let e : l.q ≡ a.profile.now.shape.s = omega arith in
+    subst (λ n. LedOn a.costs.now l.costs a.arrow.from a.arrow.to a.profile.now.shape.k a.profile.now.shape.s a.profile.now.moves.now a.arrow.letter a.arrow.more n) e l.invariant

@@ -12,4 +12,4 @@ use Rattle.costrows.proofs.Leading.{led_more, led_none}
 use Rattle.costrows.proofs.lead_on.Given as goal
 
 abbrev pub invariant-loop-q : goal.invariant-loop-q
-invariant-loop-q l = LedOn l.initial.costs l.costs l.from l.to l.k l.s l.moves l.x l.more l.q
+invariant-loop-q l = LedOn l.initial.costs l.costs l.arrow.from l.arrow.to l.profile.shape.k l.profile.shape.s l.profile.moves.now l.arrow.letter l.arrow.more l.q
