@@ -3,7 +3,6 @@ use crate::each::compare_log;
 use profile::{Profile, Shape};
 use trial::cells::{part_of, plus, times};
 use trial::shapes::alt;
-use trial::tally;
 use trial::tally::{Counted, Tally};
 use trial::text_rows::{digit, put_letters_in, put_masks_in, put_moves_in, rest_at, shape_in};
 use trial_logs::compare::compare_table;
@@ -46,17 +45,18 @@ fn listing_right(profile: &Profile, log: &[u8], order: &[u8], text: &[u8]) -> bo
 }
 
 // A log with its order; the text has the log's length, the number of reachable logs, P, looks and the verdict.
-fn compare_case(profile: &Profile, text: &[u8], t: Tally) -> Tally {
+fn compare_case(profile: &Profile, text: &[u8], t: &mut Tally) {
     let mut log = [0u8; 8];
     let mut order = [0u8; 8];
     let n = digit(text, 0);
     put_letters_in(text, 6, n, &mut log);
     put_letters_in(text, plus(7, n), n, &mut order);
     let right = listing_right(profile, part_of(&log, 0, n), part_of(&order, 0, n), text);
-    compare_log(profile, part_of(&log, 0, n), 0, tally::edge(t, right))
+    t.edge(right);
+    compare_log(profile, part_of(&log, 0, n), 0, t);
 }
 
-fn case(line: &[u8], t: Tally) -> Tally {
+fn case(line: &[u8], t: &mut Tally) {
     let mut masks = [0u16; 16];
     let mut moves = [0u32; 16];
     let shape = shape_in(line);
@@ -72,65 +72,51 @@ fn case(line: &[u8], t: Tally) -> Tally {
         },
         part_of(line, at, trial::cells::minus(line.len(), at)),
         t,
-    )
+    );
 }
 
 // M1 to M8; of M7 and M8 the free profile has the first order.
-fn document_cases(t: Tally) -> Tally {
-    let alt = case(
-        b"2201 21 2001 469c1 1100 0101",
-        case(b"2201 21 2001 01101  ", t),
-    );
-    let no_order = case(
-        b"2201 00 2001 21320 10 00",
-        case(b"2201 21 2001 33670 101 000", alt),
-    );
-    let courses = case(
-        b"2408 21 24088000 22441 10 01",
-        case(b"2304 21 024000 22441 01 10", no_order),
-    );
-    case(
-        b"3101 252 111 33671 201 120",
-        case(b"4101 2100 1111 649a1 012103 012013", courses),
-    )
+fn document_cases(t: &mut Tally) {
+    case(b"2201 21 2001 01101  ", t);
+    case(b"2201 21 2001 469c1 1100 0101", t);
+    case(b"2201 21 2001 33670 101 000", t);
+    case(b"2201 00 2001 21320 10 00", t);
+    case(b"2304 21 024000 22441 01 10", t);
+    case(b"2408 21 24088000 22441 10 01", t);
+    case(b"4101 2100 1111 649a1 012103 012013", t);
+    case(b"3101 252 111 33671 201 120", t);
 }
 
 // Alt on ba, where only b may be moved past, and where only a may.
-fn one_way_cases(t: Tally) -> Tally {
-    case(
-        b"2201 20 2001 21320 10 00",
-        case(b"2201 01 2001 22441 10 01", t),
-    )
+fn one_way_cases(t: &mut Tally) {
+    case(b"2201 01 2001 22441 10 01", t);
+    case(b"2201 20 2001 21320 10 00", t);
 }
 
 // Alt on the log: of every table of up to 50 numbers those with its records are enough, and the rest stays.
-fn table_lengths(log: &[u8], t: Tally) -> Tally {
+fn table_lengths(log: &[u8], t: &mut Tally) {
     let masks = [2u16, 1];
     let moves = [2u32, 0, 0, 1];
-    let mut u = t;
     for size in 0..51 {
-        u = tally::count(
-            compare_table(
-                &Profile {
-                    shape: alt(),
-                    masks: &masks,
-                    moves: &moves,
-                },
-                log,
-                log.len(),
-                size,
-                u,
-            ),
-            Counted::Edges,
+        compare_table(
+            &Profile {
+                shape: alt(),
+                masks: &masks,
+                moves: &moves,
+            },
+            log,
+            log.len(),
+            size,
+            t,
         );
+        t.count(Counted::Edges);
     }
-    u
 }
 
 // On ba 39 numbers are refused and 40 are enough; on the empty log 9 are refused and 10 are enough.
-pub fn all_cases(t: Tally) -> Tally {
-    table_lengths(
-        b"",
-        table_lengths(&[1u8, 0], one_way_cases(document_cases(t))),
-    )
+pub fn all_cases(t: &mut Tally) {
+    document_cases(t);
+    one_way_cases(t);
+    table_lengths(&[1u8, 0], t);
+    table_lengths(b"", t);
 }

@@ -7,28 +7,26 @@ use trial::text_rows::{digit, put_masks_in, put_moves_in, rest_at, shape_in};
 use trial_logs::orders::compare_with;
 
 // All calls on a log, and its file.
-pub fn compare_log(profile: &Profile, log: &[u8], extra: usize, t: Tally) -> Tally {
-    let judged = trial_logs::compare::compare_log(profile, log, extra, t);
-    trial_files::compare::compare_log(profile, log, extra, judged)
+pub fn compare_log(profile: &Profile, log: &[u8], extra: usize, t: &mut Tally) {
+    trial_logs::compare::compare_log(profile, log, extra, t);
+    trial_files::compare::compare_log(profile, log, extra, t);
 }
 
-fn compare_number(profile: &Profile, v: usize, t: Tally) -> Tally {
+fn compare_number(profile: &Profile, v: usize, t: &mut Tally) {
     let mut log = [0u8; 8];
     let n = put_log_number(profile.shape.k, v, &mut log);
-    compare_log(profile, part_of(&log, 0, n), v, t)
+    compare_log(profile, part_of(&log, 0, n), v, t);
 }
 
 // Every log of 0 to `longest` letters.
-fn compare_numbers(profile: &Profile, longest: usize, t: Tally) -> Tally {
-    let mut u = t;
+fn compare_numbers(profile: &Profile, longest: usize, t: &mut Tally) {
     for v in 0..log_count(profile.shape.k, longest) {
-        u = compare_number(profile, v, u);
+        compare_number(profile, v, t);
     }
-    u
 }
 
 // Every log of the profile in a row, up to the length behind its moves.
-pub fn every_log(row: &[u8], t: Tally) -> Tally {
+pub fn every_log(row: &[u8], t: &mut Tally) {
     let mut masks = [0u16; 16];
     let mut moves = [0u32; 16];
     let shape = shape_in(row);
@@ -43,38 +41,34 @@ pub fn every_log(row: &[u8], t: Tally) -> Tally {
         },
         digit(row, rest_at(shape)),
         t,
-    )
+    );
 }
 
 // Logs number v and w.
-fn compare_two(k: usize, masks: &[u16], v: usize, w: usize, t: Tally) -> Tally {
+fn compare_two(k: usize, masks: &[u16], v: usize, w: usize, t: &mut Tally) {
     let mut first = [0u8; 8];
     let mut second = [0u8; 8];
     let n = put_log_number(k, v, &mut first);
     let m = put_log_number(k, w, &mut second);
-    compare_with(k, masks, part_of(&first, 0, n), part_of(&second, 0, m), t)
+    compare_with(k, masks, part_of(&first, 0, n), part_of(&second, 0, m), t);
 }
 
-fn compare_with_all(k: usize, masks: &[u16], v: usize, all: usize, t: Tally) -> Tally {
-    let mut u = t;
+fn compare_with_all(k: usize, masks: &[u16], v: usize, all: usize, t: &mut Tally) {
     for w in 0..all {
-        u = compare_two(k, masks, v, w, u);
+        compare_two(k, masks, v, w, t);
     }
-    u
 }
 
-fn compare_all(k: usize, masks: &[u16], all: usize, t: Tally) -> Tally {
-    let mut u = t;
+fn compare_all(k: usize, masks: &[u16], all: usize, t: &mut Tally) {
     for v in 0..all {
-        u = compare_with_all(k, masks, v, all, u);
+        compare_with_all(k, masks, v, all, t);
     }
-    u
 }
 
 // Every pair of logs of 0 to `longest` letters; the row has k and the masks.
-pub fn pairs_of(row: &[u8], longest: usize, t: Tally) -> Tally {
+pub fn pairs_of(row: &[u8], longest: usize, t: &mut Tally) {
     let mut masks = [0u16; 16];
     let k = digit(row, 0);
     put_masks_in(row, &mut masks);
-    compare_all(k, part_of(&masks, 0, k), log_count(k, longest), t)
+    compare_all(k, part_of(&masks, 0, k), log_count(k, longest), t);
 }

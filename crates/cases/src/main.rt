@@ -12,20 +12,23 @@ use trial::tally;
 use trial::tally::{Counted, Tally};
 
 // Every log of small profiles, logs of random ones, and the cases of document 01, with their files.
-fn compare_logs(t: Tally) -> Tally {
-    let small = small::every_pair(small::small_profiles(t));
-    let random = random::wide_profiles(7, 100, random::small_profiles(20261116, 1500, small));
-    document::all_cases(random)
+fn compare_logs(t: &mut Tally) {
+    small::small_profiles(t);
+    small::every_pair(t);
+    random::small_profiles(20261116, 1500, t);
+    random::wide_profiles(7, 100, t);
+    document::all_cases(t);
 }
 
 // Damaged files, and files made at random.
-fn compare_files(t: Tally) -> Tally {
-    let document = trial_files::damages::damage_document(t);
-    let damaged = trial_files::damages::damage_many(40, 40, document);
-    trial_files::long_files::long_files(trial_files::damages::scatter_many(80, 10000, damaged))
+fn compare_files(t: &mut Tally) {
+    trial_files::damages::damage_document(t);
+    trial_files::damages::damage_many(40, 40, t);
+    trial_files::damages::scatter_many(80, 10000, t);
+    trial_files::long_files::long_files(t);
 }
 
-fn print(rt: &impl Print, t: Tally) -> io::Result<()> {
+fn print(rt: &impl Print, t: &Tally) -> io::Result<()> {
     println!(rt;
         "judge: logs {}, verdict 1 {}, reachable logs {}",
         t.of(Counted::Logs),
@@ -69,7 +72,7 @@ fn print(rt: &impl Print, t: Tally) -> io::Result<()> {
         t.of(Counted::OneWayLogs),
         t.of(Counted::OneWayPairs)
     )?;
-    tally::say_refusals(rt, t)?;
+    t.say_refusals(rt)?;
     println!(rt;
         "wrong: judge {}, table {}, same {}, first order {}, refusal {}, file {}, log reader {}, edge {}",
         t.of(Counted::Judge),
@@ -84,6 +87,10 @@ fn print(rt: &impl Print, t: Tally) -> io::Result<()> {
 }
 
 fn main(rt: HostRuntime) -> io::Result<()> {
-    let logs = trial_long::long_logs(compare_logs(tally::nothing()));
-    print(&rt, compare_files(trial_refusals::all_refusals(logs)))
+    let mut t = Tally::new();
+    compare_logs(&mut t);
+    trial_long::long_logs(&mut t);
+    trial_refusals::all_refusals(&mut t);
+    compare_files(&mut t);
+    print(&rt, &t)
 }

@@ -30,34 +30,32 @@ fn put_near(seed: usize, k: usize, log: &[u8], near: &mut [u8]) {
 }
 
 // Compares a log with one that is a little different; where no letter is, it is one shorter.
-fn compare_near(seed: usize, k: usize, masks: &[u16], log: &[u8], t: Tally) -> Tally {
+fn compare_near(seed: usize, k: usize, masks: &[u16], log: &[u8], t: &mut Tally) {
     let mut near = [0u8; 8];
     put_near(seed, k, log, &mut near);
     let less = if below(seed, 3, 4) == 3 { 1 } else { 0 };
-    compare_with(k, masks, log, part_of(&near, 0, minus(log.len(), less)), t)
+    compare_with(k, masks, log, part_of(&near, 0, minus(log.len(), less)), t);
 }
 
 // A random log of up to `longest` letters, and one near it.
-fn random_log(seed: usize, profile: &Profile, longest: usize, t: Tally) -> Tally {
+fn random_log(seed: usize, profile: &Profile, longest: usize, t: &mut Tally) {
     let mut letters = [0u8; 8];
     let n = below(seed, 10, plus(longest, 1));
     put_log(seed, profile.shape.k, n, &mut letters);
     let log = part_of(&letters, 0, n);
-    let compared = compare_log(profile, log, below(seed, 11, 1000), t);
-    compare_near(seed, profile.shape.k, profile.masks, log, compared)
+    compare_log(profile, log, below(seed, 11, 1000), t);
+    compare_near(seed, profile.shape.k, profile.masks, log, t);
 }
 
 // Four logs of a profile.
-fn random_logs(seed: usize, profile: &Profile, longest: usize, t: Tally) -> Tally {
-    let mut u = t;
+fn random_logs(seed: usize, profile: &Profile, longest: usize, t: &mut Tally) {
     for i in 0..4 {
-        u = random_log(seed_of(seed, i), profile, longest, u);
+        random_log(seed_of(seed, i), profile, longest, t);
     }
-    u
 }
 
 // A random profile with k letters and s states.
-fn random_profile(seed: usize, k: usize, s: usize, longest: usize, t: Tally) -> Tally {
+fn random_profile(seed: usize, k: usize, s: usize, longest: usize, t: &mut Tally) {
     let mut masks = [0u16; 16];
     let mut moves = [0u32; 512];
     put_masks(seed, k, below(seed, 999, 9), &mut masks);
@@ -71,34 +69,31 @@ fn random_profile(seed: usize, k: usize, s: usize, longest: usize, t: Tally) -> 
         },
         longest,
         t,
-    )
+    );
 }
 
 // Profiles of 1 to 5 letters and 1 to 6 states.
-pub fn small_profiles(seed: usize, many: usize, t: Tally) -> Tally {
-    let mut u = t;
+pub fn small_profiles(seed: usize, many: usize, t: &mut Tally) {
     for i in 0..many {
         let one = seed_of(seed, i);
         let k = plus(1, below(one, 1000, 5));
         let s = plus(1, below(one, 1001, 6));
-        u = random_profile(one, k, s, 7, u);
+        random_profile(one, k, s, 7, t);
     }
-    u
 }
 
 // A profile of 6 to 16 letters and up to 32 states, and those at the ends of the ranges.
-fn wide_profile(seed: usize, t: Tally) -> Tally {
+fn wide_profile(seed: usize, t: &mut Tally) {
     let k = plus(6, below(seed, 1000, 11));
     let s = plus(1, below(seed, 1001, 32));
-    let wide = random_profile(seed, k, s, 6, t);
-    let least = random_profile(seed, 1, 32, 7, random_profile(seed, 16, 1, 6, wide));
-    random_profile(seed, 16, 32, 6, least)
+    random_profile(seed, k, s, 6, t);
+    random_profile(seed, 16, 1, 6, t);
+    random_profile(seed, 1, 32, 7, t);
+    random_profile(seed, 16, 32, 6, t);
 }
 
-pub fn wide_profiles(seed: usize, many: usize, t: Tally) -> Tally {
-    let mut u = t;
+pub fn wide_profiles(seed: usize, many: usize, t: &mut Tally) {
     for i in 0..many {
-        u = wide_profile(seed_of(seed, i), u);
+        wide_profile(seed_of(seed, i), t);
     }
-    u
 }

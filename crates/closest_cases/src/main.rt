@@ -8,7 +8,6 @@ use trial::cells::{part_of, plus, times};
 use trial::logs::{log_count, put_log_number};
 use trial::random::{below, put_log, put_masks, put_moves, random_shape, seed_of};
 use trial::shapes::{alt, shape_of};
-use trial::tally;
 use trial::tally::Tally;
 use trial_closest::budgets::compare_log;
 use trial_closest::edges::{compare_edges, compare_term_edges};
@@ -73,7 +72,7 @@ fn dated_for(seed: usize, n: usize, with_terms: bool) -> Dated {
     }
 }
 
-fn with_log(profile: &Profile, seed: usize, with_terms: bool, t: Tally) -> Tally {
+fn with_log(profile: &Profile, seed: usize, with_terms: bool, t: &mut Tally) {
     let mut log = [0u8; 8];
     let n = length_of(seed, profile.shape.k, profile.shape.s);
     put_log(seed_of(seed, 1), profile.shape.k, n, &mut log);
@@ -83,10 +82,10 @@ fn with_log(profile: &Profile, seed: usize, with_terms: bool, t: Tally) -> Tally
         dated_for(seed, n, with_terms),
         below(seed, 15, 1000),
         t,
-    )
+    );
 }
 
-fn one_profile(seed: usize, with_terms: bool, t: Tally) -> Tally {
+fn one_profile(seed: usize, with_terms: bool, t: &mut Tally) {
     let mut masks = [0u16; 16];
     let mut moves = [0u32; 512];
     let k = letters_of(seed);
@@ -102,15 +101,13 @@ fn one_profile(seed: usize, with_terms: bool, t: Tally) -> Tally {
         seed,
         with_terms,
         t,
-    )
+    );
 }
 
-fn random_profiles(seed: usize, many: usize, with_terms: bool, t: Tally) -> Tally {
-    let mut u = t;
+fn random_profiles(seed: usize, many: usize, with_terms: bool, t: &mut Tally) {
     for i in 0..many {
-        u = one_profile(seed_of(seed, i), with_terms, u);
+        one_profile(seed_of(seed, i), with_terms, t);
     }
-    u
 }
 
 // The event is in the second of two terms where its bit is set.
@@ -130,14 +127,14 @@ fn halves_of(halves: usize) -> Dated {
 }
 
 // Log v of Alt and of one state that accepts everything; the pairs are both ways, one way, the other way or none.
-fn compare_two(v: usize, pairs: usize, dated: Dated, t: Tally) -> Tally {
+fn compare_two(v: usize, pairs: usize, dated: Dated, t: &mut Tally) {
     let mut log = [0u8; 8];
     let moves = [2u32, 0, 0, 1];
     let all = [1u32, 1];
     let masks = [((pairs % 2) * 2) as u16, (pairs / 2 % 2) as u16];
     let n = put_log_number(2, v, &mut log);
     let word = part_of(&log, 0, n);
-    let first = compare_log(
+    compare_log(
         &Profile {
             shape: alt(),
             masks: &masks,
@@ -157,29 +154,25 @@ fn compare_two(v: usize, pairs: usize, dated: Dated, t: Tally) -> Tally {
         word,
         dated,
         plus(v, pairs),
-        first,
-    )
+        t,
+    );
 }
 
 // Every log of up to six letters a and b.
-fn all_of_two(t: Tally) -> Tally {
-    let mut u = t;
+fn all_of_two(t: &mut Tally) {
     for i in 0..times(log_count(2, 6), 4) {
-        u = compare_two(i / 4, i % 4, no_terms(), u);
+        compare_two(i / 4, i % 4, no_terms(), t);
     }
-    u
 }
 
 // Every log of four letters a and b, with its events in two terms in every way.
-fn all_halves(t: Tally) -> Tally {
-    let mut u = t;
+fn all_halves(t: &mut Tally) {
     for i in 0..1024 {
-        u = compare_two(plus(15, i / 64), i / 16 % 4, halves_of(i % 16), u);
+        compare_two(plus(15, i / 64), i / 16 % 4, halves_of(i % 16), t);
     }
-    u
 }
 
-fn print(rt: &impl Print, t: Tally) -> io::Result<()> {
+fn print(rt: &impl Print, t: &Tally) -> io::Result<()> {
     println!(rt;
         "logs {}: verdict 1 {}, with one-way masks {}, closest order not the judge's {}, not the log {}; pairs of a prefix and a state {}",
         t.of(Met::Logs),
@@ -220,7 +213,7 @@ fn print(rt: &impl Print, t: Tally) -> io::Result<()> {
     println!(rt; "not refused {}", t.of(ByDamage(11)))
 }
 
-fn print_terms(rt: &impl Print, t: Tally) -> io::Result<()> {
+fn print_terms(rt: &impl Print, t: &Tally) -> io::Result<()> {
     println!(rt;
         "with terms: neighbours in two terms {}, days that fall {}, fewer prefixes than without terms {}",
         t.of(Met::Turns),
@@ -231,8 +224,16 @@ fn print_terms(rt: &impl Print, t: Tally) -> io::Result<()> {
 }
 
 fn main(rt: HostRuntime) -> io::Result<()> {
-    let logs = random_profiles(10, 10000, false, all_of_two(tally::nothing()));
-    print(&rt, combine_all(compare_edges(logs)))?;
-    let dated = random_profiles(11, 10000, true, all_halves(tally::nothing()));
-    print_terms(&rt, combine_all_terms(compare_term_edges(dated)))
+    let mut t = Tally::new();
+    all_of_two(&mut t);
+    random_profiles(10, 10000, false, &mut t);
+    compare_edges(&mut t);
+    combine_all(&mut t);
+    print(&rt, &t)?;
+    let mut dated = Tally::new();
+    all_halves(&mut dated);
+    random_profiles(11, 10000, true, &mut dated);
+    compare_term_edges(&mut dated);
+    combine_all_terms(&mut dated);
+    print_terms(&rt, &dated)
 }

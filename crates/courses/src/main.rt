@@ -3,18 +3,18 @@
 #![tactic(auto)]
 
 use std::io;
-use trial::tally;
 use trial::tally::Tally;
 use trial_courses::counters::{Counted, RefusedBy};
 use trial_courses::small::every_text;
 
 // All short texts over two and three letters, and over one, with the letter behind it.
-fn every_short_text(t: Tally) -> Tally {
-    let two = every_text(2, b"ab|*()", 5, t);
-    every_text(3, b"abc|*()", 5, every_text(1, b"ab|*()", 5, two))
+fn every_short_text(t: &mut Tally) {
+    every_text(2, b"ab|*()", 5, t);
+    every_text(1, b"ab|*()", 5, t);
+    every_text(3, b"abc|*()", 5, t);
 }
 
-fn print(rt: &impl Print, t: Tally) -> io::Result<()> {
+fn print(rt: &impl Print, t: &Tally) -> io::Result<()> {
     println!(rt;
         "texts: all {}, right {}; random {}, right {}; edges {}",
         t.of(Counted::Texts),
@@ -56,7 +56,9 @@ fn print(rt: &impl Print, t: Tally) -> io::Result<()> {
 }
 
 fn main(rt: HostRuntime) -> io::Result<()> {
-    let short = every_short_text(tally::nothing());
-    let random = trial_random_courses::random_texts(20261116, 2000, short);
-    print(&rt, trial_course_edges::all_edges(random))
+    let mut t = Tally::new();
+    every_short_text(&mut t);
+    trial_random_courses::random_texts(20261116, 2000, &mut t);
+    trial_course_edges::all_edges(&mut t);
+    print(&rt, &t)
 }

@@ -5,7 +5,6 @@
 use std::io;
 use trial::cells::plus;
 use trial::random::{below, seed_of};
-use trial::tally;
 use trial::tally::Tally;
 use trial_derived::compare::{Counted, compare_case, with_room};
 use trial_derived::edges::all_edges;
@@ -13,27 +12,27 @@ use trial_derived::random::random_case;
 use trial_derived::refusing::{Defect, compare_defects};
 
 // One grammar and log: a call that is not refused, and one with some defects.
-fn one_case(seed: usize, t: Tally) -> Tally {
+fn one_case(seed: usize, t: &mut Tally) {
     let case = random_case(seed);
-    let answered = compare_case(with_room(case, below(seed, 1, 60)), t);
+    compare_case(with_room(case, below(seed, 1, 60)), t);
     compare_defects(
         with_room(case, 0),
         plus(1, below(seed, 2, 255)),
         below(seed, 3, 8),
-        answered,
-    )
+        t,
+    );
 }
 
-fn all_cases(seed: usize, many: usize, t: Tally) -> Tally {
-    let mut u = t;
+fn all_cases(seed: usize, many: usize, t: &mut Tally) {
     for i in 0..many {
-        u = one_case(seed_of(seed, i), u);
+        one_case(seed_of(seed, i), t);
     }
-    u
 }
 
 fn main(rt: HostRuntime) -> io::Result<()> {
-    let t = all_edges(all_cases(13, 4000, tally::nothing()));
+    let mut t = Tally::new();
+    all_cases(13, 4000, &mut t);
+    all_edges(&mut t);
     println!(rt;
         "grammars and logs {}, one-way {}: verdict 1 {}, reachable logs {}, of them derived {}, records {}",
         t.of(Counted::Cases),

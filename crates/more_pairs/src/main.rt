@@ -6,13 +6,12 @@ use profile::Shape;
 use std::io;
 use trial::cells::{part_of, plus, times};
 use trial::random::{below, put_log, put_moves, random_shape, seed_of};
-use trial::tally;
 use trial::tally::{Counted, Tally};
 use trial_more_pairs::compare::{Beside, compare_nested};
 use trial_more_pairs::masks::put_nested;
 
 // One profile and one log.
-fn compare_one(k: usize, masks: &[u16], longer: &[u16], seed: usize, t: Tally) -> Tally {
+fn compare_one(k: usize, masks: &[u16], longer: &[u16], seed: usize, t: &mut Tally) {
     let mut moves = [0u32; 64];
     let mut letters = [0u8; 8];
     let s = plus(1, below(seed, 0, 4));
@@ -27,27 +26,18 @@ fn compare_one(k: usize, masks: &[u16], longer: &[u16], seed: usize, t: Tally) -
         part_of(&moves, 0, times(s, k)),
         part_of(&letters, 0, n),
         t,
-    )
+    );
 }
 
 // `many` profiles and logs.
-fn compare_many(
-    k: usize,
-    masks: &[u16],
-    longer: &[u16],
-    seed: usize,
-    many: usize,
-    t: Tally,
-) -> Tally {
-    let mut u = t;
+fn compare_many(k: usize, masks: &[u16], longer: &[u16], seed: usize, many: usize, t: &mut Tally) {
     for i in 0..many {
-        u = compare_one(k, masks, longer, seed_of(seed, i), u);
+        compare_one(k, masks, longer, seed_of(seed, i), t);
     }
-    u
 }
 
 // The two lists of a code.
-fn compare_code(k: usize, code: usize, many: usize, t: Tally) -> Tally {
+fn compare_code(k: usize, code: usize, many: usize, t: &mut Tally) {
     let mut masks = [0u16; 16];
     let mut longer = [0u16; 16];
     put_nested(code, k, false, &mut masks);
@@ -59,33 +49,30 @@ fn compare_code(k: usize, code: usize, many: usize, t: Tally) -> Tally {
         seed_of(code, k),
         many,
         t,
-    )
+    );
 }
 
 // All codes below `codes`, of k letters.
-fn compare_codes(k: usize, codes: usize, many: usize, t: Tally) -> Tally {
-    let mut u = t;
+fn compare_codes(k: usize, codes: usize, many: usize, t: &mut Tally) {
     for code in 0..codes {
-        u = compare_code(k, code, many, u);
+        compare_code(k, code, many, t);
     }
-    u
 }
 
 // Codes that are seeds, of four to sixteen letters.
-fn compare_seeds(codes: usize, t: Tally) -> Tally {
-    let mut u = t;
+fn compare_seeds(codes: usize, t: &mut Tally) {
     for i in 0..codes {
         let code = seed_of(i, 5);
-        u = compare_code(plus(4, below(code, 999, 13)), code, 1, u);
+        compare_code(plus(4, below(code, 999, 13)), code, 1, t);
     }
-    u
 }
 
 fn main(rt: HostRuntime) -> io::Result<()> {
-    let one = compare_codes(1, 1, 40, tally::nothing());
-    let two = compare_codes(2, 9, 200, one);
-    let three = compare_codes(3, 729, 8, two);
-    let t = compare_seeds(1000, three);
+    let mut t = Tally::new();
+    compare_codes(1, 1, 40, &mut t);
+    compare_codes(2, 9, 200, &mut t);
+    compare_codes(3, 729, 8, &mut t);
+    compare_seeds(1000, &mut t);
     println!(rt;
         "judged {}, with verdict 1 {}, reachable logs {}",
         t.of(Counted::Logs),

@@ -6,10 +6,9 @@ use profile::Profile;
 use std::io;
 use trial::cells::{Cell, part_of, plus, times};
 use trial::random::{below, put_masks, put_moves, random_shape, seed_of};
-use trial::tally;
 use trial::tally::Tally;
 use trial_running::damaged::{compare_damaged, put_numbers};
-use trial_running::run::{Counted, Run, compare_run};
+use trial_running::run::{Counted, Run};
 
 // One to three letters, or four to sixteen in one of four runs.
 fn letters_of(seed: usize) -> usize {
@@ -29,29 +28,18 @@ fn size_of(seed: usize) -> usize {
     }
 }
 
-fn run_with(profile: &Profile, seed: usize, t: Tally) -> Tally {
+fn run_with(profile: &Profile, seed: usize, t: &mut Tally) {
     let mut numbers = [u32::GUARD; 1424];
     let mut others = [u32::GUARD; 1424];
-    let log = [0u8; 8];
-    let run = Run {
-        log: log,
-        taken: 0,
-        size: size_of(seed),
-        tally: tally::count(t, Counted::Runs),
-    };
-    let left = compare_run(
-        profile,
-        seed,
-        plus(6, below(seed, 14, 6)),
-        &mut numbers,
-        run,
-    );
+    t.count(Counted::Runs);
+    let mut run = Run::new(size_of(seed));
+    run.compare(profile, seed, plus(6, below(seed, 14, 6)), &mut numbers, t);
     let size = below(seed, 15, 140);
     put_numbers(seed_of(seed, 18), size, &mut others);
-    compare_damaged(profile, seed, size, &mut others, left.tally)
+    compare_damaged(profile, seed, size, &mut others, t);
 }
 
-fn one_run(seed: usize, t: Tally) -> Tally {
+fn one_run(seed: usize, t: &mut Tally) {
     let mut masks = [0u16; 16];
     let mut moves = [0u32; 64];
     let k = letters_of(seed);
@@ -67,19 +55,18 @@ fn one_run(seed: usize, t: Tally) -> Tally {
         },
         seed,
         t,
-    )
+    );
 }
 
-fn all_runs(seed: usize, many: usize, t: Tally) -> Tally {
-    let mut u = t;
+fn all_runs(seed: usize, many: usize, t: &mut Tally) {
     for i in 0..many {
-        u = one_run(seed_of(seed, i), u);
+        one_run(seed_of(seed, i), t);
     }
-    u
 }
 
 fn main(rt: HostRuntime) -> io::Result<()> {
-    let t = all_runs(7, 5000, tally::nothing());
+    let mut t = Tally::new();
+    all_runs(7, 5000, &mut t);
     println!(rt;
         "runs {}: starts refused {}, events taken {}, refused by 8 {}, by 10 {}, questions {}, with verdict 1 {}, records {}",
         t.of(Counted::Runs),

@@ -2,7 +2,6 @@
 use crate::vectors::{box_size, change, counts_of, key_of, put_box, put_record};
 use trial::cells::{minus, plus};
 use trial::record_numbers::record_at;
-use trial::tally;
 use trial::tally::{Counter, Tally};
 use trial_logs::place_keys::place_of;
 
@@ -50,8 +49,8 @@ fn search_part(
     vector: &[u8],
     first: usize,
     end: usize,
-    t: Tally,
-) -> Tally {
+    t: &mut Tally,
+) {
     let key = key_of(vector);
     let place = place_of(keys, prefixes, key);
     let listed = place_of(keys, prefixes, plus(key, 1)) != place;
@@ -59,12 +58,9 @@ fn search_part(
     let found = search::find(part_of(table, first, end), counts_of(vector));
     let number = place_in(place, first, end);
     let right = found == if present { Ok(number) } else { Err(number) };
-    let counted = tally::count_if(
-        tally::count(t, Counted::Searches),
-        Counted::Present,
-        present,
-    );
-    tally::expect(counted, Counted::Wrong, right)
+    t.count(Counted::Searches);
+    t.count_if(Counted::Present, present);
+    t.expect(Counted::Wrong, right);
 }
 
 // Searches the records of one total.
@@ -74,46 +70,37 @@ fn search_total(
     prefixes: usize,
     vector: &[u8],
     total: usize,
-    t: Tally,
-) -> Tally {
+    t: &mut Tally,
+) {
     let first = place_of(keys, prefixes, (total % 16) << 60);
     let end = if total < 15 {
         place_of(keys, prefixes, (total + 1) << 60)
     } else {
         prefixes
     };
-    search_part(table, keys, prefixes, vector, first, end, t)
+    search_part(table, keys, prefixes, vector, first, end, t);
 }
 
 // Searches the whole table, the records of the vector's total, and those of the totals beside it.
-fn search_vector(table: &[u32], keys: &[usize], prefixes: usize, vector: &[u8], t: Tally) -> Tally {
+fn search_vector(table: &[u32], keys: &[usize], prefixes: usize, vector: &[u8], t: &mut Tally) {
     let total = key_of(vector) >> 60;
-    let whole = search_part(table, keys, prefixes, vector, 0, prefixes, t);
-    let own = search_total(table, keys, prefixes, vector, total, whole);
-    let above = search_total(table, keys, prefixes, vector, plus(total, 1), own);
-    search_total(table, keys, prefixes, vector, minus(total, 1), above)
+    search_part(table, keys, prefixes, vector, 0, prefixes, t);
+    search_total(table, keys, prefixes, vector, total, t);
+    search_total(table, keys, prefixes, vector, plus(total, 1), t);
+    search_total(table, keys, prefixes, vector, minus(total, 1), t);
 }
 
-fn search_boxed(
-    table: &[u32],
-    keys: &[usize],
-    prefixes: usize,
-    k: usize,
-    v: usize,
-    t: Tally,
-) -> Tally {
+fn search_boxed(table: &[u32], keys: &[usize], prefixes: usize, k: usize, v: usize, t: &mut Tally) {
     let mut vector = [0u8; 16];
     put_box(table, minus(prefixes, 1), k, v, &mut vector);
-    search_vector(table, keys, prefixes, &vector, t)
+    search_vector(table, keys, prefixes, &vector, t);
 }
 
 // Every count vector of the box around the whole log.
-pub fn search_box(table: &[u32], keys: &[usize], prefixes: usize, k: usize, t: Tally) -> Tally {
-    let mut u = t;
+pub fn search_box(table: &[u32], keys: &[usize], prefixes: usize, k: usize, t: &mut Tally) {
     for v in 0..box_size(table, minus(prefixes, 1), k) {
-        u = search_boxed(table, keys, prefixes, k, v, u);
+        search_boxed(table, keys, prefixes, k, v, t);
     }
-    u
 }
 
 // The counts of record r, with one more and with one less of letter x.
@@ -123,23 +110,21 @@ fn search_beside(
     prefixes: usize,
     r: usize,
     x: usize,
-    t: Tally,
-) -> Tally {
+    t: &mut Tally,
+) {
     let mut more = [0u8; 16];
     let mut less = [0u8; 16];
     put_record(table, r, &mut more);
     put_record(table, r, &mut less);
     change(&mut more, x, true);
     change(&mut less, x, false);
-    let above = search_vector(table, keys, prefixes, &more, t);
-    search_vector(table, keys, prefixes, &less, above)
+    search_vector(table, keys, prefixes, &more, t);
+    search_vector(table, keys, prefixes, &less, t);
 }
 
 // The counts beside those of each record, of a letter that goes round; where the letter has none, one less is the record's own counts.
-pub fn search_records(table: &[u32], keys: &[usize], prefixes: usize, t: Tally) -> Tally {
-    let mut u = t;
+pub fn search_records(table: &[u32], keys: &[usize], prefixes: usize, t: &mut Tally) {
     for r in 0..prefixes {
-        u = search_beside(table, keys, prefixes, r, r % 16, u);
+        search_beside(table, keys, prefixes, r, r % 16, t);
     }
-    u
 }

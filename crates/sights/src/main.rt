@@ -7,7 +7,6 @@ use std::io;
 use trial::cells::{minus, part_of, plus, quotient, times};
 use trial::logs::log_count;
 use trial::random::{below, put_log, put_masks, put_moves, random_shape, seed_of};
-use trial::tally;
 use trial::tally::Tally;
 use trial_views::edges::compare_edges;
 use trial_views::lists::{View, put_visible};
@@ -41,14 +40,14 @@ fn compare(
     log: &[u8],
     seen: &[u8],
     seed: usize,
-    t: Tally,
-) -> Tally {
+    t: &mut Tally,
+) {
     let room = below(seed, 14, 9);
     let size = size_of(seed);
     let all = mask_of(minus(1 << (view.shape.k % 64), 1));
-    let a = compare_view(view, masks, moves, log, 8, 1400, t);
-    let b = compare_view(view, masks, moves, log, room, size, a);
-    let c = compare_secret(view, masks, moves, log, seen, room, size, b);
+    compare_view(view, masks, moves, log, 8, 1400, t);
+    compare_view(view, masks, moves, log, room, size, t);
+    compare_secret(view, masks, moves, log, seen, room, size, t);
     compare_judge(
         &Profile {
             shape: view.shape,
@@ -58,8 +57,8 @@ fn compare(
         log,
         all,
         room,
-        c,
-    )
+        t,
+    );
 }
 
 // The first letters of the log, or as many as may be visible.
@@ -71,7 +70,7 @@ fn cut(visible: usize, log: &[u8], most: usize, part: &mut [u8]) -> usize {
     }
 }
 
-fn view_with(profile: &Profile, seed: usize, t: Tally) -> Tally {
+fn view_with(profile: &Profile, seed: usize, t: &mut Tally) {
     let mut letters = [0u8; 8];
     let mut part = [0u8; 8];
     let most = most_visible(profile.shape.k, profile.shape.s);
@@ -93,10 +92,10 @@ fn view_with(profile: &Profile, seed: usize, t: Tally) -> Tally {
         part_of(&part, 0, m),
         seed,
         t,
-    )
+    );
 }
 
-fn one_view(seed: usize, t: Tally) -> Tally {
+fn one_view(seed: usize, t: &mut Tally) {
     let mut masks = [0u16; 16];
     let mut moves = [0u32; 64];
     let k = plus(1, below(seed, 10, 3));
@@ -112,19 +111,19 @@ fn one_view(seed: usize, t: Tally) -> Tally {
         },
         seed,
         t,
-    )
+    );
 }
 
-fn all_views(seed: usize, many: usize, t: Tally) -> Tally {
-    let mut u = t;
+fn all_views(seed: usize, many: usize, t: &mut Tally) {
     for i in 0..many {
-        u = one_view(seed_of(seed, i), u);
+        one_view(seed_of(seed, i), t);
     }
-    u
 }
 
 fn main(rt: HostRuntime) -> io::Result<()> {
-    let t = all_views(12, 1500, compare_edges(tally::nothing()));
+    let mut t = Tally::new();
+    compare_edges(&mut t);
+    all_views(12, 1500, &mut t);
     println!(rt;
         "views {}: with hidden letters {}, verdict 1 {}, not as the judge of the visible part {}, records {}, refused by 9 {}, by 10 {}",
         t.of(Counted::Views),

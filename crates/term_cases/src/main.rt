@@ -8,7 +8,6 @@ use trial::cells::{part_of, plus, times};
 use trial::logs::{log_count, put_log_number};
 use trial::random::{below, put_log, put_masks, put_moves, random_shape, seed_of};
 use trial::shapes::alt;
-use trial::tally;
 use trial::tally::Tally;
 use trial_term_refusals::combined::combine_all;
 use trial_term_refusals::lists::all_lists;
@@ -48,7 +47,7 @@ fn few_of(seed: usize, many: usize) -> usize {
     }
 }
 
-fn compare_profile(profile: &Profile, seed: usize, t: Tally) -> Tally {
+fn compare_profile(profile: &Profile, seed: usize, t: &mut Tally) {
     let mut log = [0u8; 8];
     let mut days = [0u32; 8];
     let mut terms = [0u32; 24];
@@ -59,7 +58,7 @@ fn compare_profile(profile: &Profile, seed: usize, t: Tally) -> Tally {
     put_days(seed_of(seed, 3), n, few_of(seed, many), &terms, &mut days);
     let word = part_of(&log, 0, n);
     let dates = part_of(&days, 0, n);
-    let compared = compare_dated(
+    compare_dated(
         profile,
         word,
         &Calendar {
@@ -74,11 +73,11 @@ fn compare_profile(profile: &Profile, seed: usize, t: Tally) -> Tally {
         word,
         dates,
         plus(below(seed, 18, 300), times(below(seed, 19, 2), 1100)),
-        compared,
-    )
+        t,
+    );
 }
 
-fn one_profile(seed: usize, t: Tally) -> Tally {
+fn one_profile(seed: usize, t: &mut Tally) {
     let mut masks = [0u16; 16];
     let mut moves = [0u32; 64];
     let k = letters_of(seed);
@@ -93,19 +92,17 @@ fn one_profile(seed: usize, t: Tally) -> Tally {
         },
         seed,
         t,
-    )
+    );
 }
 
-fn random_profiles(seed: usize, many: usize, t: Tally) -> Tally {
-    let mut u = t;
+fn random_profiles(seed: usize, many: usize, t: &mut Tally) {
     for i in 0..many {
-        u = one_profile(seed_of(seed, i), u);
+        one_profile(seed_of(seed, i), t);
     }
-    u
 }
 
 // Log v of Alt with its events in two terms; the pairs are both ways, one way, the other way or none.
-fn compare_halves(v: usize, halves: usize, pairs: usize, t: Tally) -> Tally {
+fn compare_halves(v: usize, halves: usize, pairs: usize, t: &mut Tally) {
     let mut log = [0u8; 8];
     let mut days = [0u32; 8];
     let terms = [20260901u32, 20261218, 20261219, 20270326];
@@ -113,7 +110,7 @@ fn compare_halves(v: usize, halves: usize, pairs: usize, t: Tally) -> Tally {
     let masks = [((pairs % 2) * 2) as u16, (pairs / 2 % 2) as u16];
     let n = put_log_number(2, v, &mut log);
     if 0 < halves >> (n % 16) {
-        return t;
+        return;
     }
     put_halves(halves, n, &terms, &mut days);
     let word = part_of(&log, 0, n);
@@ -130,19 +127,17 @@ fn compare_halves(v: usize, halves: usize, pairs: usize, t: Tally) -> Tally {
         },
         plus(v, halves),
         t,
-    )
+    );
 }
 
 // Every log of up to five letters of Alt, with its events in two terms in every way.
-fn all_halves(t: Tally) -> Tally {
-    let mut u = t;
+fn all_halves(t: &mut Tally) {
     for i in 0..times(log_count(2, 5), 128) {
-        u = compare_halves(i / 128, i / 4 % 32, i % 4, u);
+        compare_halves(i / 128, i / 4 % 32, i % 4, t);
     }
-    u
 }
 
-fn print(rt: &impl Print, t: Tally) -> io::Result<()> {
+fn print(rt: &impl Print, t: &Tally) -> io::Result<()> {
     println!(rt;
         "logs {}: verdict 1 {}, reachable logs {}, records {}",
         t.of(Met::Logs),
@@ -199,6 +194,11 @@ fn print(rt: &impl Print, t: Tally) -> io::Result<()> {
 }
 
 fn main(rt: HostRuntime) -> io::Result<()> {
-    let logs = random_profiles(8, 6000, all_halves(tally::nothing()));
-    print(&rt, combine_all(all_lists(8, 20000, all_numbers(logs))))
+    let mut t = Tally::new();
+    all_halves(&mut t);
+    random_profiles(8, 6000, &mut t);
+    all_numbers(&mut t);
+    all_lists(8, 20000, &mut t);
+    combine_all(&mut t);
+    print(&rt, &t)
 }

@@ -1,20 +1,9 @@
-// How much was compared, and what was wrong: counters by value, so that a test that shrinks or fails shows in what is printed.
+// How much was compared, and what was wrong: counters, so that a test that shrinks or fails shows in what is printed.
 use std::io;
-
-#[derive(Clone, Copy)]
-pub struct Tally {
-    cells: [u64; 128],
-}
 
 // A counter has a place among the cells; those of one program have different ones.
 pub trait Counter: Copy {
     fn place(self) -> usize;
-}
-
-impl Tally {
-    pub fn of(self, which: impl Counter) -> u64 {
-        self.cells.get(which.place()).copied().unwrap_or(0)
-    }
 }
 
 // Counters, in the order in which they are printed.
@@ -84,65 +73,82 @@ impl Counter for RefusedBy {
     }
 }
 
-pub fn nothing() -> Tally {
-    Tally { cells: [0; 128] }
+#[derive(Drop)]
+pub struct Tally {
+    cells: [u64; 128],
 }
 
-// Adds to a counter.
-pub fn count_many(t: Tally, which: impl Counter, many: usize) -> Tally {
-    let mut u = t;
-    let place = which.place();
-    if place < 128 {
-        u.cells[place] = u.cells[place].wrapping_add(many as u64);
+impl Tally {
+    pub fn new() -> Self {
+        Tally { cells: [0; 128] }
     }
-    u
-}
 
-pub fn count(t: Tally, which: impl Counter) -> Tally {
-    count_many(t, which, 1)
-}
-
-pub fn count_if(t: Tally, which: impl Counter, yes: bool) -> Tally {
-    if yes { count(t, which) } else { t }
-}
-
-// Counts a wrong comparison of the group.
-pub fn expect(t: Tally, group: impl Counter, right: bool) -> Tally {
-    count_if(t, group, !right)
-}
-
-// Counts an edge.
-pub fn edge(t: Tally, right: bool) -> Tally {
-    count(expect(t, Counted::Edge, right), Counted::Edges)
-}
-
-// Counts a refusal of a call by a number, where it came as expected, or a wrong comparison of the group.
-pub fn refused(t: Tally, group: impl Counter, right: bool, call: Call, number: usize) -> Tally {
-    if right {
-        count(t, RefusedBy(call, number))
-    } else {
-        count(t, group)
+    pub fn of(&self, which: impl Counter) -> u64 {
+        self.cells.get(which.place()).copied().unwrap_or(0)
     }
-}
 
-// Counts an edge at which a call is refused by the number; 0 is none.
-pub fn refused_edge(t: Tally, right: bool, call: Call, number: usize) -> Tally {
-    refused(count(t, Counted::Edges), Counted::Edge, right, call, number)
-}
-
-// Prints the refusals of every call, number by number.
-pub fn say_refusals(rt: &impl Print, t: Tally) -> io::Result<()> {
-    for n in 1..11 {
-        println!(rt;
-            "refusal {n}: judge {}, build {}, same {}, first order {}, read {}, log part {}, write {}",
-            t.of(RefusedBy(Call::Judge, n)),
-            t.of(RefusedBy(Call::Build, n)),
-            t.of(RefusedBy(Call::Same, n)),
-            t.of(RefusedBy(Call::First, n)),
-            t.of(RefusedBy(Call::Read, n)),
-            t.of(RefusedBy(Call::Part, n)),
-            t.of(RefusedBy(Call::Write, n))
-        )?;
+    // Adds to a counter.
+    pub fn count_many(&mut self, which: impl Counter, many: usize) {
+        if let Some(cell) = self.cells.get_mut(which.place()) {
+            *cell = cell.wrapping_add(many as u64);
+        }
     }
-    Ok(())
+
+    pub fn count(&mut self, which: impl Counter) {
+        self.count_many(which, 1);
+    }
+
+    pub fn count_if(&mut self, which: impl Counter, yes: bool) {
+        if yes {
+            self.count(which);
+        }
+    }
+
+    // Counts one thing, or another where it is not so.
+    pub fn count_either(&mut self, yes: bool, which: impl Counter, other: impl Counter) {
+        if yes {
+            self.count(which);
+        } else {
+            self.count(other);
+        }
+    }
+
+    // Counts a wrong comparison of the group.
+    pub fn expect(&mut self, group: impl Counter, right: bool) {
+        self.count_if(group, !right);
+    }
+
+    // Counts an edge.
+    pub fn edge(&mut self, right: bool) {
+        self.expect(Counted::Edge, right);
+        self.count(Counted::Edges);
+    }
+
+    // Counts a refusal of a call by a number, where it came as expected, or a wrong comparison of the group.
+    pub fn refused(&mut self, group: impl Counter, right: bool, call: Call, number: usize) {
+        self.count_either(right, RefusedBy(call, number), group);
+    }
+
+    // Counts an edge at which a call is refused by the number; 0 is none.
+    pub fn refused_edge(&mut self, right: bool, call: Call, number: usize) {
+        self.count(Counted::Edges);
+        self.refused(Counted::Edge, right, call, number);
+    }
+
+    // Prints the refusals of every call, number by number.
+    pub fn say_refusals(&self, rt: &impl Print) -> io::Result<()> {
+        for n in 1..11 {
+            println!(rt;
+                "refusal {n}: judge {}, build {}, same {}, first order {}, read {}, log part {}, write {}",
+                self.of(RefusedBy(Call::Judge, n)),
+                self.of(RefusedBy(Call::Build, n)),
+                self.of(RefusedBy(Call::Same, n)),
+                self.of(RefusedBy(Call::First, n)),
+                self.of(RefusedBy(Call::Read, n)),
+                self.of(RefusedBy(Call::Part, n)),
+                self.of(RefusedBy(Call::Write, n))
+            )?;
+        }
+        Ok(())
+    }
 }

@@ -1,6 +1,5 @@
 // One call for a ceiling, and P beside it.
 use crate::rules::{product_of, wrong_groups};
-use trial::tally;
 use trial::tally::{Counter, Tally};
 
 // Counters, in the order in which they are printed.
@@ -47,26 +46,21 @@ pub fn compare_groups(
     log: &[u8],
     groups: &[u16],
     prefixes: usize,
-    t: Tally,
-) -> Tally {
-    let counted = tally::count(t, Counted::Calls);
+    t: &mut Tally,
+) {
+    t.count(Counted::Calls);
     if wrong_groups(k, masks, groups) {
         let right = tells(k, masks, log, groups, 18, 0, 0);
-        return tally::count(
-            tally::expect(counted, Counted::Answer, right),
-            Counted::BadGroups,
-        );
+        t.expect(Counted::Answer, right);
+        t.count(Counted::BadGroups);
+        return;
     }
     let ceiling = product_of(log, groups);
     let right = tells(k, masks, log, groups, 0, 0, ceiling as u64);
-    let told = tally::count(
-        tally::expect(counted, Counted::Answer, right),
-        Counted::Told,
-    );
-    let within = tally::expect(told, Counted::Exceeded, prefixes <= ceiling);
+    t.expect(Counted::Answer, right);
+    t.count(Counted::Told);
+    t.expect(Counted::Exceeded, prefixes <= ceiling);
     if prefixes == ceiling {
-        tally::count(within, Counted::Met)
-    } else {
-        within
+        t.count(Counted::Met);
     }
 }

@@ -1,7 +1,6 @@
 // The edges of the ceiling and its refusals, and every combination of conditions.
 use crate::compare::{Counted, tells};
 use trial::cells::{bit, byte, one16, part_of, plus, put, put_run};
-use trial::tally;
 use trial::tally::Tally;
 
 // Group i holds letter i alone.
@@ -16,53 +15,48 @@ fn put_threes(log: &mut [u8]) {
     }
 }
 
-fn edge(t: Tally, right: bool) -> Tally {
-    tally::count(tally::expect(t, Counted::Edge, right), Counted::Edges)
+fn edge(t: &mut Tally, right: bool) {
+    t.expect(Counted::Edge, right);
+    t.count(Counted::Edges);
 }
 
 // Sixteen letters, none exchanged: no group, one, two, sixteen and seventeen; a letter for a group, and one of them missing.
-fn compare_numbers(t: Tally) -> Tally {
+fn compare_numbers(t: &mut Tally) {
     let masks = [0u16; 16];
     let groups = [65535u16; 17];
     let singles = SINGLES;
     let log = [3u8, 0, 15];
-    let none = edge(t, tells(16, &masks, &log, part_of(&groups, 0, 0), 18, 0, 0));
-    let one = edge(
-        none,
-        tells(16, &masks, &log, part_of(&groups, 0, 1), 0, 0, 4),
-    );
-    let two = edge(
-        one,
-        tells(16, &masks, &log, part_of(&groups, 0, 2), 0, 0, 16),
-    );
-    let most = edge(
-        two,
+    edge(t, tells(16, &masks, &log, part_of(&groups, 0, 0), 18, 0, 0));
+    edge(t, tells(16, &masks, &log, part_of(&groups, 0, 1), 0, 0, 4));
+    edge(t, tells(16, &masks, &log, part_of(&groups, 0, 2), 0, 0, 16));
+    edge(
+        t,
         tells(16, &masks, &log, part_of(&groups, 0, 15), 0, 0, 1073741824),
     );
-    let high = edge(
-        most,
+    edge(
+        t,
         tells(16, &masks, &log, part_of(&groups, 0, 16), 19, 0, 0),
     );
-    let seventeen = edge(
-        high,
+    edge(
+        t,
         tells(16, &masks, &log, part_of(&groups, 0, 17), 18, 0, 0),
     );
-    let right = edge(seventeen, tells(16, &masks, &log, &singles, 0, 0, 8));
+    edge(t, tells(16, &masks, &log, &singles, 0, 0, 8));
     edge(
-        right,
+        t,
         tells(16, &masks, &log, part_of(&singles, 0, 15), 18, 0, 0),
-    )
+    );
 }
 
 // 4,294,967,296 is refused by 19; with one event less the ceiling is three quarters of it.
-fn compare_above(t: Tally) -> Tally {
+fn compare_above(t: &mut Tally) {
     let masks = [0u16; 16];
     let singles = SINGLES;
     let mut log = [0u8; 48];
     put_threes(&mut log);
-    let above = edge(t, tells(16, &masks, &log, &singles, 19, 0, 0));
+    edge(t, tells(16, &masks, &log, &singles, 19, 0, 0));
     let less = part_of(&log, 0, 47);
-    edge(above, tells(16, &masks, less, &singles, 0, 0, 3221225472))
+    edge(t, tells(16, &masks, less, &singles, 0, 0, 3221225472));
 }
 
 // 3, 8, 6, 10, 30, 150 and 331 events of seven letters.
@@ -77,36 +71,39 @@ fn put_sevens(log: &mut [u8]) {
 }
 
 // 4,294,967,292 is told, and one event more is refused by 19.
-fn compare_highest(t: Tally) -> Tally {
+fn compare_highest(t: &mut Tally) {
     let masks = [0u16; 7];
     let groups = [1u16, 2, 4, 8, 16, 32, 64];
     let mut log = [0u8; 538];
     put_sevens(&mut log);
     let less = part_of(&log, 0, 537);
-    let highest = edge(t, tells(7, &masks, less, &groups, 0, 0, 4294967292));
-    edge(highest, tells(7, &masks, &log, &groups, 19, 0, 0))
+    edge(t, tells(7, &masks, less, &groups, 0, 0, 4294967292));
+    edge(t, tells(7, &masks, &log, &groups, 19, 0, 0));
 }
 
 // 4,000 events and 4,001; a letter of k; two letters exchanged one way or the other, in one group and in two.
-fn compare_logs(t: Tally) -> Tally {
+fn compare_logs(t: &mut Tally) {
     let log = [0u8; 4001];
     let one = [1u16; 1];
     let none = [0u16; 1];
-    let long = edge(t, tells(1, &none, part_of(&log, 0, 4000), &one, 0, 0, 4001));
-    let longer = edge(long, tells(1, &none, &log, &one, 7, 0, 0));
+    edge(t, tells(1, &none, part_of(&log, 0, 4000), &one, 0, 0, 4001));
+    edge(t, tells(1, &none, &log, &one, 7, 0, 0));
     let bad = [0u8, 0, 1, 2];
-    let letter = edge(longer, tells(1, &none, &bad, &one, 8, 2, 0));
+    edge(t, tells(1, &none, &bad, &one, 8, 2, 0));
     let ba = [1u8, 0];
-    let forth = edge(letter, tells(2, &[2u16, 0], &ba, &[3u16], 18, 0, 0));
-    let back = edge(forth, tells(2, &[0u16, 1], &ba, &[3u16], 18, 0, 0));
-    let apart = edge(back, tells(2, &[2u16, 1], &ba, &[1u16, 2], 0, 0, 4));
-    let beside = edge(apart, tells(2, &[0u16, 1], &ba, &[1u16, 2, 3], 18, 0, 0));
-    let overlap = edge(beside, tells(2, &[0u16, 0], &ba, &[3u16, 1, 0], 0, 0, 6));
-    edge(overlap, tells(2, &[0u16, 0], &ba, &[7u16], 18, 0, 0))
+    edge(t, tells(2, &[2u16, 0], &ba, &[3u16], 18, 0, 0));
+    edge(t, tells(2, &[0u16, 1], &ba, &[3u16], 18, 0, 0));
+    edge(t, tells(2, &[2u16, 1], &ba, &[1u16, 2], 0, 0, 4));
+    edge(t, tells(2, &[0u16, 1], &ba, &[1u16, 2, 3], 18, 0, 0));
+    edge(t, tells(2, &[0u16, 0], &ba, &[3u16, 1, 0], 0, 0, 6));
+    edge(t, tells(2, &[0u16, 0], &ba, &[7u16], 18, 0, 0));
 }
 
-pub fn compare_edges(t: Tally) -> Tally {
-    compare_logs(compare_highest(compare_above(compare_numbers(t))))
+pub fn compare_edges(t: &mut Tally) {
+    compare_numbers(t);
+    compare_above(t);
+    compare_highest(t);
+    compare_logs(t);
 }
 
 // The number of the first condition that holds, in the order 2, 4, 7, 8, 18, 19.
@@ -141,7 +138,7 @@ fn put_events(bad: bool, log: &mut [u8]) {
 
 // A call to which exactly the conditions of `which` apply: one mask too few, a mask's own bit, 4,001 events, letter 16 at place 2, the last letter in no group, and
 // a product above the limit.
-fn compare_combination(which: usize, t: Tally) -> Tally {
+fn compare_combination(which: usize, t: &mut Tally) {
     let mut masks = [0u16; 16];
     let singles = SINGLES;
     let mut log = [0u8; 4001];
@@ -160,16 +157,12 @@ fn compare_combination(which: usize, t: Tally) -> Tally {
         place as u64,
         ceiling as u64,
     );
-    tally::count(
-        tally::expect(t, Counted::Combination, right),
-        Counted::Combined,
-    )
+    t.expect(Counted::Combination, right);
+    t.count(Counted::Combined);
 }
 
-pub fn compare_combinations(t: Tally) -> Tally {
-    let mut u = t;
+pub fn compare_combinations(t: &mut Tally) {
     for which in 0..64 {
-        u = compare_combination(which, u);
+        compare_combination(which, t);
     }
-    u
 }

@@ -61,7 +61,7 @@ pub fn case_of(k: usize, code: usize, size: usize) -> Case {
 }
 
 // The list of `many` groups of a code, base `size`.
-fn compare_list(c: Case, many: usize, code: usize, size: usize, t: Tally) -> Tally {
+fn compare_list(c: Case, many: usize, code: usize, size: usize, t: &mut Tally) {
     let masks = c.masks;
     let log = c.log;
     let groups = digits(code, size);
@@ -72,14 +72,12 @@ fn compare_list(c: Case, many: usize, code: usize, size: usize, t: Tally) -> Tal
         part_of(&groups, 0, many),
         c.prefixes,
         t,
-    )
+    );
 }
 
 // Every list of `many` groups: all codes below `codes`.
-pub fn compare_lists(c: Case, many: usize, codes: usize, size: usize, t: Tally) -> Tally {
-    let mut u = t;
+pub fn compare_lists(c: Case, many: usize, codes: usize, size: usize, t: &mut Tally) {
     for code in 0..codes {
-        u = compare_list(c, many, code, size, u);
+        compare_list(c, many, code, size, t);
     }
-    u
 }

@@ -8,7 +8,6 @@ use trial::answers::{Answer, is_verdict};
 use trial::calls::{BYTES, NUMBERS, judge_in};
 use trial::cells::{Cell, holds, minus, part_of, plus, times, untouched};
 use trial::record_numbers::record_at;
-use trial::tally;
 use trial::tally::{Counter, Tally};
 use trial_logs::listing::one_way;
 use trial_logs::prefixes::prefix_count;
@@ -43,21 +42,18 @@ fn order_right(buffer: &[u8], expected: Expected, budget: u64, n: usize) -> bool
 }
 
 // Counts a budget by its floor.
-fn count_floor(expected: Expected, budget: u64, t: Tally) -> Tally {
-    let u = tally::count(t, Met::Budgets);
+fn count_floor(expected: Expected, budget: u64, t: &mut Tally) {
+    t.count(Met::Budgets);
     if !expected.verdict {
-        return u;
+        return;
     }
     if covers(expected, budget) {
-        return tally::count(u, Met::Covering);
+        t.count(Met::Covering);
+        return;
     }
     let floor = floor_of(expected, budget);
-    let above = tally::count_if(u, Met::Floors, 0 < floor);
-    tally::count_if(
-        above,
-        Met::LowFloors,
-        (0 < floor) & (floor < expected.fewest),
-    )
+    t.count_if(Met::Floors, 0 < floor);
+    t.count_if(Met::LowFloors, (0 < floor) & (floor < expected.fewest));
 }
 
 // One budget; `judged` is the table as the judge left it, in as many numbers.
@@ -67,8 +63,8 @@ fn compare_budget(
     call: Call,
     expected: Expected,
     judged: &[u32],
-    t: Tally,
-) -> Tally {
+    t: &mut Tally,
+) {
     let mut buffer = [u8::GUARD; 32];
     let mut numbers = [u32::GUARD; 1416];
     let mut costs = [u32::GUARD; 600];
@@ -77,11 +73,8 @@ fn compare_budget(
         & order_right(&buffer, expected, call.lent.budget, log.len())
         & (numbers.as_slice() == judged)
         & untouched(&costs, NUMBERS, call.lent.costs);
-    count_floor(
-        expected,
-        call.lent.budget,
-        tally::expect(t, Met::Budget, right),
-    )
+    t.expect(Met::Budget, right);
+    count_floor(expected, call.lent.budget, t);
 }
 
 fn with_budget(call: Call, budget: u64) -> Call {
@@ -101,13 +94,11 @@ fn compare_budgets(
     call: Call,
     expected: Expected,
     judged: &[u32],
-    t: Tally,
-) -> Tally {
-    let mut u = t;
+    t: &mut Tally,
+) {
     for budget in 0..plus(expected.ranks.pairs, 2) {
-        u = compare_budget(profile, log, with_small(call, budget), expected, judged, u);
+        compare_budget(profile, log, with_small(call, budget), expected, judged, t);
     }
-    u
 }
 
 // Budgets of more than 32 bits, which cover all pairs; the low bits of the first are 0.
@@ -117,37 +108,38 @@ fn compare_large(
     call: Call,
     expected: Expected,
     judged: &[u32],
-    t: Tally,
-) -> Tally {
+    t: &mut Tally,
+) {
     let a = with_budget(call, 4294967296);
     let b = with_budget(call, 9223372036854775808);
     let c = with_budget(call, 18446744073709551615);
-    let u = compare_budget(profile, log, a, expected, judged, t);
-    let v = compare_budget(profile, log, b, expected, judged, u);
-    compare_budget(profile, log, c, expected, judged, v)
+    compare_budget(profile, log, a, expected, judged, t);
+    compare_budget(profile, log, b, expected, judged, t);
+    compare_budget(profile, log, c, expected, judged, t);
 }
 
 // Counts what days and terms are, and whether they leave fewer prefixes.
-fn count_dated(masks: &[u16], log: &[u8], dated: Dated, prefixes: usize, t: Tally) -> Tally {
+fn count_dated(masks: &[u16], log: &[u8], dated: Dated, prefixes: usize, t: &mut Tally) {
     let dates = dated.days;
     let spans = dated.terms;
     let days = part_of(&dates, 0, log.len());
     let terms = part_of(&spans, 0, dated.numbers);
-    let turns = tally::count_if(t, Met::Turns, some_turn(&Calendar { days, terms }));
-    let falls = tally::count_if(turns, Met::Falls, some_fall(days));
-    tally::count_if(falls, Met::Fewer, prefixes < prefix_count(masks, log))
+    t.count_if(Met::Turns, some_turn(&Calendar { days, terms }));
+    t.count_if(Met::Falls, some_fall(days));
+    t.count_if(Met::Fewer, prefixes < prefix_count(masks, log));
 }
 
 // Counts what the log is; a listing that did not fit has no rows and is wrong.
-fn count_log(masks: &[u16], log: &[u8], expected: Expected, t: Tally) -> Tally {
+fn count_log(masks: &[u16], log: &[u8], expected: Expected, t: &mut Tally) {
     let found = expected.verdict;
     let other = found & orders_differ(expected, log.len());
-    let listed = tally::expect(tally::count(t, Met::Logs), Met::Listing, 0 < expected.count);
-    let accepted = tally::count_if(listed, Met::Accepted, found);
-    let way = tally::count_if(accepted, Met::OneWay, one_way(masks));
-    let moved = tally::count_if(way, Met::OtherOrder, other);
-    let swapped = tally::count_if(moved, Met::Swapped, found & (0 < expected.fewest));
-    tally::count_many(swapped, Met::Pairs, expected.ranks.pairs)
+    t.count(Met::Logs);
+    t.expect(Met::Listing, 0 < expected.count);
+    t.count_if(Met::Accepted, found);
+    t.count_if(Met::OneWay, one_way(masks));
+    t.count_if(Met::OtherOrder, other);
+    t.count_if(Met::Swapped, found & (0 < expected.fewest));
+    t.count_many(Met::Pairs, expected.ranks.pairs);
 }
 
 // The judge with the same terms.
@@ -192,25 +184,16 @@ fn judge_too(
 }
 
 // The judge's own answer and table, and with the same table all budgets.
-fn compare_answers(
-    profile: &Profile,
-    log: &[u8],
-    call: Call,
-    expected: Expected,
-    t: Tally,
-) -> Tally {
+fn compare_answers(profile: &Profile, log: &[u8], call: Call, expected: Expected, t: &mut Tally) {
     let mut buffer = [u8::GUARD; 32];
     let mut judged = [u32::GUARD; 1416];
     let answer = judge_too(profile, log, call, &mut buffer, &mut judged);
     let right = is_verdict(answer, expected.verdict, expected.prefixes, expected.looks);
-    let counted = count_dated(profile.masks, log, call.dated, expected.prefixes, t);
-    let u = tally::expect(
-        count_log(profile.masks, log, expected, counted),
-        Met::Judge,
-        right,
-    );
-    let v = compare_budgets(profile, log, call, expected, &judged, u);
-    compare_large(profile, log, call, expected, &judged, v)
+    count_dated(profile.masks, log, call.dated, expected.prefixes, t);
+    count_log(profile.masks, log, expected, t);
+    t.expect(Met::Judge, right);
+    compare_budgets(profile, log, call, expected, &judged, t);
+    compare_large(profile, log, call, expected, &judged, t);
 }
 
 // The call with buffers of other sizes.
@@ -235,8 +218,8 @@ fn refuse(
     call: Call,
     number: u32,
     which: impl Counter,
-    t: Tally,
-) -> Tally {
+    t: &mut Tally,
+) {
     let mut buffer = [u8::GUARD; 32];
     let mut numbers = [u32::GUARD; 1416];
     let mut costs = [u32::GUARD; 600];
@@ -246,7 +229,8 @@ fn refuse(
         & untouched(&buffer, 0, 0)
         & untouched(&numbers, NUMBERS, free)
         & untouched(&costs, 0, 0);
-    tally::count(tally::expect(t, Met::Buffer, right), which)
+    t.expect(Met::Buffer, right);
+    t.count(which);
 }
 
 // A cost table that is short by one number or more, a work table that is, also with short costs, and an order buffer that is, also with short tables.
@@ -256,18 +240,18 @@ fn compare_short(
     call: Call,
     expected: Expected,
     extra: usize,
-    t: Tally,
-) -> Tally {
+    t: &mut Tally,
+) {
     let needed = times(expected.prefixes, profile.shape.s);
     let few_costs = minus(needed, plus(extra % 3, 1));
     let few_numbers = minus(record_at(expected.prefixes), plus(extra % 11, 1));
     let no_costs = lending(call, call.lent.room, call.lent.size, few_costs);
-    let u = refuse(profile, log, no_costs, 17, Met::ShortCosts, t);
+    refuse(profile, log, no_costs, 17, Met::ShortCosts, t);
     let costs = if extra % 2 == 0 { needed } else { few_costs };
     let no_table = lending(call, call.lent.room, few_numbers, costs);
-    let v = refuse(profile, log, no_table, 10, Met::ShortTables, u);
+    refuse(profile, log, no_table, 10, Met::ShortTables, t);
     if log.len() == 0 {
-        return v;
+        return;
     }
     let size = if extra % 5 < 3 {
         call.lent.size
@@ -275,7 +259,7 @@ fn compare_short(
         few_numbers
     };
     let no_order = lending(call, minus(log.len(), 1), size, costs);
-    refuse(profile, log, no_order, 9, Met::ShortOrders, v)
+    refuse(profile, log, no_order, 9, Met::ShortOrders, t);
 }
 
 // The masks of all events. Without terms no day is in one, so that no two events are in different ones.
@@ -304,7 +288,7 @@ fn lent_for(shape: Shape, n: usize, prefixes: usize, extra: usize) -> Lent {
 }
 
 // Compares all that is said of one log; `extra` varies how much longer or shorter than needed the lent buffers are.
-pub fn compare_log(profile: &Profile, log: &[u8], dated: Dated, extra: usize, t: Tally) -> Tally {
+pub fn compare_log(profile: &Profile, log: &[u8], dated: Dated, extra: usize, t: &mut Tally) {
     let mut masks_of_events = [0u16; 8];
     put_masks_of(profile.masks, log, dated, &mut masks_of_events);
     let expected = expect(
@@ -317,6 +301,6 @@ pub fn compare_log(profile: &Profile, log: &[u8], dated: Dated, extra: usize, t:
         lent: lent_for(profile.shape, log.len(), expected.prefixes, extra),
         dated: dated,
     };
-    let answered = compare_answers(profile, log, call, expected, t);
-    compare_short(profile, log, call, expected, extra, answered)
+    compare_answers(profile, log, call, expected, t);
+    compare_short(profile, log, call, expected, extra, t);
 }

@@ -5,7 +5,6 @@ use profile::{Profile, Shape};
 use trial::calls::BYTES;
 use trial::cells::{Cell, holds, part_of, untouched};
 use trial::shapes::{alt, shape_of};
-use trial::tally;
 use trial::tally::Tally;
 
 // The verdict, P, looks, swaps and floor.
@@ -72,8 +71,8 @@ fn compare_dated(
     budget: u64,
     case: Case,
     order: &[u8],
-    t: Tally,
-) -> Tally {
+    t: &mut Tally,
+) {
     let mut buffer = [u8::GUARD; 32];
     let answer = ask_both_ways(shape, moves, log, dated, budget, &mut buffer);
     let told = is_answer(
@@ -89,7 +88,8 @@ fn compare_dated(
     } else {
         untouched(&buffer, 0, 0)
     };
-    tally::count(tally::expect(t, Met::Edge, told & left), Met::Edges)
+    t.expect(Met::Edge, told & left);
+    t.count(Met::Edges);
 }
 
 // Without terms.
@@ -100,17 +100,17 @@ fn compare(
     budget: u64,
     case: Case,
     order: &[u8],
-    t: Tally,
-) -> Tally {
-    compare_dated(shape, moves, log, no_terms(), budget, case, order, t)
+    t: &mut Tally,
+) {
+    compare_dated(shape, moves, log, no_terms(), budget, case, order, t);
 }
 
 // Alt on bbaa: the pairs are the empty prefix at 0 swaps, a and ab at 2, aab and aabb at 3; abab is the one accepted order.
-fn compare_bbaa(t: Tally) -> Tally {
+fn compare_bbaa(t: &mut Tally) {
     let moves = [2u32, 0, 0, 1];
     let log = [1u8, 1, 0, 0];
     let order = [0u8, 1, 0, 1];
-    let a = compare(
+    compare(
         alt(),
         &moves,
         &log,
@@ -119,41 +119,41 @@ fn compare_bbaa(t: Tally) -> Tally {
         &order,
         t,
     );
-    let b = compare(
+    compare(
         alt(),
         &moves,
         &log,
         1,
         case_of(true, 9, 12, 3, 2),
         &order,
-        a,
+        t,
     );
-    let c = compare(
+    compare(
         alt(),
         &moves,
         &log,
         2,
         case_of(true, 9, 12, 3, 2),
         &order,
-        b,
+        t,
     );
-    let d = compare(
+    compare(
         alt(),
         &moves,
         &log,
         3,
         case_of(true, 9, 12, 3, 3),
         &order,
-        c,
+        t,
     );
-    let e = compare(
+    compare(
         alt(),
         &moves,
         &log,
         4,
         case_of(true, 9, 12, 3, 3),
         &order,
-        d,
+        t,
     );
     compare(
         alt(),
@@ -162,28 +162,28 @@ fn compare_bbaa(t: Tally) -> Tally {
         5,
         case_of(true, 9, 12, 3, 3),
         &order,
-        e,
-    )
+        t,
+    );
 }
 
 // One state that accepts everything, on ba: the empty prefix, b and ab at 0 swaps, a at 1. With three pairs the order is the judge's.
-fn compare_ba(t: Tally) -> Tally {
+fn compare_ba(t: &mut Tally) {
     let moves = [1u32, 1];
     let any = shape_of(2, 1, 0, 1);
     let log = [1u8, 0];
     let judged = [0u8, 1];
-    let a = compare(any, &moves, &log, 0, case_of(true, 4, 4, 1, 0), &judged, t);
-    let b = compare(any, &moves, &log, 3, case_of(true, 4, 4, 1, 0), &judged, a);
-    let c = compare(any, &moves, &log, 4, case_of(true, 4, 4, 0, 0), &log, b);
-    compare(any, &moves, &log, 5, case_of(true, 4, 4, 0, 0), &log, c)
+    compare(any, &moves, &log, 0, case_of(true, 4, 4, 1, 0), &judged, t);
+    compare(any, &moves, &log, 3, case_of(true, 4, 4, 1, 0), &judged, t);
+    compare(any, &moves, &log, 4, case_of(true, 4, 4, 0, 0), &log, t);
+    compare(any, &moves, &log, 5, case_of(true, 4, 4, 0, 0), &log, t);
 }
 
 // No order of bab is accepted by Alt; and the empty log.
-fn compare_none(t: Tally) -> Tally {
+fn compare_none(t: &mut Tally) {
     let moves = [2u32, 0, 0, 1];
     let log = [1u8, 0, 1];
     let nothing = part_of(&log, 0, 0);
-    let a = compare(
+    compare(
         alt(),
         &moves,
         &log,
@@ -192,23 +192,23 @@ fn compare_none(t: Tally) -> Tally {
         nothing,
         t,
     );
-    let b = compare(
+    compare(
         alt(),
         &moves,
         &log,
         99,
         case_of(false, 6, 7, 0, 0),
         nothing,
-        a,
+        t,
     );
-    let c = compare(
+    compare(
         alt(),
         &moves,
         nothing,
         0,
         case_of(true, 1, 0, 0, 0),
         nothing,
-        b,
+        t,
     );
     compare(
         alt(),
@@ -217,12 +217,12 @@ fn compare_none(t: Tally) -> Tally {
         1,
         case_of(true, 1, 0, 0, 0),
         nothing,
-        c,
-    )
+        t,
+    );
 }
 
 // Courses abab, by states 0 to 4, and baba, by 0 and 5 to 8: both are one swap away from abba, and the earlier is given.
-fn compare_tie(t: Tally) -> Tally {
+fn compare_tie(t: &mut Tally) {
     let mut moves = [0u32; 18];
     moves[0] = 2;
     moves[3] = 4;
@@ -235,11 +235,14 @@ fn compare_tie(t: Tally) -> Tally {
     let two = shape_of(2, 9, 0, 272);
     let log = [0u8, 1, 1, 0];
     let order = [0u8, 1, 0, 1];
-    compare(two, &moves, &log, 99, case_of(true, 9, 12, 1, 1), &order, t)
+    compare(two, &moves, &log, 99, case_of(true, 9, 12, 1, 1), &order, t);
 }
 
-pub fn compare_edges(t: Tally) -> Tally {
-    compare_tie(compare_none(compare_ba(compare_bbaa(t))))
+pub fn compare_edges(t: &mut Tally) {
+    compare_bbaa(t);
+    compare_ba(t);
+    compare_none(t);
+    compare_tie(t);
 }
 
 // Events 0 and 1 in the second of two terms, 2 and 3 in the first.
@@ -255,12 +258,12 @@ fn two_terms() -> Dated {
 }
 
 // Alt on baba: the pairs are the empty prefix at 0 swaps, a and ab at 1, aba and abab at 2; prefixes with the second a before the first b are none.
-fn compare_terms(t: Tally) -> Tally {
+fn compare_terms(t: &mut Tally) {
     let moves = [2u32, 0, 0, 1];
     let log = [1u8, 0, 1, 0];
     let order = [0u8, 1, 0, 1];
     let two = two_terms();
-    let a = compare_dated(
+    compare_dated(
         alt(),
         &moves,
         &log,
@@ -270,7 +273,7 @@ fn compare_terms(t: Tally) -> Tally {
         &order,
         t,
     );
-    let b = compare_dated(
+    compare_dated(
         alt(),
         &moves,
         &log,
@@ -278,9 +281,9 @@ fn compare_terms(t: Tally) -> Tally {
         2,
         case_of(true, 7, 8, 2, 1),
         &order,
-        a,
+        t,
     );
-    let c = compare_dated(
+    compare_dated(
         alt(),
         &moves,
         &log,
@@ -288,7 +291,7 @@ fn compare_terms(t: Tally) -> Tally {
         3,
         case_of(true, 7, 8, 2, 2),
         &order,
-        b,
+        t,
     );
     compare_dated(
         alt(),
@@ -298,19 +301,19 @@ fn compare_terms(t: Tally) -> Tally {
         5,
         case_of(true, 7, 8, 2, 2),
         &order,
-        c,
-    )
+        t,
+    );
 }
 
 // One state that accepts everything, on baba in two terms, and on bbaa with the letters in different terms: nothing moves.
-fn compare_apart(t: Tally) -> Tally {
+fn compare_apart(t: &mut Tally) {
     let moves = [1u32, 1];
     let any = shape_of(2, 1, 0, 1);
     let log = [1u8, 0, 1, 0];
     let judged = [0u8, 1, 0, 1];
     let fixed = [1u8, 1, 0, 0];
     let two = two_terms();
-    let a = compare_dated(
+    compare_dated(
         any,
         &moves,
         &log,
@@ -320,7 +323,7 @@ fn compare_apart(t: Tally) -> Tally {
         &judged,
         t,
     );
-    let b = compare_dated(
+    compare_dated(
         any,
         &moves,
         &log,
@@ -328,7 +331,7 @@ fn compare_apart(t: Tally) -> Tally {
         7,
         case_of(true, 7, 8, 0, 0),
         &log,
-        a,
+        t,
     );
     compare_dated(
         any,
@@ -338,10 +341,11 @@ fn compare_apart(t: Tally) -> Tally {
         4,
         case_of(true, 5, 4, 0, 0),
         &fixed,
-        b,
-    )
+        t,
+    );
 }
 
-pub fn compare_term_edges(t: Tally) -> Tally {
-    compare_apart(compare_terms(t))
+pub fn compare_term_edges(t: &mut Tally) {
+    compare_terms(t);
+    compare_apart(t);
 }

@@ -6,7 +6,6 @@ use crate::met::{ByDamage, Met};
 use profile::{Calendar, Profile};
 use trial::calls::NUMBERS;
 use trial::cells::{Cell, bit, part_of, plus, untouched};
-use trial::tally;
 use trial::tally::Tally;
 use trial_term_refusals::combined::{
     VARIANTS, bad_place, damaged_shape, day_count, first_damage, first_mask, first_move,
@@ -130,7 +129,7 @@ fn asked(
     )
 }
 
-fn compare(damages: usize, variant: usize, with_terms: bool, log: &[u8], t: Tally) -> Tally {
+fn compare(damages: usize, variant: usize, with_terms: bool, log: &[u8], t: &mut Tally) {
     let mut buffer = [u8::GUARD; 4024];
     let mut numbers = [u32::GUARD; 88];
     let mut costs = [u32::GUARD; 40];
@@ -148,15 +147,16 @@ fn compare(damages: usize, variant: usize, with_terms: bool, log: &[u8], t: Tall
     );
     let right = told_right(answer, damage, variant)
         & left_right(damage, lent.size, &buffer, &numbers, &costs);
-    let counted = tally::count(tally::expect(t, Met::Refusal, right), Met::Combined);
-    tally::count(counted, ByDamage(damage))
+    t.expect(Met::Refusal, right);
+    t.count(Met::Combined);
+    t.count(ByDamage(damage));
 }
 
-fn combine(damages: usize, variant: usize, with_terms: bool, t: Tally) -> Tally {
+fn combine(damages: usize, variant: usize, with_terms: bool, t: &mut Tally) {
     let mut log = [0u8; 4004];
     put_log(damages, variant, &mut log);
     let word = part_of(&log, 0, log_length(damages));
-    compare(damages, variant, with_terms, word, t)
+    compare(damages, variant, with_terms, word, t);
 }
 
 // Eight damages, with none by 14, 15 and 16 between the fifth and the sixth.
@@ -165,19 +165,15 @@ fn without_dates(damages: usize) -> usize {
 }
 
 // All combinations in all variants: 256 × 12.
-pub fn combine_all(t: Tally) -> Tally {
-    let mut u = t;
+pub fn combine_all(t: &mut Tally) {
     for c in 0..3072 {
-        u = combine(without_dates(c / VARIANTS), c % VARIANTS, false, u);
+        combine(without_dates(c / VARIANTS), c % VARIANTS, false, t);
     }
-    u
 }
 
 // With terms 2,048 × 12.
-pub fn combine_all_terms(t: Tally) -> Tally {
-    let mut u = t;
+pub fn combine_all_terms(t: &mut Tally) {
     for c in 0..24576 {
-        u = combine(c / VARIANTS, c % VARIANTS, true, u);
+        combine(c / VARIANTS, c % VARIANTS, true, t);
     }
-    u
 }

@@ -8,7 +8,6 @@
 use profile::Profile;
 use trial::calls::table_part;
 use trial::cells::{Cell, byte, byte_at, minus, part_of, plus, put_run, times};
-use trial::tally;
 use trial::tally::Tally;
 use trial_courses::answers::{is_refused, make_in, profile_in};
 use trial_courses::compare::verdict_of;
@@ -57,7 +56,7 @@ fn put_runs(row: &[u8], text: &mut [u8]) -> usize {
 }
 
 // Compares the answer and the numbers of one row.
-fn edge(row: &[u8], t: Tally) -> Tally {
+fn edge(row: &[u8], t: &mut Tally) {
     let mut text = [0u8; 1200];
     let mut numbers = [u32::GUARD; 640];
     let n = put_runs(row, &mut text);
@@ -70,165 +69,123 @@ fn edge(row: &[u8], t: Tally) -> Tally {
     } else {
         is_refused(made, number, place, &numbers)
     };
-    counters::refused(
-        tally::count(t, Counted::Edges),
-        Counted::Edge,
-        right,
-        number,
-    )
+    t.count(Counted::Edges);
+    counters::refused(t, Counted::Edge, right, number);
 }
 
 // "up to 16 deep", and 17; brackets beside each other are not deeper.
-fn depths(t: Tally) -> Tally {
-    let deep = edge(
-        b"02 0600 12 0000 17(01a17)",
-        edge(b"02 0600 00 0002 16(01a16)", t),
-    );
-    let twice = edge(b"02 0600 00 0003 16(01a16)16(01b16)", deep);
-    let again = edge(b"02 0600 00 0003 16(01a08)08(01b16)", twice);
-    let deeper = edge(b"02 0600 12 0000 16(01a08)09(01b17)", again);
-    edge(
-        b"02 0600 12 0000 01a01|17(01a17)",
-        edge(b"01 0600 12 0000 99(01a99)", deeper),
-    )
+fn depths(t: &mut Tally) {
+    edge(b"02 0600 00 0002 16(01a16)", t);
+    edge(b"02 0600 12 0000 17(01a17)", t);
+    edge(b"02 0600 00 0003 16(01a16)16(01b16)", t);
+    edge(b"02 0600 00 0003 16(01a08)08(01b16)", t);
+    edge(b"02 0600 12 0000 16(01a08)09(01b17)", t);
+    edge(b"01 0600 12 0000 99(01a99)", t);
+    edge(b"02 0600 12 0000 01a01|17(01a17)", t);
 }
 
 // 31 letters, and 32; both limits at once.
-fn lengths(t: Tally) -> Tally {
-    let long = edge(b"02 0600 13 0000 32a", edge(b"02 0600 00 0032 31a", t));
-    let starred = edge(b"02 0600 00 0032 01(31a01)99*", long);
-    let chosen = edge(b"02 0600 13 0000 31a01|01b", starred);
-    let both = edge(b"02 0600 12 0000 17(32a17)", chosen);
-    let one = edge(b"02 0600 13 0000 16(32a16)", both);
-    edge(
-        b"02 0600 00 0032 16(31a16)",
-        edge(b"02 0600 12 0000 17(31a17)", one),
-    )
+fn lengths(t: &mut Tally) {
+    edge(b"02 0600 00 0032 31a", t);
+    edge(b"02 0600 13 0000 32a", t);
+    edge(b"02 0600 00 0032 01(31a01)99*", t);
+    edge(b"02 0600 13 0000 31a01|01b", t);
+    edge(b"02 0600 12 0000 17(32a17)", t);
+    edge(b"02 0600 13 0000 16(32a16)", t);
+    edge(b"02 0600 12 0000 17(31a17)", t);
+    edge(b"02 0600 00 0032 16(31a16)", t);
 }
 
 // A text that is too deep and too long, and breaks the rules at its very end.
-fn last_faults(t: Tally) -> Tally {
-    let closed = edge(
-        b"02 0600 11 0017 17(01)",
-        edge(b"02 0600 11 0066 17(32a17)01)", t),
-    );
-    let open = edge(
-        b"02 0600 11 0049 17(32a",
-        edge(b"02 0600 11 0065 17(32a16)", closed),
-    );
-    let parted = edge(
-        b"02 0600 11 0067 17(32a17)01|",
-        edge(b"02 0600 11 0066 17(32a17)01c", open),
-    );
-    edge(
-        b"02 0600 11 0017 17(",
-        edge(
-            b"02 0600 11 0099 99(",
-            edge(b"02 0600 11 0032 32a01c", parted),
-        ),
-    )
+fn last_faults(t: &mut Tally) {
+    edge(b"02 0600 11 0066 17(32a17)01)", t);
+    edge(b"02 0600 11 0017 17(01)", t);
+    edge(b"02 0600 11 0065 17(32a16)", t);
+    edge(b"02 0600 11 0049 17(32a", t);
+    edge(b"02 0600 11 0066 17(32a17)01c", t);
+    edge(b"02 0600 11 0067 17(32a17)01|", t);
+    edge(b"02 0600 11 0032 32a01c", t);
+    edge(b"02 0600 11 0099 99(", t);
+    edge(b"02 0600 11 0017 17(", t);
 }
 
 // s × k numbers, and one fewer; the other refusals come before 9.
-fn short_buffers(t: Tally) -> Tally {
-    let two = edge(b"02 0064 00 0032 31a", edge(b"02 0063 09 0000 31a", t));
-    let most = edge(b"16 0512 00 0032 31p", edge(b"16 0511 09 0000 31p", two));
-    let one = edge(b"01 0032 00 0032 31a", edge(b"01 0031 09 0000 31a", most));
-    let least = edge(b"01 0002 00 0002 01a", edge(b"01 0001 09 0000 01a", one));
-    let none = edge(
-        b"01 0000 09 0000 01a",
-        edge(b"02 0000 12 0000 17(01a17)", least),
-    );
-    edge(
-        b"02 0000 13 0000 32a",
-        edge(b"02 0000 11 0001 01a01)", none),
-    )
+fn short_buffers(t: &mut Tally) {
+    edge(b"02 0063 09 0000 31a", t);
+    edge(b"02 0064 00 0032 31a", t);
+    edge(b"16 0511 09 0000 31p", t);
+    edge(b"16 0512 00 0032 31p", t);
+    edge(b"01 0031 09 0000 31a", t);
+    edge(b"01 0032 00 0032 31a", t);
+    edge(b"01 0001 09 0000 01a", t);
+    edge(b"01 0002 00 0002 01a", t);
+    edge(b"02 0000 12 0000 17(01a17)", t);
+    edge(b"01 0000 09 0000 01a", t);
+    edge(b"02 0000 11 0001 01a01)", t);
+    edge(b"02 0000 13 0000 32a", t);
 }
 
 // k out of its range, with a right text and with a bad one.
-fn ranges(t: Tally) -> Tally {
-    let zero = edge(b"00 0600 02 0000 01)", edge(b"00 0600 02 0000 01a", t));
-    let many = edge(b"17 0600 02 0000 01)", edge(b"17 0600 02 0000 01a", zero));
-    let empty = edge(b"17 0000 02 0000 ", edge(b"00 0000 02 0000 ", many));
-    let deep = edge(
-        b"17 0000 02 0000 17(32a",
-        edge(b"00 0600 02 0000 17(32a17)", empty),
-    );
-    edge(b"99 0000 02 0000 01)", edge(b"99 0600 02 0000 01a", deep))
+fn ranges(t: &mut Tally) {
+    edge(b"00 0600 02 0000 01a", t);
+    edge(b"00 0600 02 0000 01)", t);
+    edge(b"17 0600 02 0000 01a", t);
+    edge(b"17 0600 02 0000 01)", t);
+    edge(b"00 0000 02 0000 ", t);
+    edge(b"17 0000 02 0000 ", t);
+    edge(b"00 0600 02 0000 17(32a17)", t);
+    edge(b"17 0000 02 0000 17(32a", t);
+    edge(b"99 0600 02 0000 01a", t);
+    edge(b"99 0000 02 0000 01)", t);
 }
 
 // "a letter from k on".
-fn letters(t: Tally) -> Tally {
-    let one = edge(b"01 0600 00 0002 01a", edge(b"01 0600 11 0000 01b", t));
-    let second = edge(
-        b"01 0600 11 0001 01a01b",
-        edge(b"02 0600 00 0003 01a01b", one),
-    );
-    let last = edge(b"16 0600 00 0002 01p", edge(b"16 0600 11 0000 01q", second));
-    let behind = edge(
-        b"16 0600 11 0001 01p01q",
-        edge(b"15 0600 11 0000 01p", last),
-    );
-    edge(
-        b"16 0600 11 0001 01a01A",
-        edge(b"16 0600 11 0000 01A", behind),
-    )
+fn letters(t: &mut Tally) {
+    edge(b"01 0600 11 0000 01b", t);
+    edge(b"01 0600 00 0002 01a", t);
+    edge(b"02 0600 00 0003 01a01b", t);
+    edge(b"01 0600 11 0001 01a01b", t);
+    edge(b"16 0600 11 0000 01q", t);
+    edge(b"16 0600 00 0002 01p", t);
+    edge(b"15 0600 11 0000 01p", t);
+    edge(b"16 0600 11 0001 01p01q", t);
+    edge(b"16 0600 11 0000 01A", t);
+    edge(b"16 0600 11 0001 01a01A", t);
 }
 
 // The empty text, and bytes that are none of the signs.
-fn strange_texts(t: Tally) -> Tally {
-    let empty = edge(
-        b"16 0600 11 0000 ",
-        edge(b"01 0000 11 0000 ", edge(b"02 0600 11 0000 ", t)),
-    );
-    let zero = edge(
-        b"16 0600 11 0000 01Z",
-        edge(b"16 0600 11 0001 01a01Z", empty),
-    );
-    let full = edge(
-        b"16 0600 11 0000 01Y",
-        edge(b"16 0600 11 0001 01a01Y", zero),
-    );
-    let below = edge(
-        b"16 0600 11 0001 01a01'",
-        edge(b"16 0600 11 0000 01`", full),
-    );
-    let above = edge(
-        b"16 0600 11 0001 01a01+",
-        edge(b"16 0600 11 0001 01a01{", below),
-    );
-    edge(
-        b"16 0600 11 0001 01a01}",
-        edge(b"16 0600 11 0001 01a01 ", above),
-    )
+fn strange_texts(t: &mut Tally) {
+    edge(b"02 0600 11 0000 ", t);
+    edge(b"01 0000 11 0000 ", t);
+    edge(b"16 0600 11 0000 ", t);
+    edge(b"16 0600 11 0001 01a01Z", t);
+    edge(b"16 0600 11 0000 01Z", t);
+    edge(b"16 0600 11 0001 01a01Y", t);
+    edge(b"16 0600 11 0000 01Y", t);
+    edge(b"16 0600 11 0000 01`", t);
+    edge(b"16 0600 11 0001 01a01'", t);
+    edge(b"16 0600 11 0001 01a01{", t);
+    edge(b"16 0600 11 0001 01a01+", t);
+    edge(b"16 0600 11 0001 01a01 ", t);
+    edge(b"16 0600 11 0001 01a01}", t);
 }
 
 // An empty choice or bracket, a star behind nothing, and brackets that do not match.
-fn broken_rules(t: Tally) -> Tally {
-    let bracket = edge(
-        b"02 0600 11 0001 01(01)",
-        edge(b"02 0600 11 0002 01a01|", t),
-    );
-    let choice = edge(
-        b"02 0600 11 0000 01|01a",
-        edge(b"02 0600 11 0002 01a02|01b", bracket),
-    );
-    let star = edge(
-        b"02 0600 11 0000 01*01a",
-        edge(b"02 0600 11 0002 01a01|01*", choice),
-    );
-    let inner = edge(
-        b"02 0600 11 0001 01(01*01a01)",
-        edge(b"02 0600 11 0003 01(01a01|01)", star),
-    );
-    edge(
-        b"02 0600 11 0001 01a01)",
-        edge(b"02 0600 11 0002 01(01a", inner),
-    )
+fn broken_rules(t: &mut Tally) {
+    edge(b"02 0600 11 0002 01a01|", t);
+    edge(b"02 0600 11 0001 01(01)", t);
+    edge(b"02 0600 11 0002 01a02|01b", t);
+    edge(b"02 0600 11 0000 01|01a", t);
+    edge(b"02 0600 11 0002 01a01|01*", t);
+    edge(b"02 0600 11 0000 01*01a", t);
+    edge(b"02 0600 11 0003 01(01a01|01)", t);
+    edge(b"02 0600 11 0001 01(01*01a01)", t);
+    edge(b"02 0600 11 0002 01(01a", t);
+    edge(b"02 0600 11 0001 01a01)", t);
 }
 
 // One letter and a thousand stars: two states, the letter leads from both to 1, and both are final.
-fn many_stars(t: Tally) -> Tally {
+fn many_stars(t: &mut Tally) {
     let mut text = [42u8; 1001];
     let mut numbers = [u32::GUARD; 16];
     text[0] = b'a';
@@ -249,11 +206,12 @@ fn many_stars(t: Tally) -> Tally {
         }
         None => false,
     };
-    tally::expect(tally::count(t, Counted::Edges), Counted::Edge, right)
+    t.count(Counted::Edges);
+    t.expect(Counted::Edge, right);
 }
 
 // The moves of a right row too, bit by bit.
-fn edge_moves(row: &[u8], table: &mut [usize], t: Tally) -> Tally {
+fn edge_moves(row: &[u8], table: &mut [usize], t: &mut Tally) {
     let mut text = [0u8; 1200];
     let mut numbers = [u32::GUARD; 640];
     let n = put_runs(row, &mut text);
@@ -261,27 +219,34 @@ fn edge_moves(row: &[u8], table: &mut [usize], t: Tally) -> Tally {
     let s = decimal(row, 11, 4);
     let made = make_in(k, part_of(&text, 0, n), decimal(row, 3, 4), &mut numbers);
     let moves = part_of(table_part(&numbers), 0, times(k, s));
-    let compared = edge(row, t);
+    edge(row, t);
     match made {
-        Some(Ok(shape)) => compare_moves(k, part_of(&text, 0, n), shape, moves, table, compared),
-        _ => tally::count(compared, Counted::Moves),
+        Some(Ok(shape)) => compare_moves(k, part_of(&text, 0, n), shape, moves, table, t),
+        _ => t.count(Counted::Moves),
     }
 }
 
 // All letters in one star; one letter in all brackets; choices and repetitions in brackets.
-fn wide_moves(t: Tally) -> Tally {
+fn wide_moves(t: &mut Tally) {
     let mut table = [0usize; CELLS];
-    let starred = edge_moves(b"02 0064 00 0032 01(16a15b01)01*", &mut table, t);
-    let deep = edge_moves(b"16 0032 00 0002 16(01p16)03*", &mut table, starred);
+    edge_moves(b"02 0064 00 0032 01(16a15b01)01*", &mut table, t);
+    edge_moves(b"16 0032 00 0002 16(01p16)03*", &mut table, t);
     edge_moves(
         b"03 0600 00 0007 02(01a01*01|01b01)01*01c01)02*01(01a01|02b01)",
         &mut table,
-        deep,
-    )
+        t,
+    );
 }
 
-pub fn all_edges(t: Tally) -> Tally {
-    let limits = last_faults(lengths(depths(t)));
-    let bounds = letters(ranges(short_buffers(limits)));
-    wide_moves(many_stars(broken_rules(strange_texts(bounds))))
+pub fn all_edges(t: &mut Tally) {
+    depths(t);
+    lengths(t);
+    last_faults(t);
+    short_buffers(t);
+    ranges(t);
+    letters(t);
+    strange_texts(t);
+    broken_rules(t);
+    many_stars(t);
+    wide_moves(t);
 }

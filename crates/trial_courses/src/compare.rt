@@ -43,7 +43,7 @@ fn only_a(v: usize) -> bool {
 }
 
 // The verdict is 1 with nothing independent exactly when the log is described.
-fn compare_alone(shape: Shape, moves: &[u32], log: &[u8], described: bool, t: Tally) -> Tally {
+fn compare_alone(shape: Shape, moves: &[u32], log: &[u8], described: bool, t: &mut Tally) {
     let masks = [0u16; 3];
     let verdict = verdict_of(
         &Profile {
@@ -53,11 +53,11 @@ fn compare_alone(shape: Shape, moves: &[u32], log: &[u8], described: bool, t: Ta
         },
         log,
     );
-    counters::judged(t, Counted::Logs, Counted::DescribedLogs, described, verdict)
+    counters::judged(t, Counted::Logs, Counted::DescribedLogs, described, verdict);
 }
 
 // It is 1 with a and b independent exactly when an arrangement of the log is described.
-fn compare_pair(shape: Shape, moves: &[u32], log: &[u8], described: bool, t: Tally) -> Tally {
+fn compare_pair(shape: Shape, moves: &[u32], log: &[u8], described: bool, t: &mut Tally) {
     let mut masks = [0u16; 3];
     masks[0] = 2;
     masks[1] = 1;
@@ -75,31 +75,28 @@ fn compare_pair(shape: Shape, moves: &[u32], log: &[u8], described: bool, t: Tal
         Counted::DescribedPairLogs,
         described,
         verdict,
-    )
+    );
 }
 
 // Log number v, where its letters are below k; `set` has the described logs.
-fn compare_log(shape: Shape, moves: &[u32], set: usize, v: usize, t: Tally) -> Tally {
+fn compare_log(shape: Shape, moves: &[u32], set: usize, v: usize, t: &mut Tally) {
     let mut letters = [0u8; 8];
     let n = put_log_number(2, v, &mut letters);
     let log = part_of(&letters, 0, n);
     if 1 < shape.k {
-        let alone = compare_alone(shape, moves, log, bit(set, v), t);
-        return compare_pair(shape, moves, log, set & arrangements(v) != 0, alone);
+        compare_alone(shape, moves, log, bit(set, v), t);
+        compare_pair(shape, moves, log, set & arrangements(v) != 0, t);
+        return;
     }
     if only_a(v) {
-        compare_alone(shape, moves, log, bit(set, v), t)
-    } else {
-        t
+        compare_alone(shape, moves, log, bit(set, v), t);
     }
 }
 
-fn compare_logs(shape: Shape, moves: &[u32], set: usize, t: Tally) -> Tally {
-    let mut u = t;
+fn compare_logs(shape: Shape, moves: &[u32], set: usize, t: &mut Tally) {
     for v in 0..ALL {
-        u = compare_log(shape, moves, set, v, u);
+        compare_log(shape, moves, set, v, t);
     }
-    u
 }
 
 // The call is refused by the number at the place, with `size` numbers lent.
@@ -110,16 +107,16 @@ pub fn refuse(
     number: usize,
     place: usize,
     group: impl Counter,
-    t: Tally,
-) -> Tally {
+    t: &mut Tally,
+) {
     let mut numbers = [u32::GUARD; 64];
     let made = make_in(k, text, size, &mut numbers);
-    counters::refused(t, group, is_refused(made, number, place, &numbers), number)
+    counters::refused(t, group, is_refused(made, number, place, &numbers), number);
 }
 
 // A right text with the letters of a profile of s states, and one number too few.
-fn refuse_short(k: usize, text: &[u8], s: usize, t: Tally) -> Tally {
-    refuse(k, text, minus(times(k, s), 1), 9, 0, Counted::Refusal, t)
+fn refuse_short(k: usize, text: &[u8], s: usize, t: &mut Tally) {
+    refuse(k, text, minus(times(k, s), 1), 9, 0, Counted::Refusal, t);
 }
 
 // The profile made with `size` numbers lent, its moves, and every log of up to four letters.
@@ -130,34 +127,38 @@ fn compare_made(
     size: usize,
     set: usize,
     table: &mut [usize],
-    t: Tally,
-) -> Tally {
+    t: &mut Tally,
+) {
     let mut numbers = [u32::GUARD; 64];
     let made = make_in(k, text, size, &mut numbers);
     let Some(shape) = profile_in(made, k, s, &numbers) else {
-        return tally::count(t, Counted::Profile);
+        t.count(Counted::Profile);
+        return;
     };
     if !is_part(set) {
-        return tally::count(t, Counted::Profile);
+        t.count(Counted::Profile);
+        return;
     }
     let moves = part_of(table_part(&numbers), 0, times(k, s));
-    let judged = compare_logs(shape, moves, set, t);
-    compare_moves(k, text, shape, moves, table, judged)
+    compare_logs(shape, moves, set, t);
+    compare_moves(k, text, shape, moves, table, t);
 }
 
 // A right text, with `extra` numbers too many, and with one too few.
-fn compare_right(k: usize, text: &[u8], extra: usize, table: &mut [usize], t: Tally) -> Tally {
+fn compare_right(k: usize, text: &[u8], extra: usize, table: &mut [usize], t: &mut Tally) {
     let s = plus(letter_count(k, text), 1);
     let set = described_logs(k, text, table);
-    let counted = refuse_short(k, text, s, tally::count(t, Counted::Right));
-    compare_made(k, text, s, plus(times(k, s), extra), set, table, counted)
+    t.count(Counted::Right);
+    refuse_short(k, text, s, t);
+    compare_made(k, text, s, plus(times(k, s), extra), set, table, t);
 }
 
 // A text of up to seven bytes; `extra` varies how many numbers too many are lent.
-pub fn compare_text(k: usize, text: &[u8], extra: usize, table: &mut [usize], t: Tally) -> Tally {
-    let counted = tally::count(t, Counted::Texts);
+pub fn compare_text(k: usize, text: &[u8], extra: usize, table: &mut [usize], t: &mut Tally) {
+    t.count(Counted::Texts);
     if is_right(k, text) {
-        return compare_right(k, text, extra % 4, table, counted);
+        compare_right(k, text, extra % 4, table, t);
+        return;
     }
     refuse(
         k,
@@ -166,6 +167,6 @@ pub fn compare_text(k: usize, text: &[u8], extra: usize, table: &mut [usize], t:
         11,
         place_of(k, text),
         Counted::Refusal,
-        counted,
-    )
+        t,
+    );
 }

@@ -1,5 +1,4 @@
 // The counters of this test, in the order in which they are printed.
-use trial::tally;
 use trial::tally::{Counter, Tally};
 
 #[derive(Clone, Copy)]
@@ -44,22 +43,19 @@ impl Counter for RefusedBy {
 }
 
 // Counts a refusal by the number, where it came as expected, or a wrong comparison of the group; 0 is no refusal.
-pub fn refused(t: Tally, group: impl Counter, right: bool, number: usize) -> Tally {
-    if right {
-        tally::count(t, RefusedBy(number))
-    } else {
-        tally::count(t, group)
-    }
+pub fn refused(t: &mut Tally, group: impl Counter, right: bool, number: usize) {
+    t.count_either(right, RefusedBy(number), group);
 }
 
 // Counts a log that was judged, whether it is described, and whether the verdict was wrong.
 pub fn judged(
-    t: Tally,
+    t: &mut Tally,
     logs: Counted,
     described_logs: Counted,
     described: bool,
     verdict: Option<bool>,
-) -> Tally {
-    let counted = tally::count_if(tally::count(t, logs), described_logs, described);
-    tally::expect(counted, Counted::Verdict, verdict == Some(described))
+) {
+    t.count(logs);
+    t.count_if(described_logs, described);
+    t.expect(Counted::Verdict, verdict == Some(described));
 }

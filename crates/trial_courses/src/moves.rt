@@ -2,7 +2,6 @@
 use crate::counters::Counted;
 use profile::Shape;
 use trial::cells::{byte, one32, part_of, plus, times, value_at, wide};
-use trial::tally;
 use trial::tally::Tally;
 use trial_grammar::meanings::{Around, Members, describes};
 use trial_grammar::words::{is_letter, letter_at, one_if};
@@ -95,13 +94,13 @@ pub fn compare_moves(
     shape: Shape,
     moves: &[u32],
     table: &mut [usize],
-    t: Tally,
-) -> Tally {
+    t: &mut Tally,
+) {
     let s = shape.s;
     let finals = final_states(k, text, s, table);
     let right = rows_right(k, text, s, moves, table) & (finals == shape.finals);
     let set = plus(bits_set(moves), wide(u32::count_ones(finals)));
-    let compared = tally::count_many(t, Counted::Bits, times(32, plus(moves.len(), 1)));
-    let counted = tally::count_many(compared, Counted::Set, set);
-    tally::expect(counted, Counted::Moves, right)
+    t.count_many(Counted::Bits, times(32, plus(moves.len(), 1)));
+    t.count_many(Counted::Set, set);
+    t.expect(Counted::Moves, right);
 }

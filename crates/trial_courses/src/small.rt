@@ -15,18 +15,16 @@ fn put_text(bytes: &[u8], v: usize, text: &mut [u8]) -> usize {
     n
 }
 
-fn compare_number(k: usize, bytes: &[u8], v: usize, table: &mut [usize], t: Tally) -> Tally {
+fn compare_number(k: usize, bytes: &[u8], v: usize, table: &mut [usize], t: &mut Tally) {
     let mut text = [0u8; 8];
     let n = put_text(bytes, v, &mut text);
-    compare_text(k, part_of(&text, 0, n), v, table, t)
+    compare_text(k, part_of(&text, 0, n), v, table, t);
 }
 
 // All texts of up to `longest` of the bytes.
-pub fn every_text(k: usize, bytes: &[u8], longest: usize, t: Tally) -> Tally {
+pub fn every_text(k: usize, bytes: &[u8], longest: usize, t: &mut Tally) {
     let mut table = [0usize; CELLS];
-    let mut u = t;
     for v in 0..log_count(bytes.len(), longest) {
-        u = compare_number(k, bytes, v, &mut table, u);
+        compare_number(k, bytes, v, &mut table, t);
     }
-    u
 }

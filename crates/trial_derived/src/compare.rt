@@ -5,7 +5,6 @@ use crate::lent::grammar_in;
 use trial::calls::{BYTES, NUMBERS, table_part};
 use trial::cells::{Cell, part_of, plus, times, untouched, wide};
 use trial::record_numbers::{BACKWARD, FORWARD, record_at, set_of, total_of};
-use trial::tally;
 use trial::tally::{Counter, Tally};
 use trial_logs::listing::{list, listed, one_way};
 use trial_logs::place_keys::{key_of, place_of, put_keys};
@@ -83,12 +82,13 @@ fn order_right(
     untouched(buffer, BYTES, n) & listed(rows, count, order) & derived(rules, order)
 }
 
-fn count_case(masks: &[u16], count: usize, derivable: usize, prefixes: usize, t: Tally) -> Tally {
-    let a = tally::count_many(tally::count(t, Counted::Cases), Counted::Reachable, count);
-    let b = tally::count_many(a, Counted::Derivable, derivable);
-    let c = tally::count_many(b, Counted::Records, prefixes);
-    let d = tally::count_if(c, Counted::Accepted, 0 < derivable);
-    tally::count_if(d, Counted::OneWay, one_way(masks))
+fn count_case(masks: &[u16], count: usize, derivable: usize, prefixes: usize, t: &mut Tally) {
+    t.count(Counted::Cases);
+    t.count_many(Counted::Reachable, count);
+    t.count_many(Counted::Derivable, derivable);
+    t.count_many(Counted::Records, prefixes);
+    t.count_if(Counted::Accepted, 0 < derivable);
+    t.count_if(Counted::OneWay, one_way(masks));
 }
 
 // What the call must be lent, and `extra` more.
@@ -107,10 +107,10 @@ pub fn with_room(case: Case, extra: usize) -> Case {
 }
 
 // The table of a call that is not refused.
-fn compare_table(masks: &[u16], log: &[u8], numbers: &[u32], prefixes: usize, t: Tally) -> Tally {
+fn compare_table(masks: &[u16], log: &[u8], numbers: &[u32], prefixes: usize, t: &mut Tally) {
     let right = records_right(masks, log, table_part(numbers), prefixes)
         & untouched(numbers, NUMBERS, record_at(prefixes));
-    tally::expect(t, Counted::Table, right)
+    t.expect(Counted::Table, right);
 }
 
 // The answer and the order of a call that is not refused; a listing that did not fit has no rows and is wrong.
@@ -122,8 +122,8 @@ fn compare_answer(
     told: &[u64; 4],
     buffer: &[u8],
     prefixes: usize,
-    t: Tally,
-) -> Tally {
+    t: &mut Tally,
+) {
     let mut rows = [0u8; 16384];
     let n = log.len();
     let count = list(masks, log, &mut rows);
@@ -133,16 +133,13 @@ fn compare_answer(
         & (0 < count)
         & told_right(told, verdict, prefixes, look_count(masks, log));
     let ordered = order_right(rules, &rows, count, n, verdict, buffer);
-    let u = tally::expect(
-        tally::expect(t, Counted::Verdict, answered),
-        Counted::Order,
-        ordered,
-    );
-    count_case(masks, count, derivable, prefixes, u)
+    t.expect(Counted::Verdict, answered);
+    t.expect(Counted::Order, ordered);
+    count_case(masks, count, derivable, prefixes, t);
 }
 
 // A call that is not refused, in lent buffers that are large enough.
-fn compare_call(case: Case, masks: &[u16], rules: &[u16], log: &[u8], t: Tally) -> Tally {
+fn compare_call(case: Case, masks: &[u16], rules: &[u16], log: &[u8], t: &mut Tally) {
     let mut buffer = [u8::GUARD; 24];
     let mut numbers = [u32::GUARD; 700];
     let mut sets = [u16::GUARD; 4128];
@@ -158,12 +155,12 @@ fn compare_call(case: Case, masks: &[u16], rules: &[u16], log: &[u8], t: Tally) 
         &mut told,
     );
     let prefixes = prefix_count(masks, log);
-    let a = tally::expect(t, Counted::Table, untouched(&sets, NUMBERS, case.sets));
-    let b = compare_table(masks, log, &numbers, prefixes, a);
-    compare_answer(masks, rules, log, number, &told, &buffer, prefixes, b)
+    t.expect(Counted::Table, untouched(&sets, NUMBERS, case.sets));
+    compare_table(masks, log, &numbers, prefixes, t);
+    compare_answer(masks, rules, log, number, &told, &buffer, prefixes, t);
 }
 
-pub fn compare_case(case: Case, t: Tally) -> Tally {
+pub fn compare_case(case: Case, t: &mut Tally) {
     let masks = case.masks;
     let rules = case.rules;
     let log = case.log;
@@ -173,5 +170,5 @@ pub fn compare_case(case: Case, t: Tally) -> Tally {
         part_of(&rules, 0, case.many),
         part_of(&log, 0, case.events),
         t,
-    )
+    );
 }

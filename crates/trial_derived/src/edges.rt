@@ -4,7 +4,6 @@ use crate::compare::{Counted, with_room};
 use crate::lent::grammar_in;
 use crate::refusing::{Defect, compare_defects, compare_refusal};
 use trial::cells::{Cell, part_of};
-use trial::tally;
 use trial::tally::Tally;
 
 // Nested loans: a lends a set and b takes it back; the log is ba, which may become ab.
@@ -28,26 +27,25 @@ fn nested_case() -> Case {
 }
 
 // Every set of defects, with each kind of them.
-pub fn all_defects(t: Tally) -> Tally {
-    let mut u = t;
+pub fn all_defects(t: &mut Tally) {
     for i in 0..2048 {
-        u = compare_defects(nested_case(), i / 8, i % 8, u);
+        compare_defects(nested_case(), i / 8, i % 8, t);
     }
-    u
 }
 
 // 4,001 letters are refused by 7 before a bad letter, short buffers and all that follows is looked at.
-pub fn compare_long(t: Tally) -> Tally {
+pub fn compare_long(t: &mut Tally) {
     let log = [9u8; 4001];
     let mut c = nested_case();
     c.room = 0;
     c.size = 0;
     c.sets = 0;
-    compare_refusal(c, &log, Defect::By7, 0, t)
+    compare_refusal(c, &log, Defect::By7, 0, t);
 }
 
-fn edge(t: Tally, right: bool) -> Tally {
-    tally::count(tally::expect(t, Counted::Edge, right), Counted::Edges)
+fn edge(t: &mut Tally, right: bool) {
+    t.expect(Counted::Edge, right);
+    t.count(Counted::Edges);
 }
 
 // The number that a case is refused by, with a log of its own.
@@ -71,9 +69,9 @@ fn number_of(case: Case, log: &[u8]) -> Option<u32> {
 }
 
 // 4,000 letters pass 7: the next that applies is 9.
-fn longest(t: Tally) -> Tally {
+fn longest(t: &mut Tally) {
     let log = [0u8; 4000];
-    edge(t, number_of(nested_case(), &log) == Some(9))
+    edge(t, number_of(nested_case(), &log) == Some(9));
 }
 
 // A case with so many names and rules, all of the rule 0: name 0 gives letter 0.
@@ -85,37 +83,51 @@ fn limited(names: usize, many: usize) -> Case {
     with_room(c, 0)
 }
 
-fn limit(names: usize, many: usize, number: u32, t: Tally) -> Tally {
+fn limit(names: usize, many: usize, number: u32, t: &mut Tally) {
     let log = [0u8; 1];
-    edge(t, number_of(limited(names, many), &log) == Some(number))
+    edge(t, number_of(limited(names, many), &log) == Some(number));
 }
 
 // One rule, with k letters and some names.
-fn one_rule(k: usize, names: usize, rule: u16, number: u32, t: Tally) -> Tally {
+fn one_rule(k: usize, names: usize, rule: u16, number: u32, t: &mut Tally) {
     let log = [0u8; 1];
     let mut c = limited(names, 1);
     c.k = k;
     c.letters = k;
     c.rules[0] = rule;
-    edge(t, number_of(c, &log) == Some(number))
+    edge(t, number_of(c, &log) == Some(number));
 }
 
 // 1 to 16 names and up to 64 rules.
-fn limits(t: Tally) -> Tally {
-    let a = limit(1, 0, 0, limit(16, 64, 0, limit(1, 64, 0, t)));
-    limit(17, 1, 21, limit(0, 0, 21, limit(1, 65, 21, a)))
+fn limits(t: &mut Tally) {
+    limit(1, 64, 0, t);
+    limit(16, 64, 0, t);
+    limit(1, 0, 0, t);
+    limit(1, 65, 21, t);
+    limit(0, 0, 21, t);
+    limit(17, 1, 21, t);
 }
 
 // The last letter and the last names of a rule, and the first that are out of range; a rule of neither kind.
-fn last_ones(t: Tally) -> Tally {
-    let a = one_rule(16, 1, 15, 0, one_rule(16, 1, 16, 21, t));
-    let b = one_rule(2, 1, 1, 0, one_rule(2, 1, 2, 21, a));
-    let c = one_rule(1, 3, 512, 0, one_rule(1, 3, 768, 21, b));
-    let d = one_rule(1, 3, 4130, 0, one_rule(1, 3, 4144, 21, c));
-    let e = one_rule(1, 16, 8191, 0, one_rule(1, 16, 8192, 21, d));
-    one_rule(1, 3, 4099, 21, one_rule(1, 16, 65535, 21, e))
+fn last_ones(t: &mut Tally) {
+    one_rule(16, 1, 16, 21, t);
+    one_rule(16, 1, 15, 0, t);
+    one_rule(2, 1, 2, 21, t);
+    one_rule(2, 1, 1, 0, t);
+    one_rule(1, 3, 768, 21, t);
+    one_rule(1, 3, 512, 0, t);
+    one_rule(1, 3, 4144, 21, t);
+    one_rule(1, 3, 4130, 0, t);
+    one_rule(1, 16, 8192, 21, t);
+    one_rule(1, 16, 8191, 0, t);
+    one_rule(1, 16, 65535, 21, t);
+    one_rule(1, 3, 4099, 21, t);
 }
 
-pub fn all_edges(t: Tally) -> Tally {
-    last_ones(limits(longest(compare_long(all_defects(t)))))
+pub fn all_edges(t: &mut Tally) {
+    all_defects(t);
+    compare_long(t);
+    longest(t);
+    limits(t);
+    last_ones(t);
 }

@@ -5,7 +5,6 @@ use crate::compare::Counted;
 use crate::lent::grammar_in;
 use trial::calls::NUMBERS;
 use trial::cells::{Cell, bit, byte, minus, part_of, plus, untouched};
-use trial::tally;
 use trial::tally::{Counter, Tally};
 
 // What a call is refused by, in the order in which it is looked for.
@@ -182,8 +181,8 @@ fn compare_call(
     log: &[u8],
     defect: Defect,
     place: usize,
-    t: Tally,
-) -> Tally {
+    t: &mut Tally,
+) {
     let mut buffer = [u8::GUARD; 24];
     let mut numbers = [u32::GUARD; 700];
     let mut sets = [u16::GUARD; 4128];
@@ -204,13 +203,13 @@ fn compare_call(
         & untouched(&sets, 0, 0)
         & untouched(&numbers, NUMBERS, free_of(case, defect));
     if right {
-        tally::count(t, defect)
+        t.count(defect);
     } else {
-        tally::count(t, Counted::Refusal)
+        t.count(Counted::Refusal);
     }
 }
 
-pub fn compare_refusal(case: Case, log: &[u8], defect: Defect, place: usize, t: Tally) -> Tally {
+pub fn compare_refusal(case: Case, log: &[u8], defect: Defect, place: usize, t: &mut Tally) {
     let masks = case.masks;
     let rules = case.rules;
     compare_call(
@@ -221,14 +220,14 @@ pub fn compare_refusal(case: Case, log: &[u8], defect: Defect, place: usize, t: 
         defect,
         place,
         t,
-    )
+    );
 }
 
 // A case with some of the defects; it has what it needs and no more.
-pub fn compare_defects(case: Case, defects: usize, kind: usize, t: Tally) -> Tally {
+pub fn compare_defects(case: Case, defects: usize, kind: usize, t: &mut Tally) {
     let some = possible(case, defects);
     let Some(first) = first_of(some) else {
-        return t;
+        return;
     };
     let c = with_short_buffers(with_input_defects(case, some, kind), some);
     let log = c.log;
@@ -238,5 +237,5 @@ pub fn compare_defects(case: Case, defects: usize, kind: usize, t: Tally) -> Tal
         first,
         minus(case.events, 1),
         t,
-    )
+    );
 }

@@ -6,7 +6,6 @@ use profile::{Profile, Shape};
 use trial::answers::{Answer, is_refusal, is_told};
 use trial::calls::{BYTES, write_in};
 use trial::cells::{Cell, minus, part_of, plus, times, untouched};
-use trial::tally;
 use trial::tally::{Call, Counted, Tally};
 
 // The writer tells the file's length, and the guards around the file stand.
@@ -40,26 +39,26 @@ fn same_file(profile: &Profile, file: &[u8]) -> bool {
 }
 
 // Writes with one byte too little: refused by 9, nothing written.
-fn refuse_short(profile: &Profile, log: &[u8], t: Tally) -> Tally {
+fn refuse_short(profile: &Profile, log: &[u8], t: &mut Tally) {
     let mut out = [u8::GUARD; 6160];
     let room = minus(file_size(profile.shape, log.len()), 1);
     let answer = write_in(profile, log, room, &mut out);
     let right = is_refusal(answer, 9, 0, 0) & untouched(&out, 0, 0);
-    tally::refused(t, Counted::File, right, Call::Write, 9)
+    t.refused(Counted::File, right, Call::Write, 9);
 }
 
 // Reads a written file into exact and longer buffers, and into ones that are too short.
-fn compare_rooms(shape: Shape, file: &[u8], extra: usize, t: Tally) -> Tally {
+fn compare_rooms(shape: Shape, file: &[u8], extra: usize, t: &mut Tally) {
     let k = shape.k;
     let many = times(shape.s, k);
-    let long = compare_file(file, plus(k, extra % 3), plus(many, extra % 5), t);
-    let masks = compare_file(file, minus(k, 1), plus(many, extra % 2), long);
-    let moves = compare_file(file, plus(k, extra % 2), minus(many, 1), masks);
-    compare_file(file, 0, 0, moves)
+    compare_file(file, plus(k, extra % 3), plus(many, extra % 5), t);
+    compare_file(file, minus(k, 1), plus(many, extra % 2), t);
+    compare_file(file, plus(k, extra % 2), minus(many, 1), t);
+    compare_file(file, 0, 0, t);
 }
 
 // Writes the file of a log into more room than it needs; `extra` varies how much. Then reads it.
-fn compare_written(profile: &Profile, log: &[u8], extra: usize, t: Tally) -> Tally {
+fn compare_written(profile: &Profile, log: &[u8], extra: usize, t: &mut Tally) {
     let mut out = [u8::GUARD; 6160];
     let size = file_size(profile.shape, log.len());
     let answer = write_in(profile, log, plus(size, extra % 3), &mut out);
@@ -67,12 +66,14 @@ fn compare_written(profile: &Profile, log: &[u8], extra: usize, t: Tally) -> Tal
     let right = answer_right(answer, size, &out)
         & bytes_right(profile, log, file)
         & written_again(file);
-    let written = tally::count(tally::expect(t, Counted::File, right), Counted::Written);
-    compare_rooms(profile.shape, file, extra, written)
+    t.expect(Counted::File, right);
+    t.count(Counted::Written);
+    compare_rooms(profile.shape, file, extra, t);
 }
 
 // All that is compared of one log.
-pub fn compare_log(profile: &Profile, log: &[u8], extra: usize, t: Tally) -> Tally {
-    let written = compare_written(profile, log, extra, t);
-    compare_events(log, refuse_short(profile, log, written))
+pub fn compare_log(profile: &Profile, log: &[u8], extra: usize, t: &mut Tally) {
+    compare_written(profile, log, extra, t);
+    refuse_short(profile, log, t);
+    compare_events(log, t);
 }

@@ -4,24 +4,21 @@ use profile::Profile;
 use trial::cells::{byte, byte_at, copy, minus, part_of, plus, put, times};
 use trial::random::{below, put_log, put_masks, put_moves, seed_of};
 use trial::shapes::{alt, shape_of};
-use trial::tally;
 use trial::tally::{Counted, Tally};
 
 // Compares the file with byte i changed to v.
-fn compare_changed(file: &[u8], i: usize, v: usize, t: Tally) -> Tally {
+fn compare_changed(file: &[u8], i: usize, v: usize, t: &mut Tally) {
     let mut changed = [0u8; 160];
     copy(file, &mut changed);
     put(&mut changed, i, byte(v));
-    compare_file(part_of(&changed, 0, file.len()), 18, 520, t)
+    compare_file(part_of(&changed, 0, file.len()), 18, 520, t);
 }
 
 // Every byte changed to every value.
-fn every_change(file: &[u8], t: Tally) -> Tally {
-    let mut u = t;
+fn every_change(file: &[u8], t: &mut Tally) {
     for v in 0..times(file.len(), 256) {
-        u = compare_changed(file, v / 256, v % 256, u);
+        compare_changed(file, v / 256, v % 256, t);
     }
-    u
 }
 
 // One of six other values of byte i.
@@ -37,41 +34,38 @@ fn other_value(old: usize, i: usize, kind: usize) -> usize {
 }
 
 // Every byte changed to six values.
-fn some_changes(file: &[u8], t: Tally) -> Tally {
-    let mut u = t;
+fn some_changes(file: &[u8], t: &mut Tally) {
     for v in 0..times(file.len(), 6) {
         let i = v / 6;
-        u = compare_changed(file, i, other_value(byte_at(file, i), i, v % 6), u);
+        compare_changed(file, i, other_value(byte_at(file, i), i, v % 6), t);
     }
-    u
 }
 
 // The file cut at every length, its end left off, and then its beginning.
-fn every_cut(file: &[u8], t: Tally) -> Tally {
-    let mut u = t;
+fn every_cut(file: &[u8], t: &mut Tally) {
     for m in 0..plus(file.len(), 1) {
-        let cut = compare_file(part_of(file, 0, m), 16, 512, u);
-        u = compare_file(part_of(file, m, minus(file.len(), m)), 16, 512, cut);
+        compare_file(part_of(file, 0, m), 16, 512, t);
+        compare_file(part_of(file, m, minus(file.len(), m)), 16, 512, t);
     }
-    u
 }
 
 // Cuts and changes the file of a profile and a log; every value of a byte is tried where `all` is true.
-fn damage(profile: &Profile, log: &[u8], all: bool, t: Tally) -> Tally {
+fn damage(profile: &Profile, log: &[u8], all: bool, t: &mut Tally) {
     let mut out = [0u8; 160];
     let size = crate::written::file_size(profile.shape, log.len());
     let written = filewriter::write_file(profile, log, &mut out).ok();
     let file = part_of(&out, 0, size);
-    let cut = every_cut(file, tally::expect(t, Counted::File, written == Some(size)));
+    t.expect(Counted::File, written == Some(size));
+    every_cut(file, t);
     if all {
-        every_change(file, cut)
+        every_change(file, t);
     } else {
-        some_changes(file, cut)
+        some_changes(file, t);
     }
 }
 
 // The file of document 01.
-pub fn damage_document(t: Tally) -> Tally {
+pub fn damage_document(t: &mut Tally) {
     damage(
         &Profile {
             shape: alt(),
@@ -81,11 +75,11 @@ pub fn damage_document(t: Tally) -> Tally {
         &[1u8, 1, 0, 0],
         true,
         t,
-    )
+    );
 }
 
 // The file of a random profile with k letters and s states, and a log of n letters.
-fn damage_of(seed: usize, k: usize, s: usize, n: usize, t: Tally) -> Tally {
+fn damage_of(seed: usize, k: usize, s: usize, n: usize, t: &mut Tally) {
     let mut masks = [0u16; 16];
     let mut moves = [0u32; 16];
     let mut log = [0u8; 8];
@@ -101,19 +95,17 @@ fn damage_of(seed: usize, k: usize, s: usize, n: usize, t: Tally) -> Tally {
         part_of(&log, 0, n),
         false,
         t,
-    )
+    );
 }
 
 // Files of random profiles with up to three letters and three states.
-pub fn damage_many(seed: usize, many: usize, t: Tally) -> Tally {
-    let mut u = t;
+pub fn damage_many(seed: usize, many: usize, t: &mut Tally) {
     for i in 0..many {
         let one = seed_of(seed, i);
         let k = plus(1, below(one, 1, 3));
         let s = plus(1, below(one, 2, 3));
-        u = damage_of(one, k, s, below(one, 3, 6), u);
+        damage_of(one, k, s, below(one, 3, 6), t);
     }
-    u
 }
 
 // Byte i before the trailer: mostly 0, so that sections that share bytes are often right.
@@ -153,17 +145,15 @@ fn put_scattered(seed: usize, at: usize, file: &mut [u8]) {
 }
 
 // A file whose sections stand anywhere before the trailer, and share bytes.
-fn scatter(seed: usize, t: Tally) -> Tally {
+fn scatter(seed: usize, t: &mut Tally) {
     let mut file = [0u8; 160];
     let at = below(seed, 900, 80);
     put_scattered(seed, at, &mut file);
-    compare_file(part_of(&file, 0, plus(at, 16)), 16, 512, t)
+    compare_file(part_of(&file, 0, plus(at, 16)), 16, 512, t);
 }
 
-pub fn scatter_many(seed: usize, many: usize, t: Tally) -> Tally {
-    let mut u = t;
+pub fn scatter_many(seed: usize, many: usize, t: &mut Tally) {
     for i in 0..many {
-        u = scatter(seed_of(seed, i), u);
+        scatter(seed_of(seed, i), t);
     }
-    u
 }

@@ -8,16 +8,15 @@ use trial::answers::is_refusal;
 use trial::calls::write_in;
 use trial::cells::{Cell, byte, minus, part_of, plus, put, put_run, untouched};
 use trial::shapes::shape_of;
-use trial::tally;
 use trial::tally::{Call, Counted, Tally};
 
 // The file of n letters of sixteen, with 32 states; with 4,000 it is the longest that is written, 6,096 bytes.
-fn long_file(n: usize, t: Tally) -> Tally {
+fn long_file(n: usize, t: &mut Tally) {
     let masks = [0u16; 16];
     let moves = [4294967295u32; 512];
     let mut log = [0u8; 4000];
     put_run(&mut log, 200, 3800, 15);
-    let compared = compare_log(
+    compare_log(
         &Profile {
             shape: shape_of(16, 32, 31, 4294967295),
             masks: &masks,
@@ -27,11 +26,11 @@ fn long_file(n: usize, t: Tally) -> Tally {
         1,
         t,
     );
-    tally::count(compared, Counted::Edges)
+    t.count(Counted::Edges);
 }
 
 // The writer refuses 4,001 letters.
-fn too_long_file(t: Tally) -> Tally {
+fn too_long_file(t: &mut Tally) {
     let masks = [0u16; 16];
     let moves = [4294967295u32; 512];
     let log = [15u8; 4001];
@@ -47,7 +46,7 @@ fn too_long_file(t: Tally) -> Tally {
         &mut out,
     );
     let right = is_refusal(answer, 7, 0, 0) & untouched(&out, 0, 0);
-    tally::refused_edge(t, right, Call::Write, 7)
+    t.refused_edge(right, Call::Write, 7);
 }
 
 // The bytes of a file that the writer may refuse.
@@ -59,7 +58,7 @@ fn put_file(profile: &Profile, log: &[u8], file: &mut [u8]) {
 
 // The file of n letters of two, the last of them `last`, with byte i changed to v: a mask from 0 on, a move from 4 on, the trailer from n + 12 on. The
 // second reader refuses it by the number, or not where it is 0.
-fn compare_made(n: usize, last: usize, i: usize, v: usize, number: usize, t: Tally) -> Tally {
+fn compare_made(n: usize, last: usize, i: usize, v: usize, number: usize, t: &mut Tally) {
     let mut log = [0u8; 4001];
     let mut file = [0u8; 4032];
     put(&mut log, minus(n, 1), byte(last));
@@ -75,37 +74,50 @@ fn compare_made(n: usize, last: usize, i: usize, v: usize, number: usize, t: Tal
     put(&mut file, i, byte(v));
     let made = part_of(&file, 0, plus(n, 28));
     let right = file_refusal(made) == number;
-    compare_file(made, 2, 2, tally::edge(t, right))
+    t.edge(right);
+    compare_file(made, 2, 2, t);
 }
 
 // n letters, as they are; the last one bad.
-fn compare_last(n: usize, t: Tally) -> Tally {
-    compare_made(n, 2, 0, 2, 8, compare_made(n, 1, 0, 2, 0, t))
+fn compare_last(n: usize, t: &mut Tally) {
+    compare_made(n, 1, 0, 2, 0, t);
+    compare_made(n, 2, 0, 2, 8, t);
 }
 
 // n is read in both of its bytes, and 8 is at every place.
-fn lengths(t: Tally) -> Tally {
-    let inner = compare_last(257, compare_last(256, compare_last(255, t)));
-    compare_last(4000, compare_last(3999, compare_last(512, inner)))
+fn lengths(t: &mut Tally) {
+    compare_last(255, t);
+    compare_last(256, t);
+    compare_last(257, t);
+    compare_last(512, t);
+    compare_last(3999, t);
+    compare_last(4000, t);
 }
 
 // 4,001 letters: 7, also where one is bad. A bad mask, a bad move, the log's distance, a high byte of n that reaches past the file, and byte 11 go before it.
-fn too_long(t: Tally) -> Tally {
-    let bad = compare_made(4001, 2, 0, 2, 7, compare_made(4001, 1, 0, 2, 7, t));
-    let mask = compare_made(4001, 1, 0, 3, 4, bad);
-    let state = compare_made(4001, 1, 4, 3, 6, mask);
-    let far = compare_made(4001, 1, 4021, 160, 3, state);
-    let high = compare_made(4001, 1, 4023, 16, 3, far);
-    compare_made(4001, 1, 4024, 1, 2, high)
+fn too_long(t: &mut Tally) {
+    compare_made(4001, 1, 0, 2, 7, t);
+    compare_made(4001, 2, 0, 2, 7, t);
+    compare_made(4001, 1, 0, 3, 4, t);
+    compare_made(4001, 1, 4, 3, 6, t);
+    compare_made(4001, 1, 4021, 160, 3, t);
+    compare_made(4001, 1, 4023, 16, 3, t);
+    compare_made(4001, 1, 4024, 1, 2, t);
 }
 
 // What a file of 256 letters says with its high byte left out: no letter.
-fn without_high_byte(t: Tally) -> Tally {
-    compare_made(256, 2, 278, 0, 0, t)
+fn without_high_byte(t: &mut Tally) {
+    compare_made(256, 2, 278, 0, 0, t);
 }
 
-pub fn long_files(t: Tally) -> Tally {
-    let written = long_file(257, long_file(256, long_file(255, too_long_file(t))));
-    let longest = long_file(4000, long_file(3999, written));
-    without_high_byte(too_long(lengths(longest)))
+pub fn long_files(t: &mut Tally) {
+    too_long_file(t);
+    long_file(255, t);
+    long_file(256, t);
+    long_file(257, t);
+    long_file(3999, t);
+    long_file(4000, t);
+    lengths(t);
+    too_long(t);
+    without_high_byte(t);
 }

@@ -1,6 +1,5 @@
 // The log reader, by its functions on a log and a place: each event in turn, then the end and no more.
 use trial::cells::plus;
-use trial::tally;
 use trial::tally::{Counted, Tally};
 
 // At the end and past it the place stays.
@@ -19,11 +18,8 @@ fn steps_right(log: &[u8]) -> bool {
     (0..plus(log.len(), 2)).all(|i| step_right(log, i))
 }
 
-pub fn compare_events(log: &[u8], t: Tally) -> Tally {
-    let read = tally::count_many(
-        tally::count_many(t, Counted::Events, log.len()),
-        Counted::Ends,
-        2,
-    );
-    tally::expect(read, Counted::Event, steps_right(log))
+pub fn compare_events(log: &[u8], t: &mut Tally) {
+    t.count_many(Counted::Events, log.len());
+    t.count_many(Counted::Ends, 2);
+    t.expect(Counted::Event, steps_right(log));
 }

@@ -4,7 +4,6 @@ use crate::second_reader::{
 };
 use profile::{Refusal, Shape};
 use trial::cells::{Cell, part_of, plus, untouched, value_at, wide};
-use trial::tally;
 use trial::tally::{Call, Counted, Tally};
 
 // The refusal that is expected: 9 where a lent buffer is too short and the file is right.
@@ -113,21 +112,17 @@ fn log_right(file: &[u8], number: usize) -> bool {
 }
 
 // Compares the calls on a file with the second reader.
-pub fn compare_file(file: &[u8], mask_room: usize, move_room: usize, t: Tally) -> Tally {
+pub fn compare_file(file: &[u8], mask_room: usize, move_room: usize, t: &mut Tally) {
     let number = expected_refusal(file, mask_room, move_room);
     let whole = file_refusal(file);
-    let read = tally::count(t, Counted::Read);
+    t.count(Counted::Read);
     if number == 0 {
         let right = reading_right(file, mask_room, move_room, 0) & log_right(file, 0);
-        return tally::count(tally::expect(read, Counted::File, right), Counted::Told);
+        t.expect(Counted::File, right);
+        t.count(Counted::Told);
+        return;
     }
     let right = reading_right(file, mask_room, move_room, number);
-    let refused = tally::refused(read, Counted::File, right, Call::Read, number);
-    tally::refused(
-        refused,
-        Counted::File,
-        log_right(file, whole),
-        Call::Part,
-        whole,
-    )
+    t.refused(Counted::File, right, Call::Read, number);
+    t.refused(Counted::File, log_right(file, whole), Call::Part, whole);
 }

@@ -6,51 +6,44 @@ use crate::prefixes::prefix_count;
 use profile::Profile;
 use trial::cells::{minus, plus};
 use trial::record_numbers::record_at;
-use trial::tally;
 use trial::tally::{Counted, Tally};
 
 // Build and judge, with a table of `size` numbers, which is enough or not.
-pub fn compare_table(profile: &Profile, log: &[u8], room: usize, size: usize, t: Tally) -> Tally {
+pub fn compare_table(profile: &Profile, log: &[u8], room: usize, size: usize, t: &mut Tally) {
     let prefixes = prefix_count(profile.masks, log);
     if size < record_at(prefixes) {
-        let refused = refuse_build(profile, log, size, t);
-        return refuse_judge(profile, log, 10, room, size, refused);
+        refuse_build(profile, log, size, t);
+        refuse_judge(profile, log, 10, room, size, t);
+        return;
     }
-    let built = compare_build(profile, log, prefixes, size, t);
-    compare_judge(profile, log, prefixes, room, size, built)
+    compare_build(profile, log, prefixes, size, t);
+    compare_judge(profile, log, prefixes, room, size, t);
 }
 
 // An order buffer that is one byte too short.
-fn refuse_short(profile: &Profile, log: &[u8], t: Tally) -> Tally {
+fn refuse_short(profile: &Profile, log: &[u8], t: &mut Tally) {
     if log.len() == 0 {
-        return t;
+        return;
     }
-    refuse_judge(profile, log, 9, minus(log.len(), 1), 1300, t)
+    refuse_judge(profile, log, 9, minus(log.len(), 1), 1300, t);
 }
 
 // Counts a log under one-way masks.
-fn count_masks(masks: &[u16], t: Tally) -> Tally {
+fn count_masks(masks: &[u16], t: &mut Tally) {
     if one_way(masks) {
-        tally::count(t, Counted::OneWayLogs)
-    } else {
-        t
+        t.count(Counted::OneWayLogs);
     }
 }
 
 // Compares all calls on one log; `extra` varies how much longer or shorter than needed the lent buffers are.
-pub fn compare_log(profile: &Profile, log: &[u8], extra: usize, t: Tally) -> Tally {
+pub fn compare_log(profile: &Profile, log: &[u8], extra: usize, t: &mut Tally) {
     let needed = record_at(prefix_count(profile.masks, log));
     let room = plus(log.len(), extra % 4);
     let long = plus(needed, extra % 21);
     let short = minus(needed, plus(extra % 11, 1));
-    let built = compare_table(profile, log, room, long, t);
-    let full = compare_table(profile, log, room, short, built);
-    let refused = refuse_short(profile, log, full);
-    compare_orders(
-        profile.shape.k,
-        profile.masks,
-        log,
-        room,
-        count_masks(profile.masks, refused),
-    )
+    compare_table(profile, log, room, long, t);
+    compare_table(profile, log, room, short, t);
+    refuse_short(profile, log, t);
+    count_masks(profile.masks, t);
+    compare_orders(profile.shape.k, profile.masks, log, room, t);
 }

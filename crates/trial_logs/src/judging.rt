@@ -8,7 +8,6 @@ use trial::answers::{Answer, is_refusal, is_told, is_unchanged};
 use trial::calls::{BYTES, NUMBERS, build_in, judge_in, table_part};
 use trial::cells::{Cell, holds, part_of, untouched, wide};
 use trial::record_numbers::{BACKWARD, FORWARD, record_at, set_of, total_of};
-use trial::tally;
 use trial::tally::{Call, Counted, Tally};
 
 // The states to which some order of the marked events leads from the start.
@@ -92,21 +91,13 @@ fn table_right(
 }
 
 // Builds the table of a log in `size` numbers, in which its prefixes fit.
-pub fn compare_build(
-    profile: &Profile,
-    log: &[u8],
-    prefixes: usize,
-    size: usize,
-    t: Tally,
-) -> Tally {
+pub fn compare_build(profile: &Profile, log: &[u8], prefixes: usize, size: usize, t: &mut Tally) {
     let mut numbers = [u32::GUARD; 1416];
     let answer = build_in(profile, log, size, &mut numbers);
     let right = table_right(profile, log, answer, None, prefixes, &numbers);
-    let counted = tally::count_many(t, Counted::Records, prefixes);
-    tally::count(
-        tally::expect(counted, Counted::Table, right),
-        Counted::Tables,
-    )
+    t.count_many(Counted::Records, prefixes);
+    t.expect(Counted::Table, right);
+    t.count(Counted::Tables);
 }
 
 // The order buffer is the guard but for the expected order, which stands at the lent part's start; with verdict 0 it is the guard.
@@ -119,14 +110,11 @@ fn order_right(buffer: &[u8], verdict: bool, order: &[u8]) -> bool {
 }
 
 // Counts a judged log; a listing that did not fit has no rows and is wrong.
-fn count_judged(t: Tally, right: bool, verdict: bool, count: usize) -> Tally {
-    let judged = tally::expect(t, Counted::Judge, right & (0 < count));
-    let accepted = tally::count_if(
-        tally::count(judged, Counted::Logs),
-        Counted::Accepted,
-        verdict,
-    );
-    tally::count_many(accepted, Counted::Reachable, count)
+fn count_judged(t: &mut Tally, right: bool, verdict: bool, count: usize) {
+    t.expect(Counted::Judge, right & (0 < count));
+    t.count(Counted::Logs);
+    t.count_if(Counted::Accepted, verdict);
+    t.count_many(Counted::Reachable, count);
 }
 
 // Judges a log into an order buffer of `room` bytes and a table of `size` numbers, which are enough.
@@ -136,8 +124,8 @@ pub fn compare_judge(
     prefixes: usize,
     room: usize,
     size: usize,
-    t: Tally,
-) -> Tally {
+    t: &mut Tally,
+) {
     let mut rows = [0u8; 16384];
     let mut buffer = [u8::GUARD; 32];
     let mut numbers = [u32::GUARD; 1416];
@@ -148,21 +136,16 @@ pub fn compare_judge(
     let answer = judge_in(profile, log, room, size, &mut buffer, &mut numbers);
     let right = table_right(profile, log, answer, Some(verdict), prefixes, &numbers)
         & order_right(&buffer, verdict, row(&rows, best, n));
-    count_judged(t, right, verdict, count)
+    count_judged(t, right, verdict, count);
 }
 
 // Builds in a table of `size` numbers, which is too short: refused by 10, and nothing past the table is written.
-pub fn refuse_build(profile: &Profile, log: &[u8], size: usize, t: Tally) -> Tally {
+pub fn refuse_build(profile: &Profile, log: &[u8], size: usize, t: &mut Tally) {
     let mut numbers = [u32::GUARD; 1416];
     let answer = build_in(profile, log, size, &mut numbers);
     let right = is_refusal(answer, 10, 0, 0) & untouched(&numbers, NUMBERS, size);
-    tally::refused(
-        tally::count(t, Counted::FullTables),
-        Counted::Table,
-        right,
-        Call::Build,
-        10,
-    )
+    t.count(Counted::FullTables);
+    t.refused(Counted::Table, right, Call::Build, 10);
 }
 
 // Judges a log with buffers of which one is too short: refused by the number.
@@ -172,11 +155,11 @@ pub fn refuse_judge(
     number: usize,
     room: usize,
     size: usize,
-    t: Tally,
-) -> Tally {
+    t: &mut Tally,
+) {
     let mut buffer = [u8::GUARD; 32];
     let mut numbers = [u32::GUARD; 1416];
     let answer = judge_in(profile, log, room, size, &mut buffer, &mut numbers);
     let right = is_refusal(answer, number, 0, 0) & is_unchanged(number, &buffer, &numbers, size);
-    tally::refused(t, Counted::Judge, right, Call::Judge, number)
+    t.refused(Counted::Judge, right, Call::Judge, number);
 }

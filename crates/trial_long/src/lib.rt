@@ -12,8 +12,7 @@ use trial::cells::{
 };
 use trial::record_numbers::{BACKWARD, FORWARD, count_of, record_at, set_of, total_of};
 use trial::shapes::{alt, shape_of};
-use trial::tally;
-use trial::tally::{Call, Counted, Tally, edge};
+use trial::tally::{Call, Counted, Tally};
 
 // Sixteen letters and five states in a ring: each letter leads from a state to the next, and from the last to the first, which is the final one.
 fn put_ring(moves: &mut [u32]) {
@@ -67,7 +66,7 @@ fn line_verdict(n: usize) -> bool {
 }
 
 // Judges a log of n times one letter in `size` numbers: refused by the number, or not where it is 0. The log is its own order.
-fn judge_run(letter: usize, n: usize, size: usize, number: usize, log: &[u8], t: Tally) -> Tally {
+fn judge_run(letter: usize, n: usize, size: usize, number: usize, log: &[u8], t: &mut Tally) {
     let masks = [0u16; 16];
     let mut moves = [0u32; 80];
     let mut buffer = [u8::GUARD; 4016];
@@ -88,16 +87,16 @@ fn judge_run(letter: usize, n: usize, size: usize, number: usize, log: &[u8], t:
     );
     let right = line_table(answer, number, Some(verdict), letter, n, &numbers, size)
         & order_right((number == 0) & verdict, &buffer, log);
-    tally::refused_edge(t, right, Call::Judge, number)
+    t.refused_edge(right, Call::Judge, number);
 }
 
-fn judge_line(letter: usize, n: usize, size: usize, number: usize, t: Tally) -> Tally {
+fn judge_line(letter: usize, n: usize, size: usize, number: usize, t: &mut Tally) {
     let mut letters = [0u8; 4001];
     put_run(&mut letters, 0, n, byte(letter));
-    judge_run(letter, n, size, number, part_of(&letters, 0, n), t)
+    judge_run(letter, n, size, number, part_of(&letters, 0, n), t);
 }
 
-fn build_line(letter: usize, n: usize, size: usize, number: usize, t: Tally) -> Tally {
+fn build_line(letter: usize, n: usize, size: usize, number: usize, t: &mut Tally) {
     let masks = [0u16; 16];
     let mut letters = [0u8; 4001];
     let mut moves = [0u32; 80];
@@ -115,28 +114,41 @@ fn build_line(letter: usize, n: usize, size: usize, number: usize, t: Tally) -> 
         &mut numbers,
     );
     let right = line_table(answer, number, None, letter, n, &numbers, size);
-    tally::refused_edge(t, right, Call::Build, number)
+    t.refused_edge(right, Call::Build, number);
 }
 
 // n times the letter have their n + 1 records in ten times as many numbers, and not in one fewer.
-fn line(letter: usize, n: usize, t: Tally) -> Tally {
+fn line(letter: usize, n: usize, t: &mut Tally) {
     let size = record_at(plus(n, 1));
     let less = minus(size, 1);
-    let judged = judge_line(letter, n, less, 10, judge_line(letter, n, size, 0, t));
-    build_line(letter, n, less, 10, build_line(letter, n, size, 0, judged))
+    judge_line(letter, n, size, 0, t);
+    judge_line(letter, n, less, 10, t);
+    build_line(letter, n, size, 0, t);
+    build_line(letter, n, less, 10, t);
 }
 
 // About 255 letters, in the low half of a number and in the high one.
-fn inner_lines(t: Tally) -> Tally {
-    let low = line(0, 257, line(0, 256, line(0, 255, line(0, 254, t))));
-    line(15, 257, line(15, 256, line(15, 255, line(15, 254, low))))
+fn inner_lines(t: &mut Tally) {
+    line(0, 254, t);
+    line(0, 255, t);
+    line(0, 256, t);
+    line(0, 257, t);
+    line(15, 254, t);
+    line(15, 255, t);
+    line(15, 256, t);
+    line(15, 257, t);
 }
 
 // 4,000 letters have their records in 40,010 numbers; 4,001 letters are refused, also where their records would fit and where not one would.
-fn lines(t: Tally) -> Tally {
-    let longest = line(7, 4000, line(0, 4000, line(0, 3999, inner_lines(t))));
-    let judged = judge_line(0, 4001, 0, 7, judge_line(0, 4001, 40020, 7, longest));
-    build_line(0, 4001, 0, 7, build_line(0, 4001, 40020, 7, judged))
+fn lines(t: &mut Tally) {
+    inner_lines(t);
+    line(0, 3999, t);
+    line(0, 4000, t);
+    line(7, 4000, t);
+    judge_line(0, 4001, 40020, 7, t);
+    judge_line(0, 4001, 0, 7, t);
+    build_line(0, 4001, 40020, 7, t);
+    build_line(0, 4001, 0, 7, t);
 }
 
 // The states after i letters a and j letters b in some order: Alt.
@@ -206,7 +218,7 @@ fn square_right(answer: Answer, a: usize, b: usize, buffer: &[u8], numbers: &[u3
 }
 
 // Alt on `b` times b and then `a` times a, where b may be moved past.
-fn square(masks: &[u16], a: usize, b: usize, t: Tally) -> Tally {
+fn square(masks: &[u16], a: usize, b: usize, t: &mut Tally) {
     let mut letters = [0u8; 4000];
     let mut buffer = [u8::GUARD; 4016];
     let mut numbers = [u32::GUARD; 163860];
@@ -224,15 +236,18 @@ fn square(masks: &[u16], a: usize, b: usize, t: Tally) -> Tally {
         &mut buffer,
         &mut numbers,
     );
-    let counted = tally::count_many(t, Counted::Records, times(plus(a, 1), plus(b, 1)));
-    edge(counted, square_right(answer, a, b, &buffer, &numbers))
+    t.count_many(Counted::Records, times(plus(a, 1), plus(b, 1)));
+    t.edge(square_right(answer, a, b, &buffer, &numbers));
 }
 
 // 127 of each letter, both ways and one way; 4,000 letters, nearly all of one kind; a count past one byte beside a smaller one, in either half.
-fn squares(t: Tally) -> Tally {
-    let even = square(&[0u16, 1], 127, 127, square(&[2u16, 1], 127, 127, t));
-    let long = square(&[2u16, 1], 2, 3998, square(&[0u16, 1], 3998, 2, even));
-    square(&[2u16, 1], 60, 260, square(&[2u16, 1], 260, 60, long))
+fn squares(t: &mut Tally) {
+    square(&[2u16, 1], 127, 127, t);
+    square(&[0u16, 1], 127, 127, t);
+    square(&[0u16, 1], 3998, 2, t);
+    square(&[2u16, 1], 2, 3998, t);
+    square(&[2u16, 1], 260, 60, t);
+    square(&[2u16, 1], 60, 260, t);
 }
 
 // The comparison of two logs of two letters says the verdict, or is refused by the number at the place, about the log.
@@ -244,65 +259,71 @@ fn compare_long(
     place: usize,
     log: usize,
     verdict: Option<bool>,
-    t: Tally,
-) -> Tally {
+    t: &mut Tally,
+) {
     let answer = of_compared(comparison::same(2, masks, first, second));
     let right = is_refusal(answer, number, place, log) & (verdict_of(answer) == verdict);
-    tally::refused_edge(t, right, Call::Same, number)
+    t.refused_edge(right, Call::Same, number);
 }
 
 // The first order of a log, or its refusal by the number.
-fn order_long(masks: &[u16], log: &[u8], first: &[u8], number: usize, t: Tally) -> Tally {
+fn order_long(masks: &[u16], log: &[u8], first: &[u8], number: usize, t: &mut Tally) {
     let mut buffer = [u8::GUARD; 4016];
     let answer = first_order_in(2, masks, log, log.len(), &mut buffer);
     let right = is_refusal(answer, number, 0, 0) & order_right(number == 0, &buffer, first);
-    tally::refused_edge(t, right, Call::First, number)
+    t.refused_edge(right, Call::First, number);
 }
 
 // The two are the same where a and b are independent both ways, and not where they are so one way or not at all, nor without the last letter.
-fn same_long(log: &[u8], first: &[u8], t: Tally) -> Tally {
+fn same_long(log: &[u8], first: &[u8], t: &mut Tally) {
     let masks = [2u16, 1];
-    let same = compare_long(&masks, log, first, 0, 0, 0, Some(true), t);
-    let one_way = compare_long(&[0u16, 1], log, first, 0, 0, 0, Some(false), same);
-    let apart = compare_long(&[0u16, 0], log, first, 0, 0, 0, Some(false), one_way);
+    compare_long(&masks, log, first, 0, 0, 0, Some(true), t);
+    compare_long(&[0u16, 1], log, first, 0, 0, 0, Some(false), t);
+    compare_long(&[0u16, 0], log, first, 0, 0, 0, Some(false), t);
     let less = part_of(first, 0, minus(first.len(), 1));
-    compare_long(&masks, log, less, 0, 0, 0, Some(false), apart)
+    compare_long(&masks, log, less, 0, 0, 0, Some(false), t);
 }
 
 // `b` times b and then a up to n letters, whose first order is a and then `b` times b where b may be moved past, and itself where only a may.
-fn orders_of(n: usize, b: usize, t: Tally) -> Tally {
+fn orders_of(n: usize, b: usize, t: &mut Tally) {
     let mut letters = [0u8; 4000];
     let mut ordered = [0u8; 4000];
     put_run(&mut letters, 0, b, 1);
     put_run(&mut ordered, minus(n, b), b, 1);
     let log = part_of(&letters, 0, n);
     let first = part_of(&ordered, 0, n);
-    let both = order_long(&[2u16, 1], log, first, 0, t);
-    let past = order_long(&[0u16, 1], log, first, 0, both);
-    let stays = order_long(&[2u16, 0], log, log, 0, past);
-    same_long(log, first, stays)
+    order_long(&[2u16, 1], log, first, 0, t);
+    order_long(&[0u16, 1], log, first, 0, t);
+    order_long(&[2u16, 0], log, log, 0, t);
+    same_long(log, first, t);
 }
 
 // Lengths about 255 and up to 4,000; 4,001 letters are refused.
-fn long_orders(t: Tally) -> Tally {
+fn long_orders(t: &mut Tally) {
     let long = [0u8; 4001];
-    let inner = orders_of(257, 256, orders_of(256, 128, orders_of(255, 128, t)));
-    let longest = orders_of(4000, 2000, orders_of(3999, 300, inner));
-    order_long(&[2u16, 1], &long, b"", 7, longest)
+    orders_of(255, 128, t);
+    orders_of(256, 128, t);
+    orders_of(257, 256, t);
+    orders_of(3999, 300, t);
+    orders_of(4000, 2000, t);
+    order_long(&[2u16, 1], &long, b"", 7, t);
 }
 
 // 4,001 letters in the first log, in the second, or in both. A bad letter of the first goes before 4,001 letters of the second.
-fn long_pairs(t: Tally) -> Tally {
+fn long_pairs(t: &mut Tally) {
     let masks = [2u16, 1];
     let long = [0u8; 4001];
     let bad = b"\x00\x01\x02\x03";
-    let first = compare_long(&masks, &long, b"", 7, 0, 1, None, t);
-    let second = compare_long(&masks, b"", &long, 7, 0, 2, None, first);
-    let both = compare_long(&masks, &long, &long, 7, 0, 1, None, second);
-    let before = compare_long(&masks, bad, &long, 8, 2, 1, None, both);
-    compare_long(&masks, part_of(&long, 0, 4000), bad, 8, 2, 2, None, before)
+    compare_long(&masks, &long, b"", 7, 0, 1, None, t);
+    compare_long(&masks, b"", &long, 7, 0, 2, None, t);
+    compare_long(&masks, &long, &long, 7, 0, 1, None, t);
+    compare_long(&masks, bad, &long, 8, 2, 1, None, t);
+    compare_long(&masks, part_of(&long, 0, 4000), bad, 8, 2, 2, None, t);
 }
 
-pub fn long_logs(t: Tally) -> Tally {
-    long_pairs(long_orders(squares(lines(t))))
+pub fn long_logs(t: &mut Tally) {
+    lines(t);
+    squares(t);
+    long_orders(t);
+    long_pairs(t);
 }

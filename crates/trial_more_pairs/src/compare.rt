@@ -1,7 +1,6 @@
 // The judge on one log under two nested lists of pairs, each answer against the listing, and the two beside each other.
 use profile::{Profile, Shape};
 use trial::cells::{copy, part_of};
-use trial::tally;
 use trial::tally::{Counter, Tally};
 use trial_logs::judging::compare_judge;
 use trial_logs::listing::{earlier, list, row};
@@ -55,25 +54,25 @@ fn outcome_of(profile: &Profile, log: &[u8]) -> Outcome {
 }
 
 // The orders, where both have one.
-fn compare_orders(a: Outcome, b: Outcome, n: usize, t: Tally) -> Tally {
+fn compare_orders(a: Outcome, b: Outcome, n: usize, t: &mut Tally) {
     let old = a.order;
     let new = b.order;
     let first = part_of(&old, 0, n);
     let second = part_of(&new, 0, n);
     let both = a.good & b.good;
-    let later = tally::expect(t, Beside::Later, !(both & earlier(first, second)));
-    tally::count_if(later, Beside::Earlier, both & (first != second))
+    t.expect(Beside::Later, !(both & earlier(first, second)));
+    t.count_if(Beside::Earlier, both & (first != second));
 }
 
 // a under the pairs of one list, b under those of a list that holds them all.
-fn compare_outcomes(a: Outcome, b: Outcome, n: usize, t: Tally) -> Tally {
-    let verdicts = tally::expect(t, Beside::TurnedBad, !(a.good & !b.good));
-    let turned = tally::count_if(verdicts, Beside::TurnedGood, b.good & !a.good);
-    let orders = compare_orders(a, b, n, turned);
-    let prefixes = tally::expect(orders, Beside::FewerPrefixes, a.prefixes <= b.prefixes);
-    let looks = tally::expect(prefixes, Beside::FewerLooks, a.looks <= b.looks);
-    let grown = tally::count_if(looks, Beside::MorePrefixes, a.prefixes < b.prefixes);
-    tally::count_if(grown, Beside::MoreLooks, a.looks < b.looks)
+fn compare_outcomes(a: Outcome, b: Outcome, n: usize, t: &mut Tally) {
+    t.expect(Beside::TurnedBad, !(a.good & !b.good));
+    t.count_if(Beside::TurnedGood, b.good & !a.good);
+    compare_orders(a, b, n, t);
+    t.expect(Beside::FewerPrefixes, a.prefixes <= b.prefixes);
+    t.expect(Beside::FewerLooks, a.looks <= b.looks);
+    t.count_if(Beside::MorePrefixes, a.prefixes < b.prefixes);
+    t.count_if(Beside::MoreLooks, a.looks < b.looks);
 }
 
 // Judges a log of at most eight events under both lists, in tables that are large enough; `longer` holds every bit of `masks`.
@@ -83,8 +82,8 @@ pub fn compare_nested(
     longer: &[u16],
     moves: &[u32],
     log: &[u8],
-    t: Tally,
-) -> Tally {
+    t: &mut Tally,
+) {
     let n = log.len();
     let a = outcome_of(
         &Profile {
@@ -102,7 +101,7 @@ pub fn compare_nested(
         },
         log,
     );
-    let first = compare_judge(
+    compare_judge(
         &Profile {
             shape,
             masks,
@@ -114,7 +113,7 @@ pub fn compare_nested(
         1300,
         t,
     );
-    let second = compare_judge(
+    compare_judge(
         &Profile {
             shape,
             masks: longer,
@@ -124,12 +123,9 @@ pub fn compare_nested(
         b.prefixes,
         n,
         1400,
-        first,
+        t,
     );
-    let counted = tally::count_if(
-        tally::count(second, Beside::Nested),
-        Beside::Equal,
-        masks == longer,
-    );
-    compare_outcomes(a, b, n, counted)
+    t.count(Beside::Nested);
+    t.count_if(Beside::Equal, masks == longer);
+    compare_outcomes(a, b, n, t);
 }

@@ -8,7 +8,6 @@ use profile::{Profile, Shape};
 use trial::calls::table_part;
 use trial::cells::{Cell, byte, copy, part_of, plus, put, times};
 use trial::random::{below, put_log, seed_of};
-use trial::tally;
 use trial::tally::Tally;
 use trial_courses::answers::{make_in, profile_in};
 use trial_courses::compare::{refuse, verdict_of};
@@ -27,8 +26,8 @@ fn compare_log(
     moves: &[u32],
     log: &[u8],
     table: &mut [usize],
-    t: Tally,
-) -> Tally {
+    t: &mut Tally,
+) {
     let k = shape.k;
     let masks = [0u16; 16];
     let described = describes(Members::Letters, k, text, log, Around::Alone, table);
@@ -46,7 +45,7 @@ fn compare_log(
         Counted::DescribedRandomLogs,
         described,
         verdict,
-    )
+    );
 }
 
 // Letter i of the log is the letter typed at a random place, where some described log begins so; whether one of six did.
@@ -117,8 +116,8 @@ fn compare_near(
     moves: &[u32],
     log: &[u8],
     table: &mut [usize],
-    t: Tally,
-) -> Tally {
+    t: &mut Tally,
+) {
     let k = shape.k;
     let mut near = [0u8; 8];
     copy(log, &mut near);
@@ -127,7 +126,7 @@ fn compare_near(
         below(seed, 21, log.len()),
         byte(below(seed, 22, k)),
     );
-    compare_log(text, shape, moves, part_of(&near, 0, log.len()), table, t)
+    compare_log(text, shape, moves, part_of(&near, 0, log.len()), table, t);
 }
 
 // A log made for the text, and one near it.
@@ -137,20 +136,12 @@ fn compare_grown(
     shape: Shape,
     moves: &[u32],
     table: &mut [usize],
-    t: Tally,
-) -> Tally {
+    t: &mut Tally,
+) {
     let mut letters = [0u8; 8];
     let n = put_grown(seed, shape.k, text, below(seed, 20, 6), &mut letters, table);
-    let grown = compare_log(text, shape, moves, part_of(&letters, 0, n), table, t);
-    compare_near(
-        seed,
-        text,
-        shape,
-        moves,
-        part_of(&letters, 0, n),
-        table,
-        grown,
-    )
+    compare_log(text, shape, moves, part_of(&letters, 0, n), table, t);
+    compare_near(seed, text, shape, moves, part_of(&letters, 0, n), table, t);
 }
 
 // A log at random.
@@ -160,12 +151,12 @@ fn compare_any(
     shape: Shape,
     moves: &[u32],
     table: &mut [usize],
-    t: Tally,
-) -> Tally {
+    t: &mut Tally,
+) {
     let mut letters = [0u8; 8];
     let n = below(seed, 23, 8);
     put_log(seed, shape.k, n, &mut letters);
-    compare_log(text, shape, moves, part_of(&letters, 0, n), table, t)
+    compare_log(text, shape, moves, part_of(&letters, 0, n), table, t);
 }
 
 // The moves of a text with few letters, as the lists to ask for grow with their square; and logs.
@@ -175,69 +166,63 @@ fn compare_profile(
     shape: Shape,
     moves: &[u32],
     table: &mut [usize],
-    t: Tally,
-) -> Tally {
-    let any = compare_any(seed, text, shape, moves, table, t);
-    let grown = compare_grown(seed, text, shape, moves, table, any);
+    t: &mut Tally,
+) {
+    compare_any(seed, text, shape, moves, table, t);
+    compare_grown(seed, text, shape, moves, table, t);
     if 8 < shape.s {
-        return grown;
+        return;
     }
-    compare_moves(shape.k, text, shape, moves, table, grown)
+    compare_moves(shape.k, text, shape, moves, table, t);
 }
 
 // A right text with the letters of a profile of s states.
-fn compare_right(
-    seed: usize,
-    k: usize,
-    text: &[u8],
-    s: usize,
-    table: &mut [usize],
-    t: Tally,
-) -> Tally {
+fn compare_right(seed: usize, k: usize, text: &[u8], s: usize, table: &mut [usize], t: &mut Tally) {
     let mut numbers = [u32::GUARD; 528];
     let made = make_in(k, text, plus(times(k, s), below(seed, 30, 8)), &mut numbers);
-    let counted = tally::count(t, Counted::RandomRight);
+    t.count(Counted::RandomRight);
     let Some(shape) = profile_in(made, k, s, &numbers) else {
-        return tally::count(counted, Counted::Profile);
+        t.count(Counted::Profile);
+        return;
     };
     let moves = part_of(table_part(&numbers), 0, times(k, s));
-    compare_profile(seed, text, shape, moves, table, counted)
+    compare_profile(seed, text, shape, moves, table, t);
 }
 
-fn compare_text(seed: usize, k: usize, text: &[u8], table: &mut [usize], t: Tally) -> Tally {
-    let counted = tally::count(t, Counted::Random);
+fn compare_text(seed: usize, k: usize, text: &[u8], table: &mut [usize], t: &mut Tally) {
+    t.count(Counted::Random);
     if !is_right(k, text) {
-        return refuse(
+        refuse(
             k,
             text,
             below(seed, 31, 50),
             11,
             place_of(k, text),
             Counted::Refusal,
-            counted,
+            t,
         );
+        return;
     }
     let n = letter_count(k, text);
     if 31 < n {
-        return refuse(k, text, 0, 13, 0, Counted::Refusal, counted);
+        refuse(k, text, 0, 13, 0, Counted::Refusal, t);
+        return;
     }
-    compare_right(seed, k, text, plus(n, 1), table, counted)
+    compare_right(seed, k, text, plus(n, 1), table, t);
 }
 
 // A text over 1 to 4 letters, or 16.
-fn random_text(seed: usize, table: &mut [usize], t: Tally) -> Tally {
+fn random_text(seed: usize, table: &mut [usize], t: &mut Tally) {
     let mut text = [0u8; 64];
     let x = plus(1, below(seed, 40, 5));
     let k = if x == 5 { 16 } else { x };
     let n = put_text(seed, k, &mut text);
-    compare_text(seed, k, part_of(&text, 0, n), table, t)
+    compare_text(seed, k, part_of(&text, 0, n), table, t);
 }
 
-pub fn random_texts(seed: usize, many: usize, t: Tally) -> Tally {
+pub fn random_texts(seed: usize, many: usize, t: &mut Tally) {
     let mut table = [0usize; CELLS];
-    let mut u = t;
     for i in 0..many {
-        u = random_text(seed_of(seed, i), &mut table, u);
+        random_text(seed_of(seed, i), &mut table, t);
     }
-    u
 }

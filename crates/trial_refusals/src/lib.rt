@@ -10,7 +10,6 @@ use trial::answers::{Answer, is_refusal, is_unchanged, of_compared};
 use trial::calls::{build_in, first_order_in, judge_in, write_in};
 use trial::cells::{Cell, bit, byte, minus, part_of, plus, put};
 use trial::shapes::shape_of;
-use trial::tally;
 use trial::tally::{Call, Counted, Tally};
 
 // Variants of a damage; the first SEEN of refusal 2 are of k and the masks, which every call sees.
@@ -268,14 +267,9 @@ fn refused_right(
 }
 
 // Counts a combination of one call.
-fn close(right: bool, call: Call, number: usize, t: Tally) -> Tally {
-    tally::refused(
-        tally::count(t, Counted::Combined),
-        Counted::Refusal,
-        right,
-        call,
-        number,
-    )
+fn close(right: bool, call: Call, number: usize, t: &mut Tally) {
+    t.count(Counted::Combined);
+    t.refused(Counted::Refusal, right, call, number);
 }
 
 // The judge knows all that are refused.
@@ -285,8 +279,8 @@ fn judge_with(
     masks: &[u16],
     moves: &[u32],
     log: &[u8],
-    t: Tally,
-) -> Tally {
+    t: &mut Tally,
+) {
     let mut buffer = [u8::GUARD; 4024];
     let mut numbers = [u32::GUARD; 88];
     let shape = damaged_shape(damages, variant);
@@ -306,7 +300,7 @@ fn judge_with(
         &mut numbers,
     );
     let right = refused_right(answer, number, variant, &buffer, &numbers, size);
-    close(right, Call::Judge, number, t)
+    close(right, Call::Judge, number, t);
 }
 
 // Building has no order buffer.
@@ -316,8 +310,8 @@ fn build_with(
     masks: &[u16],
     moves: &[u32],
     log: &[u8],
-    t: Tally,
-) -> Tally {
+    t: &mut Tally,
+) {
     let buffer = [u8::GUARD; 1];
     let mut numbers = [u32::GUARD; 88];
     let shape = damaged_shape(damages, variant);
@@ -334,7 +328,7 @@ fn build_with(
         &mut numbers,
     );
     let right = refused_right(answer, number, variant, &buffer, &numbers, size);
-    close(right, Call::Build, number, t)
+    close(right, Call::Build, number, t);
 }
 
 // What the first order does not know: s, start, moves, the final set, the table.
@@ -342,7 +336,7 @@ fn known_to_order(variant: usize) -> usize {
     if variant < SEEN { 115 } else { 114 }
 }
 
-fn first_order_with(damages: usize, variant: usize, masks: &[u16], log: &[u8], t: Tally) -> Tally {
+fn first_order_with(damages: usize, variant: usize, masks: &[u16], log: &[u8], t: &mut Tally) {
     let mut buffer = [u8::GUARD; 4024];
     let numbers = [u32::GUARD; 1];
     let k = letters_of(damages, variant);
@@ -350,7 +344,7 @@ fn first_order_with(damages: usize, variant: usize, masks: &[u16], log: &[u8], t
     let number = lowest(damages, known_to_order(variant));
     let answer = first_order_in(k, masks, log, room, &mut buffer);
     let right = refused_right(answer, number, variant, &buffer, &numbers, 0);
-    close(right, Call::First, number, t)
+    close(right, Call::First, number, t);
 }
 
 // The writer has no table; its file has 58 bytes beside the log.
@@ -360,8 +354,8 @@ fn write_with(
     masks: &[u16],
     moves: &[u32],
     log: &[u8],
-    t: Tally,
-) -> Tally {
+    t: &mut Tally,
+) {
     let mut buffer = [u8::GUARD; 4080];
     let numbers = [u32::GUARD; 1];
     let shape = damaged_shape(damages, variant);
@@ -378,7 +372,7 @@ fn write_with(
         &mut buffer,
     );
     let right = refused_right(answer, number, variant, &buffer, &numbers, 0);
-    close(right, Call::Write, number, t)
+    close(right, Call::Write, number, t);
 }
 
 // The four calls on one log, with the damages of the combination in one variant.
@@ -388,15 +382,15 @@ fn combine_with(
     masks: &[u16],
     moves: &[u32],
     log: &[u8],
-    t: Tally,
-) -> Tally {
-    let judged = judge_with(damages, variant, masks, moves, log, t);
-    let built = build_with(damages, variant, masks, moves, log, judged);
-    let ordered = first_order_with(damages, variant, masks, log, built);
-    write_with(damages, variant, masks, moves, log, ordered)
+    t: &mut Tally,
+) {
+    judge_with(damages, variant, masks, moves, log, t);
+    build_with(damages, variant, masks, moves, log, t);
+    first_order_with(damages, variant, masks, log, t);
+    write_with(damages, variant, masks, moves, log, t);
 }
 
-fn combine(damages: usize, variant: usize, t: Tally) -> Tally {
+fn combine(damages: usize, variant: usize, t: &mut Tally) {
     let mut masks = [0u16; 20];
     let mut moves = [3u32; 100];
     let mut log = [0u8; 4010];
@@ -410,16 +404,14 @@ fn combine(damages: usize, variant: usize, t: Tally) -> Tally {
         part_of(&moves, 0, move_count(damages, variant)),
         part_of(&log, 0, n),
         t,
-    )
+    );
 }
 
 // All combinations in all variants: 256 × 13.
-fn combine_all(t: Tally) -> Tally {
-    let mut u = t;
+fn combine_all(t: &mut Tally) {
     for c in 0..3328 {
-        u = combine(c / VARIANTS, c % VARIANTS, u);
+        combine(c / VARIANTS, c % VARIANTS, t);
     }
-    u
 }
 
 // What `same` expects: the number, the place and the log. Bits 3 and 4 are 7 and 8 in the first log, 5 and 6 in the second.
@@ -460,7 +452,7 @@ fn same_place(number: usize, log: usize, variant: usize) -> usize {
     }
 }
 
-fn combine_same(damages: usize, variant: usize, t: Tally) -> Tally {
+fn combine_same(damages: usize, variant: usize, t: &mut Tally) {
     let mut masks = [0u16; 20];
     let mut first = [0u8; 4010];
     let mut second = [0u8; 4010];
@@ -481,18 +473,17 @@ fn combine_same(damages: usize, variant: usize, t: Tally) -> Tally {
     let number = same_number(damages);
     let log = same_log(damages);
     let right = is_refusal(answer, number, same_place(number, log, variant), log);
-    close(right, Call::Same, number, t)
+    close(right, Call::Same, number, t);
 }
 
 // 128 combinations, in the variants of 2 that `same` sees.
-fn combine_all_same(t: Tally) -> Tally {
-    let mut u = t;
+fn combine_all_same(t: &mut Tally) {
     for c in 0..768 {
-        u = combine_same(c / SEEN, c % SEEN, u);
+        combine_same(c / SEEN, c % SEEN, t);
     }
-    u
 }
 
-pub fn all_refusals(t: Tally) -> Tally {
-    combine_all_same(combine_all(t))
+pub fn all_refusals(t: &mut Tally) {
+    combine_all(t);
+    combine_all_same(t);
 }

@@ -6,7 +6,6 @@ use profile::{Profile, Shape};
 use trial::calls::NUMBERS;
 use trial::cells::{byte, plus, put, untouched};
 use trial::random::{below, seed_of};
-use trial::tally;
 use trial::tally::Tally;
 
 // A number about the edges: of P and of the records that fit for `kind` below 8, else of the events taken.
@@ -74,8 +73,8 @@ pub fn compare_damaged(
     seed: usize,
     size: usize,
     numbers: &mut [u32],
-    t: Tally,
-) -> Tally {
+    t: &mut Tally,
+) {
     let mut held = [edge(seed_of(seed, 0), size), edge(seed_of(seed, 1), size)];
     let mut place = [99u64; 1];
     let mut told = [99u64; 4];
@@ -87,5 +86,6 @@ pub fn compare_damaged(
     let right = answered(asked, first, false)
         & answered(given, second, true)
         & untouched(numbers, NUMBERS, size);
-    tally::count(tally::expect(t, Counted::Answer, right), Counted::Damaged)
+    t.expect(Counted::Answer, right);
+    t.count(Counted::Damaged);
 }

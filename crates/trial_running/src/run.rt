@@ -8,7 +8,6 @@ use trial::answers::is_verdict;
 use trial::calls::judge_in;
 use trial::cells::{byte, part_of, plus, put};
 use trial::random::{below, seed_of};
-use trial::tally;
 use trial::tally::{Counter, Tally};
 use trial_logs::prefixes::{look_count, prefix_count};
 
@@ -40,172 +39,157 @@ impl Counter for Counted {
     }
 }
 
-// The events taken, the numbers of the table, and what was compared.
+// The events taken, the record as the last call left it, and how many numbers of the table are lent.
 #[derive(Clone, Copy)]
 pub struct Run {
-    pub log: [u8; 8],
-    pub taken: usize,
-    pub size: usize,
-    pub tally: Tally,
+    log: [u8; 8],
+    taken: usize,
+    held: [u64; 2],
+    size: usize,
 }
 
-fn one_more(run: Run, which: impl Counter) -> Run {
-    let mut u = run;
-    u.tally = tally::count(run.tally, which);
-    u
+impl Run {
+    // Before the start, with numbers in the record that no call left.
+    pub fn new(size: usize) -> Self {
+        Run {
+            log: [0; 8],
+            taken: 0,
+            held: [77, 88],
+            size,
+        }
+    }
+
+    fn events(&self) -> &[u8] {
+        part_of(&self.log, 0, self.taken)
+    }
+
+    // The record has P and the number of events taken.
+    fn holds(&self, prefixes: usize) -> bool {
+        self.held == [prefixes as u64, self.taken as u64]
+    }
+
+    // The record and the table are those of the events taken, of which the listing has as many prefixes as there are sets that keep the rule.
+    fn compare_left(&self, profile: &Profile, numbers: &[u32], t: &mut Tally) {
+        let mut sets = [0usize; 256];
+        let log = self.events();
+        let many = put_arrivals(profile.masks, log, &mut sets);
+        let right = self.holds(many) & table_right(profile, log, numbers, &sets, many);
+        t.expect(Counted::Table, right);
+        t.count_many(Counted::Records, many);
+        t.expect(Counted::Listing, many == prefix_count(profile.masks, log));
+    }
+
+    // The judge for the list of events taken.
+    fn compare_judge(&self, profile: &Profile, t: &mut Tally) {
+        let mut buffer = [0u8; 32];
+        let mut work = [0u32; 1416];
+        let log = self.events();
+        let answer = judge_in(profile, log, 8, 1400, &mut buffer, &mut work);
+        let verdict = accepted(profile, log);
+        let many = prefix_count(profile.masks, log);
+        t.expect(
+            Counted::Judge,
+            is_verdict(answer, verdict, many, look_count(profile.masks, log)),
+        );
+    }
+
+    fn ask(&self, profile: &Profile, numbers: &[u32], t: &mut Tally) {
+        let mut told = [99u64; 4];
+        let log = self.events();
+        let verdict = accepted(profile, log);
+        let many = prefix_count(profile.masks, log);
+        let number = question_in(profile, &self.held, self.size, numbers, &mut told);
+        let right = (number == Some(0))
+            & (told == [0, verdict as u64, many as u64, self.taken as u64]);
+        t.expect(Counted::Question, right);
+        t.count(Counted::Questions);
+        t.count_if(Counted::Accepted, verdict);
+    }
+
+    // An event that is taken stays in the log.
+    fn give(&mut self, profile: &Profile, letter: u8, numbers: &mut [u32], t: &mut Tally) {
+        let mut told = [99u64; 1];
+        let taken = self.taken;
+        put(&mut self.log, taken, letter);
+        let longer = plus(taken, 1);
+        let many = prefix_count(profile.masks, part_of(&self.log, 0, longer));
+        let refused = refusal_of(profile.shape, letter, many, self.size);
+        let place = if refused == Some(8) { taken as u64 } else { 0 };
+        let number = event_in(
+            profile,
+            letter,
+            &mut self.held,
+            self.size,
+            numbers,
+            &mut told,
+        );
+        if refused.is_none() {
+            self.taken = longer;
+        }
+        count_event(refused, t);
+        t.expect(
+            Counted::Event,
+            (number == Some(refused.unwrap_or(0))) & (told == [place]),
+        );
+        self.compare_judge(profile, t);
+    }
+
+    // Event or question i; after six events taken, or five of many letters, there are only questions.
+    fn call(&mut self, profile: &Profile, seed: usize, numbers: &mut [u32], t: &mut Tally) {
+        let most = if profile.shape.k < 4 { 6 } else { 5 };
+        let kind = below(seed, 0, 8);
+        if (kind < 2) | (most <= self.taken) {
+            self.ask(profile, numbers, t);
+        } else {
+            self.give(profile, letter_of(profile.shape, seed, kind), numbers, t);
+        }
+        self.compare_left(profile, numbers, t);
+    }
+
+    // A start, then `many` calls.
+    pub fn compare(
+        &mut self,
+        profile: &Profile,
+        seed: usize,
+        many: usize,
+        numbers: &mut [u32],
+        t: &mut Tally,
+    ) {
+        let mut told = [99u64; 1];
+        let number = start_in(profile, &mut self.held, self.size, numbers, &mut told);
+        if room(self.size) < 1 {
+            let right = (number == Some(10)) & (told == [0]) & (self.held == [77, 88]);
+            t.expect(Counted::Start, right);
+            t.count(Counted::RefusedStarts);
+            return;
+        }
+        t.expect(Counted::Start, (number == Some(0)) & (told == [0]));
+        self.compare_left(profile, numbers, t);
+        for i in 0..many {
+            self.call(profile, seed_of(seed, i), numbers, t);
+        }
+    }
 }
 
-fn expected(run: Run, group: impl Counter, right: bool) -> Run {
-    let mut u = run;
-    u.tally = tally::expect(run.tally, group, right);
-    u
-}
-
-// The record has P and the number of events taken.
-fn holds(held: &[u64; 2], prefixes: usize, taken: usize) -> bool {
-    (held[0] == (prefixes as u64)) & (held[1] == (taken as u64))
-}
-
-// The record and the table are those of the events taken, of which the listing has as many prefixes as there are sets that keep the rule.
-fn compare_left(profile: &Profile, held: &[u64; 2], numbers: &[u32], run: Run) -> Run {
-    let mut sets = [0usize; 256];
-    let letters = run.log;
-    let log = part_of(&letters, 0, run.taken);
-    let many = put_arrivals(profile.masks, log, &mut sets);
-    let right = holds(held, many, run.taken) & table_right(profile, log, numbers, &sets, many);
-    let mut u = expected(run, Counted::Table, right);
-    u.tally = tally::count_many(u.tally, Counted::Records, many);
-    expected(
-        u,
-        Counted::Listing,
-        many == prefix_count(profile.masks, log),
-    )
-}
-
-// The judge for the list of events taken.
-fn compare_judge(profile: &Profile, run: Run) -> Run {
-    let mut buffer = [0u8; 32];
-    let mut work = [0u32; 1416];
-    let letters = run.log;
-    let log = part_of(&letters, 0, run.taken);
-    let answer = judge_in(profile, log, 8, 1400, &mut buffer, &mut work);
-    let verdict = accepted(profile, log);
-    let many = prefix_count(profile.masks, log);
-    expected(
-        run,
-        Counted::Judge,
-        is_verdict(answer, verdict, many, look_count(profile.masks, log)),
-    )
-}
-
-fn ask(profile: &Profile, held: &[u64; 2], numbers: &[u32], run: Run) -> Run {
-    let mut told = [99u64; 4];
-    let letters = run.log;
-    let log = part_of(&letters, 0, run.taken);
-    let verdict = accepted(profile, log);
-    let number = question_in(profile, held, run.size, numbers, &mut told);
-    let right = (number == Some(0))
-        & (told[0] == 0)
-        & (told[1] == (verdict as u64))
-        & (told[2] == (prefix_count(profile.masks, log) as u64))
-        & (told[3] == (run.taken as u64));
-    let mut u = one_more(expected(run, Counted::Question, right), Counted::Questions);
-    u.tally = tally::count_if(u.tally, Counted::Accepted, verdict);
-    u
-}
-
-// What refuses an event that leaves `many` prefixes: 8, 10 or nothing.
-fn refusal_of(shape: Shape, letter: u8, many: usize, size: usize) -> u32 {
+// What refuses an event that leaves `many` prefixes: 8 or 10.
+fn refusal_of(shape: Shape, letter: u8, many: usize, size: usize) -> Option<u32> {
     if shape.k <= letter as usize {
-        return 8;
+        return Some(8);
     }
-    if room(size) < many { 10 } else { 0 }
+    if room(size) < many { Some(10) } else { None }
 }
 
-// Counts an event by what is to be said of it; one that is taken stays in the log.
-fn noted(run: Run, after: Run, number: u32) -> Run {
-    if number == 8 {
-        return one_more(run, Counted::BadLetters);
+// Counts an event by what is to be said of it.
+fn count_event(refused: Option<u32>, t: &mut Tally) {
+    match refused {
+        Some(8) => t.count(Counted::BadLetters),
+        Some(_) => t.count(Counted::FullTables),
+        None => t.count(Counted::Events),
     }
-    if number == 10 {
-        return one_more(run, Counted::FullTables);
-    }
-    one_more(after, Counted::Events)
 }
 
-// The run with the letter behind its events.
-fn with_letter(run: Run, letter: u8) -> Run {
-    let mut u = run;
-    let mut log = run.log;
-    put(&mut log, run.taken, letter);
-    u.log = log;
-    u.taken = plus(run.taken, 1);
-    u
-}
-
-fn give(profile: &Profile, letter: u8, held: &mut [u64; 2], numbers: &mut [u32], run: Run) -> Run {
-    let mut told = [99u64; 1];
-    let after = with_letter(run, letter);
-    let letters = after.log;
-    let many = prefix_count(profile.masks, part_of(&letters, 0, after.taken));
-    let refused = refusal_of(profile.shape, letter, many, run.size);
-    let place = if refused == 8 { run.taken as u64 } else { 0u64 };
-    let number = event_in(profile, letter, held, run.size, numbers, &mut told);
-    let right = (number == Some(refused)) & (told[0] == place);
-    let u = expected(noted(run, after, refused), Counted::Event, right);
-    compare_judge(profile, u)
-}
-
-// Event or question i; after six events taken, or five of many letters, there are only questions.
-fn call(profile: &Profile, seed: usize, held: &mut [u64; 2], numbers: &mut [u32], run: Run) -> Run {
-    let most = if profile.shape.k < 4 { 6 } else { 5 };
-    let kind = below(seed, 0, 8);
-    if (kind < 2) | (most <= run.taken) {
-        let u = ask(profile, held, numbers, run);
-        return compare_left(profile, held, numbers, u);
-    }
-    let good = below(seed, 1, profile.shape.k);
-    let letter = if kind == 2 {
-        plus(profile.shape.k, good)
-    } else {
-        good
-    };
-    let u = give(profile, byte(letter), held, numbers, run);
-    compare_left(profile, held, numbers, u)
-}
-
-// Calls on what a start left.
-fn compare_calls(
-    profile: &Profile,
-    seed: usize,
-    many: usize,
-    held: &mut [u64; 2],
-    numbers: &mut [u32],
-    run: Run,
-) -> Run {
-    let mut u = run;
-    for i in 0..many {
-        u = call(profile, seed_of(seed, i), held, numbers, u);
-    }
-    u
-}
-
-// A start in a table of `size` numbers, then `many` calls.
-pub fn compare_run(
-    profile: &Profile,
-    seed: usize,
-    many: usize,
-    numbers: &mut [u32],
-    run: Run,
-) -> Run {
-    let mut held = [77u64, 88u64];
-    let mut told = [99u64; 1];
-    let number = start_in(profile, &mut held, run.size, numbers, &mut told);
-    if room(run.size) < 1 {
-        let right = (number == Some(10)) & (told[0] == 0) & holds(&held, 77, 88);
-        return one_more(expected(run, Counted::Start, right), Counted::RefusedStarts);
-    }
-    let begun = expected(run, Counted::Start, (number == Some(0)) & (told[0] == 0));
-    let left = compare_left(profile, &held, numbers, begun);
-    compare_calls(profile, seed, many, &mut held, numbers, left)
+// A letter of the profile, but for one kind, where it is bad.
+fn letter_of(shape: Shape, seed: usize, kind: usize) -> u8 {
+    let good = below(seed, 1, shape.k);
+    byte(if kind == 2 { plus(shape.k, good) } else { good })
 }

@@ -6,7 +6,6 @@ use profile::{Calendar, Profile, Shape};
 use trial::answers::{Answer, is_refusal, is_unchanged};
 use trial::cells::{Cell, bit, byte, minus, part_of, plus, put};
 use trial::shapes::shape_of;
-use trial::tally;
 use trial::tally::Tally;
 use trial_terms::lent::judge_terms_in;
 use trial_terms::met::{ByDamage, Met};
@@ -269,7 +268,7 @@ fn refused_right(
         & (number == 0 || is_unchanged(number, buffer, numbers, size))
 }
 
-fn judge_with(damages: usize, variant: usize, log: &[u8], calendar: &Calendar, t: Tally) -> Tally {
+fn judge_with(damages: usize, variant: usize, log: &[u8], calendar: &Calendar, t: &mut Tally) {
     let mut buffer = [u8::GUARD; 4024];
     let mut numbers = [u32::GUARD; 88];
     let masks = [first_mask(damages, variant), 5, 2];
@@ -292,11 +291,12 @@ fn judge_with(damages: usize, variant: usize, log: &[u8], calendar: &Calendar, t
         &mut numbers,
     );
     let right = refused_right(answer, number, variant, &buffer, &numbers, size);
-    let counted = tally::count(tally::expect(t, Met::Refusal, right), Met::Combined);
-    tally::count(counted, ByDamage(first))
+    t.expect(Met::Refusal, right);
+    t.count(Met::Combined);
+    t.count(ByDamage(first));
 }
 
-fn combine(damages: usize, variant: usize, t: Tally) -> Tally {
+fn combine(damages: usize, variant: usize, t: &mut Tally) {
     let mut log = [0u8; 4004];
     let mut days = [20260901u32; 4004];
     let mut terms = [20260901u32; 26];
@@ -312,14 +312,12 @@ fn combine(damages: usize, variant: usize, t: Tally) -> Tally {
             terms: part_of(&terms, 0, term_numbers(damages, variant)),
         },
         t,
-    )
+    );
 }
 
 // All combinations in all variants: 1,024 × 12.
-pub fn combine_all(t: Tally) -> Tally {
-    let mut u = t;
+pub fn combine_all(t: &mut Tally) {
     for c in 0..12288 {
-        u = combine(c / VARIANTS, c % VARIANTS, u);
+        combine(c / VARIANTS, c % VARIANTS, t);
     }
-    u
 }

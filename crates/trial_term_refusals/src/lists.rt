@@ -3,7 +3,6 @@ use crate::numbers::refused_or_not;
 use profile::Calendar;
 use trial::cells::{minus, part_of, plus, put, value_at, wide};
 use trial::random::{below, seed_of};
-use trial::tally;
 use trial::tally::Tally;
 use trial_terms::calendar::later;
 use trial_terms::dated::{put_days, put_terms};
@@ -39,7 +38,7 @@ fn length_of(seed: usize, many: usize) -> usize {
 }
 
 // A list against the rules, by a call with an empty log.
-fn try_list(terms: &[u32], t: Tally) -> Tally {
+fn try_list(terms: &[u32], t: &mut Tally) {
     let nothing = [0u8; 0];
     let no_days = [0u32; 0];
     let right = terms_right(terms);
@@ -52,41 +51,38 @@ fn try_list(terms: &[u32], t: Tally) -> Tally {
         &nothing,
         number,
     );
-    let counted = tally::count(tally::expect(t, Met::List, agrees), Met::Lists);
+    t.expect(Met::List, agrees);
+    t.count(Met::Lists);
     if right {
-        tally::count(counted, Met::RightLists)
-    } else {
-        counted
+        t.count(Met::RightLists);
     }
 }
 
 // Thirteen terms by the rules, of which a beginning is tried, and then the same with one number changed.
-fn one_list(seed: usize, t: Tally) -> Tally {
+fn one_list(seed: usize, t: &mut Tally) {
     let mut terms = [0u32; 27];
     put_terms(seed, 13, &mut terms);
     let n = length_of(seed, plus(1, below(seed, 5, 12)));
-    let begun = try_list(part_of(&terms, 0, n), t);
+    try_list(part_of(&terms, 0, n), t);
     let i = below(seed, 1, n);
     let day = changed(seed, n, &terms, i);
     put(&mut terms, i, day);
-    try_list(part_of(&terms, 0, n), begun)
+    try_list(part_of(&terms, 0, n), t);
 }
 
 // All days but one are in terms, or all are: 16 or no refusal.
-fn try_outside(terms: &[u32], days: &[u32], day: u32, t: Tally) -> Tally {
+fn try_outside(terms: &[u32], days: &[u32], day: u32, t: &mut Tally) {
     let log = [0u8; 3];
     let number = if term_of(terms, day).is_none() { 16 } else { 0 };
     let agrees = refused_or_not(&Calendar { days, terms }, &log, number);
-    let counted = tally::expect(t, Met::OutsideWrong, agrees);
+    t.expect(Met::OutsideWrong, agrees);
     if number == 16 {
-        tally::count(counted, Met::Outside)
-    } else {
-        counted
+        t.count(Met::Outside);
     }
 }
 
 // A day about the ends of a term, in the place of one of three.
-fn one_outside(seed: usize, t: Tally) -> Tally {
+fn one_outside(seed: usize, t: &mut Tally) {
     let mut terms = [0u32; 24];
     let mut days = [0u32; 3];
     let many = plus(1, below(seed, 0, 12));
@@ -95,11 +91,11 @@ fn one_outside(seed: usize, t: Tally) -> Tally {
     let n = plus(many, many);
     let day = later(value_at(&terms, below(seed, 6, n)), below(seed, 7, 3));
     put(&mut days, below(seed, 8, 3), day);
-    try_outside(part_of(&terms, 0, n), &days, day, t)
+    try_outside(part_of(&terms, 0, n), &days, day, t);
 }
 
 // As many days as `given` and a log of `n` events, in one term that has them all.
-fn try_lengths(given: usize, n: usize, t: Tally) -> Tally {
+fn try_lengths(given: usize, n: usize, t: &mut Tally) {
     let days = [20260901u32; 4];
     let all = [20260901u32, 20260901];
     let log = [0u8; 4];
@@ -112,22 +108,21 @@ fn try_lengths(given: usize, n: usize, t: Tally) -> Tally {
         part_of(&log, 0, n),
         number,
     );
-    tally::count(tally::expect(t, Met::OutsideWrong, agrees), Met::NotAsMany)
+    t.expect(Met::OutsideWrong, agrees);
+    t.count(Met::NotAsMany);
 }
 
-fn all_lengths(t: Tally) -> Tally {
-    let mut u = t;
+fn all_lengths(t: &mut Tally) {
     for i in 0..16 {
-        u = try_lengths(i / 4, i % 4, u);
+        try_lengths(i / 4, i % 4, t);
     }
-    u
 }
 
 // Lists of terms and days about their ends, `many` of each.
-pub fn all_lists(seed: usize, many: usize, t: Tally) -> Tally {
-    let mut u = t;
+pub fn all_lists(seed: usize, many: usize, t: &mut Tally) {
     for i in 0..many {
-        u = one_outside(seed_of(seed, i), one_list(seed_of(seed, i), u));
+        one_list(seed_of(seed, i), t);
+        one_outside(seed_of(seed, i), t);
     }
-    all_lengths(u)
+    all_lengths(t);
 }

@@ -4,7 +4,6 @@ use trial::answers::{is_refusal, is_unchanged, is_verdict};
 use trial::cells::{Cell, plus};
 use trial::random::seed_of;
 use trial::shapes::shape_of;
-use trial::tally;
 use trial::tally::Tally;
 use trial_terms::calendar::{day_number, is_date, is_day};
 use trial_terms::lent::judge_terms_in;
@@ -42,7 +41,7 @@ pub fn refused_or_not(calendar: &Calendar, log: &[u8], number: usize) -> bool {
 }
 
 // The number as a day and as a term of that day alone; it is a date or not.
-fn try_number(number: u32, right: bool, t: Tally) -> Tally {
+fn try_number(number: u32, right: bool, t: &mut Tally) {
     let log = [0u8; 1];
     let nothing = [0u8; 0];
     let no_days = [0u32; 0];
@@ -66,50 +65,43 @@ fn try_number(number: u32, right: bool, t: Tally) -> Tally {
         &nothing,
         by_term,
     );
-    let counted = tally::count(tally::expect(t, Met::Day, agrees), Met::Days);
+    t.expect(Met::Day, agrees);
+    t.count(Met::Days);
     if right {
-        tally::count(counted, Met::Dates)
-    } else {
-        counted
+        t.count(Met::Dates);
     }
 }
 
-fn try_month(y: usize, m: usize, t: Tally) -> Tally {
-    let mut u = t;
+fn try_month(y: usize, m: usize, t: &mut Tally) {
     for d in 0..34 {
-        u = try_number(day_number(y, m, d), is_date(y, m, d), u);
+        try_number(day_number(y, m, d), is_date(y, m, d), t);
     }
-    u
 }
 
-fn try_year(y: usize, t: Tally) -> Tally {
-    let mut u = t;
+fn try_year(y: usize, t: &mut Tally) {
     for m in 0..15 {
-        u = try_month(y, m, u);
+        try_month(y, m, t);
     }
-    u
 }
 
 // Every month 0 to 14 and day 0 to 33 of the years 1897 to 2202.
-fn try_years(t: Tally) -> Tally {
-    let mut u = t;
+fn try_years(t: &mut Tally) {
     for y in 1897..2203 {
-        u = try_year(y, u);
+        try_year(y, t);
     }
-    u
 }
 
 // Numbers of 32 bits of any size.
-fn try_any(many: usize, t: Tally) -> Tally {
-    let mut u = t;
+fn try_any(many: usize, t: &mut Tally) {
     for i in 0..many {
         let number = (seed_of(8, i) % 4294967296) as u32;
-        u = try_number(number, is_day(number), u);
+        try_number(number, is_day(number), t);
     }
-    u
 }
 
-pub fn all_numbers(t: Tally) -> Tally {
-    let edges = try_number(4294967295, false, try_number(0, false, t));
-    try_any(1000, try_years(edges))
+pub fn all_numbers(t: &mut Tally) {
+    try_number(0, false, t);
+    try_number(4294967295, false, t);
+    try_years(t);
+    try_any(1000, t);
 }

@@ -7,7 +7,6 @@ use trial::answers::{is_refusal, is_unchanged, is_verdict};
 use trial::calls::{BYTES, NUMBERS, judge_in, table_part};
 use trial::cells::{Cell, copy, holds, minus, part_of, plus, untouched, wide};
 use trial::record_numbers::{BACKWARD, FORWARD, record_at, set_of, total_of};
-use trial::tally;
 use trial::tally::Tally;
 use trial_logs::listing::{list, one_way, row};
 use trial_logs::paths::{backward, earliest_accepted, forward};
@@ -198,15 +197,12 @@ fn expect_log(shape: Shape, event_masks: &[u16], moves: &[u32], log: &[u8]) -> E
 }
 
 // Counts a judged log; a listing that did not fit has no rows and is wrong.
-fn count_judged(t: Tally, right: bool, expected: Expected) -> Tally {
-    let judged = tally::expect(
-        tally::count(t, Met::Logs),
-        Met::Judge,
-        right & (0 < expected.count),
-    );
-    let accepted = tally::count_if(judged, Met::Accepted, expected.verdict);
-    let listed = tally::count_many(accepted, Met::Reachable, expected.count);
-    tally::count_many(listed, Met::Records, expected.prefixes)
+fn count_judged(t: &mut Tally, right: bool, expected: Expected) {
+    t.count(Met::Logs);
+    t.expect(Met::Judge, right & (0 < expected.count));
+    t.count_if(Met::Accepted, expected.verdict);
+    t.count_many(Met::Reachable, expected.count);
+    t.count_many(Met::Records, expected.prefixes);
 }
 
 // Judges a log into an order buffer of `room` bytes and a table of `size` numbers, which are enough.
@@ -217,8 +213,8 @@ fn compare_judge(
     event_masks: &[u16],
     expected: Expected,
     extra: usize,
-    t: Tally,
-) -> Tally {
+    t: &mut Tally,
+) {
     let mut buffer = [u8::GUARD; 32];
     let mut numbers = [u32::GUARD; 1416];
     let size = plus(record_at(expected.prefixes), extra % 21);
@@ -241,7 +237,7 @@ fn compare_judge(
             &numbers,
             expected.prefixes,
         );
-    count_judged(t, right, expected)
+    count_judged(t, right, expected);
 }
 
 // Judges a log with buffers of which one is too short: refused by the number, which is 9 or 10.
@@ -252,8 +248,8 @@ fn refuse(
     number: usize,
     room: usize,
     size: usize,
-    t: Tally,
-) -> Tally {
+    t: &mut Tally,
+) {
     let mut buffer = [u8::GUARD; 32];
     let mut numbers = [u32::GUARD; 1416];
     let answer = judge_terms_in(
@@ -271,7 +267,8 @@ fn refuse(
     } else {
         Met::ShortTables
     };
-    tally::count(tally::expect(t, Met::Buffer, right), which)
+    t.expect(Met::Buffer, right);
+    t.count(which);
 }
 
 // An order buffer that is one byte short, also where the table is too short; a table that is short by up to eleven numbers.
@@ -281,16 +278,16 @@ fn compare_short(
     calendar: &Calendar,
     prefixes: usize,
     extra: usize,
-    t: Tally,
-) -> Tally {
+    t: &mut Tally,
+) {
     let n = log.len();
     let short = minus(record_at(prefixes), plus(extra % 11, 1));
-    let full = refuse(profile, log, calendar, 10, n, short, t);
+    refuse(profile, log, calendar, 10, n, short, t);
     if n == 0 {
-        return full;
+        return;
     }
     let size = if extra % 2 == 0 { short } else { 1300 };
-    refuse(profile, log, calendar, 9, n - 1, size, full)
+    refuse(profile, log, calendar, 9, n - 1, size, t);
 }
 
 // Counts what the log is: what the judge without terms says of it is compared in `trial_logs`.
@@ -299,24 +296,21 @@ fn count_kind(
     log: &[u8],
     calendar: &Calendar,
     expected: Expected,
-    t: Tally,
-) -> Tally {
+    t: &mut Tally,
+) {
     let mut buffer = [u8::GUARD; 32];
     let mut numbers = [u32::GUARD; 1416];
     let plain = judge_in(profile, log, 8, 1400, &mut buffer, &mut numbers);
-    let way = tally::count_if(t, Met::OneWay, one_way(profile.masks));
-    let turns = tally::count_if(way, Met::Turns, some_turn(calendar));
-    let falls = tally::count_if(turns, Met::Falls, some_fall(calendar.days));
+    t.count_if(Met::OneWay, one_way(profile.masks));
+    t.count_if(Met::Turns, some_turn(calendar));
+    t.count_if(Met::Falls, some_fall(calendar.days));
     let Some(Ok(told)) = plain else {
-        return tally::count(falls, Met::Judge);
+        t.count(Met::Judge);
+        return;
     };
-    let fewer = tally::count_if(falls, Met::Fewer, expected.prefixes < told.prefixes);
-    let other = tally::count_if(
-        fewer,
-        Met::OtherVerdict,
-        told.verdict != Some(expected.verdict),
-    );
-    tally::count_if(other, Met::Twelve, calendar.terms.len() == 24)
+    t.count_if(Met::Fewer, expected.prefixes < told.prefixes);
+    t.count_if(Met::OtherVerdict, told.verdict != Some(expected.verdict));
+    t.count_if(Met::Twelve, calendar.terms.len() == 24);
 }
 
 // Compares the judge with terms on one log; `extra` varies how much longer or shorter than needed the lent buffers are.
@@ -325,25 +319,19 @@ pub fn compare_dated(
     log: &[u8],
     calendar: &Calendar,
     extra: usize,
-    t: Tally,
-) -> Tally {
+    t: &mut Tally,
+) {
     let mut masks_of_events = [0u16; 8];
     put_event_masks(profile.masks, log, calendar, &mut masks_of_events);
     let event_masks = part_of(&masks_of_events, 0, log.len());
     let expected = expect_log(profile.shape, event_masks, profile.moves, log);
-    let judged = compare_judge(profile, log, calendar, event_masks, expected, extra, t);
-    let short = compare_short(profile, log, calendar, expected.prefixes, extra, judged);
-    count_kind(profile, log, calendar, expected, short)
+    compare_judge(profile, log, calendar, event_masks, expected, extra, t);
+    compare_short(profile, log, calendar, expected.prefixes, extra, t);
+    count_kind(profile, log, calendar, expected, t);
 }
 
 // One term that has every day there is: the judge without terms gives the same answer, order and table, byte by byte, with a table of `size` numbers.
-pub fn compare_one_term(
-    profile: &Profile,
-    log: &[u8],
-    days: &[u32],
-    size: usize,
-    t: Tally,
-) -> Tally {
+pub fn compare_one_term(profile: &Profile, log: &[u8], days: &[u32], size: usize, t: &mut Tally) {
     let mut buffer = [u8::GUARD; 32];
     let mut numbers = [u32::GUARD; 1416];
     let mut plain_buffer = [u8::GUARD; 32];
@@ -363,5 +351,6 @@ pub fn compare_one_term(
         & (with == plain)
         & (buffer == plain_buffer)
         & (numbers == plain_numbers);
-    tally::count(tally::expect(t, Met::SameAsJudge, right), Met::OneTerm)
+    t.expect(Met::SameAsJudge, right);
+    t.count(Met::OneTerm);
 }

@@ -6,7 +6,6 @@ use trial::answers::{Answer, is_refusal, is_verdict, verdict_of};
 use trial::calls::{BYTES, NUMBERS, judge_in, table_part};
 use trial::cells::{Cell, holds, part_of, plus, untouched, value_at, wide};
 use trial::record_numbers::{BACKWARD, FORWARD, RECORD, record_at, set_of, total_of};
-use trial::tally;
 use trial::tally::{Counter, Tally};
 use trial_logs::place_keys::{key_of, place_of, put_keys};
 use trial_logs::prefixes::{closed, look_count, marks_of, prefix_count};
@@ -161,25 +160,23 @@ fn compare_answer(
     answer: Answer,
     buffer: &[u8],
     numbers: &[u32],
-    t: Tally,
-) -> Tally {
+    t: &mut Tally,
+) {
     let all = class_of(masks, seen, 255, true);
     let rows = all.rows;
     let best = earliest_shown(view, moves, &rows, all.count, all.n);
     let letters = best.letters;
     let prefixes = prefix_count(masks, seen);
     let order = part_of(&letters, 0, seen.len());
-    let told = tally::expect(
-        t,
+    t.expect(
         Counted::Answer,
         answer_right(masks, seen, best.found, order, answer, buffer),
     );
-    let filled = tally::expect(
-        told,
+    t.expect(
         Counted::Table,
         table_right(view, masks, moves, seen, numbers, prefixes),
     );
-    let counted = tally::count_many(filled, Counted::Records, prefixes);
+    t.count_many(Counted::Records, prefixes);
     let other = judged(
         &Profile {
             shape: view.shape,
@@ -188,11 +185,8 @@ fn compare_answer(
         },
         seen,
     ) != Some(best.found);
-    tally::count_if(
-        tally::count_if(counted, Counted::Accepted, best.found),
-        Counted::NotSoJudged,
-        other,
-    )
+    t.count_if(Counted::Accepted, best.found);
+    t.count_if(Counted::NotSoJudged, other);
 }
 
 // Each number from `from` on is 0, n of them.
@@ -214,8 +208,8 @@ pub fn compare_view(
     log: &[u8],
     room: usize,
     size: usize,
-    t: Tally,
-) -> Tally {
+    t: &mut Tally,
+) {
     let mut part = [0u8; 8];
     let mut buffer = [u8::GUARD; 32];
     let mut numbers = [u32::GUARD; 1416];
@@ -232,22 +226,23 @@ pub fn compare_view(
         &mut buffer,
         &mut numbers,
     );
-    let u = tally::count_if(
-        tally::count(t, Counted::Views),
-        Counted::Hiding,
-        n != log.len(),
-    );
+    t.count(Counted::Views);
+    t.count_if(Counted::Hiding, n != log.len());
     if room < n {
         let right = is_refusal(answer, 9, 0, 0)
             & untouched(&buffer, 0, 0)
             & untouched(&numbers, 0, 0);
-        return tally::count(tally::expect(u, Counted::Refusal, right), Counted::Short);
+        t.expect(Counted::Refusal, right);
+        t.count(Counted::Short);
+        return;
     }
     if size < record_at(prefix_count(masks, seen)) {
         let right = is_refusal(answer, 10, 0, 0) & is_cleared(&buffer, &numbers, size);
-        return tally::count(tally::expect(u, Counted::Refusal, right), Counted::Full);
+        t.expect(Counted::Refusal, right);
+        t.count(Counted::Full);
+        return;
     }
-    compare_answer(view, masks, moves, seen, answer, &buffer, &numbers, u)
+    compare_answer(view, masks, moves, seen, answer, &buffer, &numbers, t);
 }
 
 // Two logs with the same visible part, lent the same buffers: equal answers and equal buffers, refused or not.
@@ -259,8 +254,8 @@ pub fn compare_secret(
     other: &[u8],
     room: usize,
     size: usize,
-    t: Tally,
-) -> Tally {
+    t: &mut Tally,
+) {
     let mut first = [u8::GUARD; 32];
     let mut second = [u8::GUARD; 32];
     let mut numbers = [u32::GUARD; 1416];
@@ -289,11 +284,12 @@ pub fn compare_secret(
         &mut others,
     );
     let right = one.is_some() & (one == two) & (first == second) & (numbers == others);
-    tally::count(tally::expect(t, Counted::Secret, right), Counted::Secrets)
+    t.expect(Counted::Secret, right);
+    t.count(Counted::Secrets);
 }
 
 // With all letters visible: the judge's answer, order and table.
-pub fn compare_judge(profile: &Profile, log: &[u8], visible: u32, room: usize, t: Tally) -> Tally {
+pub fn compare_judge(profile: &Profile, log: &[u8], visible: u32, room: usize, t: &mut Tally) {
     let mut first = [u8::GUARD; 32];
     let mut second = [u8::GUARD; 32];
     let mut numbers = [u32::GUARD; 1416];
@@ -311,5 +307,6 @@ pub fn compare_judge(profile: &Profile, log: &[u8], visible: u32, room: usize, t
     );
     let two = judge_in(profile, log, room, 1400, &mut second, &mut others);
     let right = one.is_some() & (one == two) & (first == second) & (numbers == others);
-    tally::count(tally::expect(t, Counted::Judge, right), Counted::Judges)
+    t.expect(Counted::Judge, right);
+    t.count(Counted::Judges);
 }
