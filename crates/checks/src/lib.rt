@@ -59,15 +59,7 @@ pub fn set_from(set: u32, n: usize) -> bool
 fn mask_refused(k: usize, masks: &[u16]) -> bool
     ensures { result ≡ mask_bit k masks.now }
 {
-    for (i, mask) in masks.iter().enumerate() {
-        if set_from(*mask as u32, k) {
-            return true;
-        }
-        if commutation::independent(masks, i, i) {
-            return true;
-        }
-    }
-    false
+    (0..masks.len()).any(|i| set_from(masks[i] as u32, k) || commutation::independent(masks, i, i))
 }
 
 // A move with a bit from s on.

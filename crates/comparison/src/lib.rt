@@ -28,12 +28,9 @@ fn is_kept(a: u8, x: usize, y: usize) -> bool
 fn next_kept(log: &[u8], from: usize, x: usize, y: usize) -> usize
     ensures { result ≡ from + first_place (λ a. eqb a x || eqb a y) (drop from log.now) }
 {
-    for i in from..log.len() {
-        if is_kept(log[i], x, y) {
-            return i;
-        }
-    }
-    from.max(log.len())
+    let rest = &log[from.min(log.len())..];
+    let skipped = rest.iter().position(|a| is_kept(*a, x, y));
+    from + skipped.unwrap_or(rest.len())
 }
 
 // The two logs are equal where only the letters x and y are kept.

@@ -1,8 +1,6 @@
 -- Numbers written in bytes, low byte first.
 use mathlib.Core.Path.{◌≡◌, refl, ◌∙◌, ap}
-use mathlib.Core.List.{◌∷◌, ◌++◌}
-use Prim.Native.Nat.{ℕ, zero, suc, ◌+◌, ◌*◌, ◌/◌, ◌%◌, ◌^◌, ◌<◌}
-use native.Mathlib.Nat.{div-div-eq-div-mul}
+use Prim.Native.Nat.{ℕ, zero, suc, ◌+◌, ◌*◌, ◌/◌, ◌^◌, ◌<◌}
 use native.Mathlib.Omega.{arith}
 use lib.ListN.{length}
 use lib.Pow.{pow-add}
@@ -14,9 +12,6 @@ use Rattle.filewriter.specs.Written.{low_bytes}
 pub low_length : (b n : ℕ) → length (low_bytes b n) ≡ b
 low_length zero n = refl
 low_length (suc b) n = ap suc (low_length b (n / 256))
-
-pub low_four : (n : ℕ) → low_bytes 4 n ≡ low_bytes 2 n ++ low_bytes 2 (n / 65536)
-low_four n = ap (λ m. n % 256 ∷ n / 256 % 256 ∷ low_bytes 2 m) (div-div-eq-div-mul n 256 256)
 
 -- a number below 256 ^ b is read from its b bytes
 pub pack_low : (b n : ℕ) → n < 2 ^ (8 * b) → pack 8 (low_bytes b n) ≡ n

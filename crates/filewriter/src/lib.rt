@@ -1,87 +1,81 @@
 // The file writer: masks, moves, log and trailer, without gaps.
 #![tactic(auto)]
 
-ghost use Rattle.std.specs.Prelude.{◌≡◌, ◌+◌, ◌*◌, ◌≤◌, ◌<◌, length};
+ghost use Rattle.std.specs.Prelude.{◌≡◌, ℕ, List, ◌+◌, ◌≤◌, ◌<◌, length};
 ghost use Rattle.std.proofs.lemmas.List.Edits.{sets};
 ghost use Rattle.profile.specs.Lists.{flat_map};
 ghost use Rattle.profile.specs.Automata.{lent};
+ghost use Rattle.putting.specs.Putting.{Put};
 ghost use Rattle.filewriter.specs.Written.{Fit, Writes, file_bytes, low_bytes, trailer_of};
 
 use profile::limits::TRAILER_LENGTH;
 use profile::{Profile, Refusal, Shape};
+use putting::put_bytes;
 
-// Puts the two low bytes of v, low byte first.
-fn put_half(v: u32, out: &mut [u8], at: usize)
-    requires { at + 2 ≤ length out.old }
-    ensures { out.new ≡ sets out.old at (low_bytes 2 v) }
-{
-    out[at] = (v % 256) as u8;
-    out[at + 1] = (v / 256 % 256) as u8;
+// A number as a file holds it.
+trait Written: Copy {
+    ghost bytes: { Self → List ℕ };
+
+    // Puts its bytes from place `at` on, and tells the place behind them.
+    fn put(self, out: &mut [u8], at: usize) -> usize
+        requires { at + length (bytes self) ≤ length out.old }
+        ensures { Put out.old at (bytes self) out.new result };
 }
 
-// Puts the four bytes of v, low byte first.
-fn put_word(v: u32, out: &mut [u8], at: usize)
-    requires { at + 4 ≤ length out.old }
-    ensures { out.new ≡ sets out.old at (low_bytes 4 v) }
-{
-    put_half(v, out, at);
-    put_half(v / 65536, out, at + 2);
-}
+impl Written for u16 {
+    ghost bytes = { low_bytes 2 };
 
-// Puts the masks, two bytes each.
-fn put_masks(masks: &[u16], out: &mut [u8], at: usize)
-    requires { at + 2 * length masks.now ≤ length out.old }
-    ensures { out.new ≡ sets out.old at (flat_map (low_bytes 2) masks.now) }
-{
-    for (i, mask) in masks.iter().enumerate() {
-        put_half(*mask as u32, out, at + 2 * i);
+    fn put(self, out: &mut [u8], at: usize) -> usize {
+        put_bytes(out, at, &self.to_le_bytes())
     }
 }
 
-// Puts the moves, four bytes each.
-fn put_moves(moves: &[u32], out: &mut [u8], at: usize)
-    requires { at + 4 * length moves.now ≤ length out.old }
-    ensures { out.new ≡ sets out.old at (flat_map (low_bytes 4) moves.now) }
-{
-    for (i, set) in moves.iter().enumerate() {
-        put_word(*set, out, at + 4 * i);
+impl Written for u32 {
+    ghost bytes = { low_bytes 4 };
+
+    fn put(self, out: &mut [u8], at: usize) -> usize {
+        put_bytes(out, at, &self.to_le_bytes())
     }
 }
 
-// Puts the bytes.
-fn put_bytes(bytes: &[u8], out: &mut [u8], at: usize)
-    requires { at + length bytes.now ≤ length out.old }
-    ensures { out.new ≡ sets out.old at bytes.now }
+// Puts the numbers from place `at` on, one after the other, and tells the place behind them.
+fn put_numbers<T: Written>(out: &mut [u8], at: usize, numbers: &[T]) -> usize
+    requires { at + length (flat_map T.bytes numbers.now) ≤ length out.old }
+    ensures { Put out.old at (flat_map T.bytes numbers.now) out.new result }
 {
-    out[at..at + bytes.len()].copy_from_slice(bytes);
+    let mut to = at;
+    for number in numbers {
+        to = number.put(out, to);
+    }
+    to
 }
 
 // The trailer of a log of n letters, with the distances back to the masks and to the moves.
-fn trailer_bytes(shape: Shape, n: usize, masks: usize, moves: usize) -> [u8; TRAILER_LENGTH]
+fn trailer_bytes(shape: Shape, n: u16, masks: u16, moves: u16) -> [u8; TRAILER_LENGTH]
     requires { (shape.k < 256) × (shape.s < 256) × (shape.start < 256) }
     ensures { result ≡ trailer_of shape n masks moves }
 {
-    let k = shape.k;
-    let s = shape.s;
-    let start = shape.start;
-    let finals = shape.finals;
+    let [n_low, n_high] = n.to_le_bytes();
+    let [masks_low, masks_high] = masks.to_le_bytes();
+    let [moves_low, moves_high] = moves.to_le_bytes();
+    let [finals_0, finals_1, finals_2, finals_3] = shape.finals.to_le_bytes();
     [
-        k as u8,
-        s as u8,
-        start as u8,
-        (n % 256) as u8,
-        (masks % 256) as u8,
-        (masks / 256 % 256) as u8,
-        (moves % 256) as u8,
-        (moves / 256 % 256) as u8,
-        (n % 256) as u8,
-        (n / 256 % 256) as u8,
-        (n / 256 % 256) as u8,
+        shape.k as u8,
+        shape.s as u8,
+        shape.start as u8,
+        n_low,
+        masks_low,
+        masks_high,
+        moves_low,
+        moves_high,
+        n_low,
+        n_high,
+        n_high,
         0,
-        (finals % 256) as u8,
-        (finals / 256 % 256) as u8,
-        (finals / 65536 % 256) as u8,
-        (finals / 16777216 % 256) as u8,
+        finals_0,
+        finals_1,
+        finals_2,
+        finals_3,
     ]
 }
 
@@ -90,15 +84,13 @@ fn put_file(profile: &Profile, log: &[u8], out: &mut [u8])
     requires { Fit profile.now.shape profile.now.masks.now profile.now.moves.now log.now out.old }
     ensures { out.new ≡ sets out.old 0 (file_bytes (lent profile.now) log.now) }
 {
-    let n = log.len();
-    let moves_at = 2 * profile.masks.len();
-    let log_at = moves_at + 4 * profile.moves.len();
-    let end = log_at + n;
-    put_masks(profile.masks, out, 0);
-    put_moves(profile.moves, out, moves_at);
-    put_bytes(log, out, log_at);
-    let trailer = trailer_bytes(profile.shape, n, end, end - moves_at);
-    put_bytes(&trailer, out, end);
+    let moves_at = put_numbers(out, 0, profile.masks);
+    let log_at = put_numbers(out, moves_at, profile.moves);
+    let end = put_bytes(out, log_at, log);
+    let to_masks = end as u16;
+    let to_moves = (end - moves_at) as u16;
+    let trailer = trailer_bytes(profile.shape, log.len() as u16, to_masks, to_moves);
+    put_bytes(out, end, &trailer);
 }
 
 // Puts masks, moves, log and trailer, without gaps, and tells the file's length.

@@ -1,18 +1,18 @@
--- Numbers in bytes, low byte first, and bytes stored one behind the other.
-use mathlib.Core.Path.{◌≡◌, sym, ◌∙◌, ap}
+-- Numbers in bytes, low byte first, and numbers put one behind the other.
+use mathlib.Core.Path.{◌≡◌, refl, sym, ◌∙◌, ap, ap₂}
 use mathlib.Core.Logic.{⊎_elim}
-use mathlib.Core.List.{List, [], ◌∷◌, ◌++◌, map, map-append, append-nil, append_assoc}
-use Prim.Native.Nat.{ℕ, suc, ◌+◌, ◌*◌, ◌≤◌, ◌<◌}
-use native.Mathlib.Nat.{zero-add}
+use mathlib.Core.List.{List, [], ◌∷◌, ◌++◌, map, map-append, append_assoc}
+use Prim.Native.Nat.{ℕ, zero, suc, ◌+◌, ◌*◌, ◌≤◌, ◌<◌}
 use native.Mathlib.Numerals.{add-one}
 use native.Mathlib.Omega.{arith}
-use lib.ListN.{length, get_or, take, drop, set, drop_of_length-le, length-take, get_or-eq_default}
-use lib.Seq.{sets, drop-cons, sets-eq, take-nil, take-suc}
-use Rattle.profile.specs.Lists.{below, flat_map}
+use lib.ListN.{length, get_or, take, drop, set, drop_of_length-le, get_or-eq_default}
+use lib.Seq.{drop-cons, set_at, take-nil}
+use Rattle.std.proofs.lemmas.List.{length-map}
+use Rattle.profile.specs.Lists.{below, range}
 use Rattle.profile.specs.Tables.{pack}
 use Rattle.theory.proofs.Counting.{length_range}
-use Rattle.profile.proofs.Lists.{below_suc, flat_map_length, lt_or_le}
-use Rattle.logfile.specs.Files.{half, number, numbers_from, word}
+use Rattle.profile.proofs.Lists.{below_suc, lt_or_le}
+use Rattle.logfile.specs.Files.{half, number, numbers_from}
 
 -- ---- read
 
@@ -32,56 +32,19 @@ number_suc b f i = ⊎_elim inside past (lt_or_le i (length f))
 pub half_eq : (f : List ℕ) (i : ℕ) → half f i ≡ get_or f i 0 + 256 * get_or f (i + 1) 0
 half_eq f i = rw add-one (omega (arith, number_suc 1 f i, number_suc 0 f (suc i)))
 
-pub word_eq : (f : List ℕ) (i : ℕ) → word f i ≡ half f i + 65536 * half f (i + 2)
-word_eq f i =
-    let e : i + 2 ≡ suc (suc i) = omega arith in
-    rw e (omega (arith, number_suc 3 f i, number_suc 2 f (suc i), number_suc 1 f i, number_suc 0 f (suc i)))
-
 pub numbers_length : (b : ℕ) (f : List ℕ) (i n : ℕ) → length (numbers_from b f i n) ≡ n
 numbers_length b f i n = length_range (λ j. number b f (i + b * j)) n 0
 
--- ---- stored
+-- ---- put
 
-module _ {A : Type 0} where
-  pub sets_append : (l : List A) (i : ℕ) (u v : List A) → sets l i (u ++ v) ≡ sets (sets l i u) (i + length u) v
-  sets_append l i [] v = let e : i ≡ i + 0 = omega arith in ap (λ n. sets l n v) e
-  sets_append l i (a ∷ u) v = let e : suc i + length u ≡ i + suc (length u) = omega arith in sets_append (set l i a) (suc i) u v ∙ ap (λ n. sets (sets l i (a ∷ u)) n v) e
+range_length : (n a : ℕ) → length (range a n) ≡ n
+range_length zero a = refl
+range_length (suc n) a = ap suc (range_length n (suc a))
 
-  -- from the start on
-  pub sets_start : (l v : List A) (n : ℕ) → length v ≡ n → n ≤ length l → sets l 0 v ≡ v ++ drop n l
-  sets_start l v n e h = sets-eq v l 0 (omega arith) ∙ ap (λ m. v ++ drop m l) (zero-add (length v) ∙ e)
-
--- with one element more, for loops: of l, of f of the numbers from 0 on, of the lists f a
-pub sets_more : (l v : List ℕ) (at i : ℕ) → i < length v → set (sets l at (take i v)) (at + i) (get_or v i 0) ≡ sets l at (take (i + 1) v)
-sets_more l v at i h =
-    let e : length (take i v) ≡ i = length-take i v ∙ omega arith in
-    sym (ap (λ n. sets l at (take n v)) (add-one i) ∙ ap (sets l at) (take-suc v i 0 h) ∙ sets_append l at (take i v) (get_or v i 0 ∷ [])
-    ∙ ap (λ n. set (sets l at (take i v)) (at + n) (get_or v i 0)) e)
-
-pub map_more : (f : ℕ → ℕ) (l : List ℕ) (i : ℕ) → set (sets l 0 (map f (below i))) i (f i) ≡ sets l 0 (map f (below (i + 1)))
-map_more f l i =
-    sym (ap (λ n. sets l 0 (map f (below n))) (add-one i) ∙ ap (λ r. sets l 0 (map f r)) (below_suc i) ∙ ap (sets l 0) (map-append f (below i) (i ∷ []))
-    ∙ sets_append l 0 (map f (below i)) (f i ∷ []) ∙ ap (λ n. set (sets l 0 (map f (below i))) n (f i)) (zero-add (length (map f (below i))) ∙ length_range f i 0))
-
-module _ (f : ℕ → List ℕ) (b : ℕ) (even : (a : ℕ) → length (f a) ≡ b) where
-  pub flat_map_more : (l v : List ℕ) (at i : ℕ) → i < length v
-      → sets (sets l at (flat_map f (take i v))) (at + b * i) (f (get_or v i 0)) ≡ sets l at (flat_map f (take (i + 1) v))
-  flat_map_more l v at i h =
-      let e : length (take i v) ≡ i = length-take i v ∙ omega arith in
-      sym (ap (λ n. sets l at (flat_map f (take n v))) (add-one i) ∙ ap (λ r. sets l at (flat_map f r)) (take-suc v i 0 h)
-      ∙ ap (sets l at) (last (take i v) (get_or v i 0)) ∙ sets_append l at (flat_map f (take i v)) (f (get_or v i 0))
-      ∙ ap (λ n. sets (sets l at (flat_map f (take i v))) (at + n) (f (get_or v i 0))) (flat_map_length f b even (take i v) ∙ ap (λ n. b * n) e))
-    where
-      last : (u : List ℕ) (a : ℕ) → flat_map f (u ++ (a ∷ [])) ≡ flat_map f u ++ f a
-      last [] a = append-nil (f a)
-      last (c ∷ u) a = ap (λ r. f c ++ r) (last u a) ∙ sym (append_assoc (f c) (flat_map f u) (f a))
-
--- four lists, each behind the one before
-pub sets_four : (l a b c d : List ℕ) {i j k : ℕ} → i ≡ length a → j ≡ i + length b → k ≡ j + length c
-    → sets (sets (sets (sets l 0 a) i b) j c) k d ≡ sets l 0 (a ++ (b ++ (c ++ d)))
-sets_four l a b c d {i} {j} {k} p q r =
-    let l₁ = sets l 0 a in
-    let l₂ = sets l₁ i b in
-    let e : i ≡ 0 + length a = omega arith in
-    sym (sets_append l 0 a (b ++ (c ++ d)) ∙ ap (λ n. sets l₁ n (b ++ (c ++ d))) (sym e) ∙ sets_append l₁ i b (c ++ d) ∙ ap (λ n. sets l₂ n (c ++ d)) (sym q)
-    ∙ sets_append l₂ j c d ∙ ap (λ n. sets (sets l₂ j c) n d) (sym r))
+-- the first numbers are put, and one more behind them
+pub front_more : {A : Type 0} (f : ℕ → A) (l : List A) (i : ℕ) → i < length l → set (map f (below i) ++ drop i l) i (f i) ≡ map f (below (i + 1)) ++ drop (i + 1) l
+front_more f l i h =
+    ap (λ r. set (map f (below i) ++ r) i (f i)) (drop-cons l i (f i) h)
+    ∙ set_at (map f (below i)) (get_or l i (f i)) (drop (suc i) l) (f i) i (length-map (below i) f ∙ range_length i 0)
+    ∙ sym (append_assoc (map f (below i)) (f i ∷ []) (drop (suc i) l))
+    ∙ ap₂ (λ u m. u ++ drop m l) (sym (map-append f (below i) (i ∷ [])) ∙ ap (map f) (sym (below_suc i)) ∙ ap (λ n. map f (below n)) (sym (add-one i))) (sym (add-one i))

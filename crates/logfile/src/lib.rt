@@ -1,10 +1,12 @@
 // The file reader: refusals 1 to 9, the masks and moves of a file, its log part.
 #![tactic(auto)]
 
-ghost use Rattle.std.specs.Prelude.{◌≡◌, false, ◌++◌, ◌+◌, ◌*◌, ◌≤◌, length, get_or, drop};
+ghost use Rattle.std.specs.Prelude.{◌≡◌, false, ℕ, List, ◌++◌, map, ◌+◌, ◌*◌, ◌≤◌, length, get_or, take, drop};
 ghost use Rattle.profile.specs.Limits.{finals_byte};
+ghost use Rattle.profile.specs.Lists.{below};
+ghost use Rattle.profile.specs.Tables.{pack};
 ghost use Rattle.profile.specs.Refusals.{refused_by, lowest};
-ghost use Rattle.logfile.specs.Files.{Reads, content_refusals, distance_out_of_range, field, file_log, file_out_of_range, file_profile, file_refusals, file_shape, half, log_length, log_location, log_part_of, numbers_from, numbers_out_of_range, outside, section, trailer, word};
+ghost use Rattle.logfile.specs.Files.{Reads, content_refusals, distance_out_of_range, field, file_log, file_out_of_range, file_profile, file_refusals, file_shape, half, log_length, log_location, log_part_of, numbers_out_of_range, outside, section, trailer};
 
 use profile::limits::{
     FINALS_BYTE, LENGTH_BYTE, LENGTH_HIGH_BYTE, LETTERS_BYTE, LOG_BYTE, MASKS_BYTE, MOST_LETTERS,
@@ -19,28 +21,53 @@ fn byte_at(f: &[u8], i: usize) -> u8
     if i < f.len() { f[i] } else { 0 }
 }
 
-// The number of two bytes at place i, low byte first.
-fn half_at(f: &[u8], i: usize) -> u16
-    ensures { result ≡ half f.now i }
-{
-    if f.len() <= i {
-        return 0;
-    }
-    let low = byte_at(f, i) as u16;
-    let high = byte_at(f, i + 1) as u16;
-    low + 256 * high
+// A number that stands in a file in so many bytes, the low byte first.
+pub trait Number: Copy {
+    const WIDTH: usize;
+
+    ghost WIDTH: { ℕ };
+
+    // The number of the first bytes of a list; bytes that are not there are 0.
+    ghost value: { List ℕ → Self };
+
+    fn from_bytes(bytes: &[u8]) -> Self
+        ensures { result ≡ value bytes.now };
 }
 
-// The number of four bytes at place i, low byte first.
-fn word_at(f: &[u8], i: usize) -> u32
-    ensures { result ≡ word f.now i }
-{
-    if f.len() <= i {
-        return 0;
+impl Number for u16 {
+    const WIDTH: usize = 2;
+
+    ghost WIDTH = { 2 };
+
+    ghost value = { λ l. pack 8 (take 2 l) };
+
+    fn from_bytes(bytes: &[u8]) -> u16 {
+        u16::from_le_bytes([byte_at(bytes, 0), byte_at(bytes, 1)])
     }
-    let low = half_at(f, i) as u32;
-    let high = half_at(f, i + 2) as u32;
-    low + 65536 * high
+}
+
+impl Number for u32 {
+    const WIDTH: usize = 4;
+
+    ghost WIDTH = { 4 };
+
+    ghost value = { λ l. pack 8 (take 4 l) };
+
+    fn from_bytes(bytes: &[u8]) -> u32 {
+        u32::from_le_bytes([
+            byte_at(bytes, 0),
+            byte_at(bytes, 1),
+            byte_at(bytes, 2),
+            byte_at(bytes, 3),
+        ])
+    }
+}
+
+// The number at place i.
+fn number_at<T: Number>(f: &[u8], i: usize) -> T
+    ensures { result ≡ T.value (drop i f.now) }
+{
+    T::from_bytes(&f[i.min(f.len())..])
 }
 
 // Where the trailer begins.
@@ -67,9 +94,9 @@ fn length_at(f: &[u8]) -> usize
     ensures { result ≡ log_length f.now }
 {
     let end = trailer_at(f);
-    let low = byte_at(f, end + LENGTH_BYTE) as usize;
-    let high = byte_at(f, end + LENGTH_HIGH_BYTE) as usize;
-    low + 256 * high
+    let low = byte_at(f, end + LENGTH_BYTE);
+    let high = byte_at(f, end + LENGTH_HIGH_BYTE);
+    u16::from_le_bytes([low, high]) as usize
 }
 
 // The numbers of the file's profile.
@@ -80,7 +107,7 @@ fn shape_of(f: &[u8]) -> Shape
     let s = field_at(f, STATES_BYTE);
     let start = field_at(f, START_BYTE);
     let end = trailer_at(f);
-    let finals = word_at(f, end + FINALS_BYTE);
+    let finals = number_at::<u32>(f, end + FINALS_BYTE);
     Shape {
         k: k,
         s: s,
@@ -95,7 +122,7 @@ fn trailer_half(f: &[u8], i: usize) -> usize
     ensures { result ≡ half f.now (trailer f.now + i) }
 {
     let end = trailer_at(f);
-    half_at(f, end + i) as usize
+    number_at::<u16>(f, end + i) as usize
 }
 
 // Where the section begins whose distance stands at trailer byte i.
@@ -172,23 +199,13 @@ fn distance_refused(f: &[u8]) -> bool
     outside_at(f, LOG_BYTE, n)
 }
 
-// Puts the k masks that stand from place `at` on.
-fn fill_masks(f: &[u8], at: usize, k: usize, masks: &mut [u16])
-    requires { (at + 2 * k ≤ length f.now) × (k ≤ length masks.old) }
-    ensures { masks.new ≡ numbers_from 2 f.now at k ++ drop k masks.old }
-{
-    for j in 0..k {
-        masks[j] = half_at(f, at + 2 * j);
-    }
-}
-
-// Puts the n moves that stand from place `at` on.
-fn fill_moves(f: &[u8], at: usize, n: usize, moves: &mut [u32])
-    requires { (at + 4 * n ≤ length f.now) × (n ≤ length moves.old) }
-    ensures { moves.new ≡ numbers_from 4 f.now at n ++ drop n moves.old }
+// Puts the n numbers that stand from place `at` on.
+fn fill<T: Number>(f: &[u8], at: usize, n: usize, numbers: &mut [T])
+    requires { (at + T.WIDTH * n ≤ length f.now) × (n ≤ length numbers.old) }
+    ensures { numbers.new ≡ map (λ j. T.value (drop (at + T.WIDTH * j) f.now)) (below n) ++ drop n numbers.old }
 {
     for j in 0..n {
-        moves[j] = word_at(f, at + 4 * j);
+        numbers[j] = number_at(f, at + T::WIDTH * j);
     }
 }
 
@@ -203,8 +220,8 @@ fn check_content(f: &[u8]) -> Result<(), Refusal>
     let count = s * k;
     let mut masks = [0u16; MOST_LETTERS];
     let mut moves = [0u32; MOST_MOVES];
-    fill_masks(f, section_at(f, MASKS_BYTE), k, &mut masks);
-    fill_moves(f, section_at(f, MOVES_BYTE), count, &mut moves);
+    fill(f, section_at(f, MASKS_BYTE), k, &mut masks);
+    fill(f, section_at(f, MOVES_BYTE), count, &mut moves);
     checks::check_profile(&Profile {
         shape,
         masks: &masks[0..k],
@@ -270,7 +287,7 @@ pub fn read_file(
     if moves.len() < count {
         return Err(Refusal::ShortBuffer);
     }
-    fill_masks(file, section_at(file, MASKS_BYTE), k, masks);
-    fill_moves(file, section_at(file, MOVES_BYTE), count, moves);
+    fill(file, section_at(file, MASKS_BYTE), k, masks);
+    fill(file, section_at(file, MOVES_BYTE), count, moves);
     Ok((shape, length_at(file)))
 }

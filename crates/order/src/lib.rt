@@ -25,12 +25,9 @@ fn least_next(
     requires { (k ≤ most_letters) × (keepers.now ≡ all_keepers (independent masks.now) k) }
     ensures { result ≡ first_place (comes_next? (independent masks.now) k n next.now) (below k) }
 {
-    for a in 0..k {
-        if events::comes_next(masks, keepers, k, n, next, a) {
-            return a;
-        }
-    }
-    k
+    (0..k)
+        .position(|a| events::comes_next(masks, keepers, k, n, next, a))
+        .unwrap_or(k)
 }
 
 // The place of the first event of each letter that `next` has an element for.

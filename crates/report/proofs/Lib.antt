@@ -1,6 +1,5 @@
 -- Laws for the proofs of this crate.
 pub mod Decimal
-pub mod Texts
 pub mod Printing
 pub mod ProgramCases
 pub mod Program

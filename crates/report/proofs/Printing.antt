@@ -22,9 +22,10 @@ use Rattle.std.specs.Prelude.{Result, Ok, Err}
 use Rattle.verdict.specs.Verdict.{Promise}
 use Rattle.verdict.specs.declared.Judged.TheVariants.{NoOrder, Order}
 use Rattle.verdict.proofs.Judging.{admitted, order_length}
-use Rattle.report.specs.Report.{Put, Responds, decimal, file_table, file_text, judged_table, judged_text, number_line, order_line, printed_with, refusal_line, response, table_after, table_left, too_long_line, unless_refused, verdict_lines, verdict_text, whether}
+use Rattle.putting.specs.Putting.{Put}
+use Rattle.report.specs.Report.{Responds, decimal, file_table, file_text, judged_table, judged_text, number_line, order_line, printed_with, refusal_line, response, table_after, table_left, too_long_line, unless_refused, verdict_lines, verdict_text, whether}
 use Rattle.report.proofs.Decimal.{decimal_short}
-use Rattle.report.proofs.Texts.{length_three, put_front}
+use Rattle.putting.proofs.Texts.{length_three, put_front}
 
 -- a line with a number of 64 bits
 pub line_short : (word : List ℕ) (n : ℕ) → n < 18446744073709551616 → length (number_line word n) ≤ length word + 21

@@ -1,7 +1,6 @@
 -- Document 01, "Program": the text that is printed for an input, as a list of bytes in ASCII.
 use Rattle.std.specs.Prelude.{◌≡◌, Bool, true, false, ◌≢◌, List, [], ◌∷◌, ◌++◌, ℕ, zero, suc, ◌+◌, ◌/◌, ◌%◌, ◌≤◌, ltb, length, take, drop}
 use Rattle.std.proofs.Math.Option.{Option, none, some}
-use Rattle.std.proofs.lemmas.List.Edits.{sets}
 use Rattle.profile.specs.Limits.{longest_input, most_letters, most_moves, program_numbers, program_text}
 use Rattle.profile.specs.Lists.{flat_map}
 use Rattle.profile.specs.Automata.{Profile}
@@ -116,9 +115,3 @@ pub record Responds (f out out' work work' : List ℕ) (r : ℕ) : Type 0 where
   pub text : take r out' ≡ response f (length out) (length work)
   pub rest : (r ≤ length out) × (drop r out' ≡ drop r out)
   pub table : table_after f (length out) work work'
-
--- the text is put from place `at` on, the other bytes stay, and r is the place behind it
-pub record Put (before : List ℕ) (at : ℕ) (text after : List ℕ) (r : ℕ) : Type 0 where
-  pub put : after ≡ sets before at text
-  pub behind : r ≡ at + length text
-  pub room : r ≤ length before

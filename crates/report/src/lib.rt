@@ -5,21 +5,13 @@ ghost use Rattle.std.specs.Prelude.{◌≡◌, ◌+◌, ◌*◌, ◌≤◌, leng
 ghost use Rattle.profile.specs.Limits.{program_text};
 ghost use Rattle.profile.specs.Lists.{flat_map};
 ghost use Rattle.profile.specs.Automata.{lent};
-ghost use Rattle.report.specs.Report.{Put, Responds, decimal, file_table, file_text, judged_table, judged_text, number_line, order_line, refusal_line, spaced, verdict_lines};
+ghost use Rattle.putting.specs.Putting.{Put};
+ghost use Rattle.report.specs.Report.{Responds, decimal, file_table, file_text, judged_table, judged_text, number_line, order_line, refusal_line, spaced, verdict_lines};
 
 use profile::limits::{LONGEST, LONGEST_INPUT, MOST_LETTERS, MOST_MOVES, PROGRAM_TEXT};
 use profile::{Profile, Refusal};
+use putting::put_bytes;
 use verdict::Judged;
-
-// Puts the bytes from place `at` on, and tells the place behind them.
-fn put_bytes(out: &mut [u8], at: usize, bytes: &[u8]) -> usize
-    requires { at + length bytes.now ≤ length out.old }
-    ensures { Put out.old at bytes.now out.new result }
-{
-    let end = at + bytes.len();
-    out[at..end].copy_from_slice(bytes);
-    end
-}
 
 // Puts n, decimal, and tells the place behind it.
 fn put_decimal(out: &mut [u8], at: usize, n: u64) -> usize

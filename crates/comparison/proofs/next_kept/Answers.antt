@@ -1,36 +1,34 @@
-use mathlib.Core.Path.{refl, sym, ◌∙◌}
-use mathlib.Core.Logic.{⊎_elim}
-use Prim.Native.Nat.{◌<◌}
+-- `comparison::next_kept` meets its contract: the chain tests each letter that is left.
+use mathlib.Core.Path.{◌≡◌, refl, ◌∙◌, ap}
+use Prim.Native.Nat.{◌+◌, ◌-◌}
 use native.Mathlib.Omega.{arith}
-use lib.ListN.{length}
-use Rattle.profile.proofs.Lists.{lt_or_le}
+use lib.ListN.{drop, length, length-drop, take}
+use Rattle.std.proofs.Common.{rules, tests}
+use Rattle.std.proofs.lemmas.Iterator.{YieldsList-from_slice}
+use Rattle.std.proofs.lemmas.Iterator.Search.{position_from_yields_List}
+use Rattle.profile.specs.Lists.{first_place}
+use Rattle.profile.proofs.Chains.{first_or_end, first_place_most, left_from}
 use Rattle.comparison.proofs.Projections.{kept?}
-use Rattle.theory.proofs.FirstPlaces.{place_end, place_no, place_yes}
 use Rattle.comparison.proofs.next_kept.Goals as goal
+use Rattle.comparison.proofs.next_kept.Goals.{After-unwrap_or}
 
-pub loop-i-init : goal.loop-i-init
-loop-i-init c = refl
-
-pub returns-then-is_kept : goal.returns-then-is_kept
-returns-then-is_kept c =
-    let a = c.args in
-    let w = a.log.now in
-    let i = c.loop-i.i in
-    let h : i < length w = omega arith in
-    omega (arith, place_yes (kept? a.x a.y) w i h (sym c.is_kept.ensures ∙ c.if-is_kept.true))
-
-pub loop-i-preserved : goal.loop-i-preserved
-loop-i-preserved c =
-    let a = c.args in
-    let w = a.log.now in
-    let i = c.loop-i.i in
-    let h : i < length w = omega arith in
-    omega (arith, place_no (kept? a.x a.y) w i h (sym c.is_kept.ensures ∙ c.if-is_kept.false))
-
-pub returns : goal.returns
-returns c =
+-- how many letters are passed over
+skipped : (c : After-unwrap_or) → let a = c.args in c.unwrap_or.result ≡ first_place (kept? a.x a.y) (drop a.from a.log.now)
+skipped c =
     let a = c.args in
     let w = a.log.now in
     let p = kept? a.x a.y in
-    let e = place_end p w c.loop-i.i (omega arith) in
-    ⊎_elim (λ l. omega (arith, e, c.loop-i.auto.i-end)) (λ le. omega (arith, place_end p w a.from le)) (lt_or_le a.from (length w))
+    let m = c.min.result in
+    let l = take (length w - m) (drop m w) in
+    c.unwrap_or.ensures
+    ∙ first_or_end p l refl (position_from_yields_List p _ _ c.position-skipped.result c.position-skipped.ensures.ran (YieldsList-from_slice l cc) (λ x b q k. search (rules, tests)))
+    ∙ ap (first_place p) (left_from w a.from c.min.ensures)
+
+pub overflow_add-result : goal.overflow_add-result
+overflow_add-result c =
+    let a = c.args in
+    let l = drop a.from a.log.now in
+    omega (arith, skipped (goal.at.overflow_add-result c).After-unwrap_or, first_place_most (kept? a.x a.y) l, length-drop a.from a.log.now)
+
+pub returns : goal.returns
+returns c = ap (λ n. c.args.from + n) (skipped (goal.at.returns c).After-unwrap_or)

@@ -1,59 +1,79 @@
 -- `filewriter::put_file` meets its contract: each section behind the one before.
-use mathlib.Core.Path.{◌≡◌, refl, sym, ◌∙◌, ap, ap₂}
+use mathlib.Core.Path.{◌≡◌, ◌∙◌, ap, ap₂}
 use mathlib.Core.List.{List}
-use Prim.Native.Nat.{ℕ, ◌+◌, ◌-◌, ◌*◌, ◌≤◌}
+use Prim.Native.Nat.{ℕ, ◌+◌, ◌-◌, ◌*◌, ◌≤◌, ◌<◌}
+use native.Mathlib.Nat.{mul-le-mul}
 use native.Mathlib.Omega.{arith}
 use lib.ListN.{length}
-use lib.Seq.{sets}
-use Rattle.profile.specs.Limits.{trailer_length}
+use Rattle.profile.specs.Limits.{most_letters, most_states, trailer_length}
 use Rattle.profile.specs.Automata.{profile_of, lent}
 use Rattle.profile.specs.Lists.{flat_map}
+use Rattle.profile.specs.Refusals.{longest}
 use Rattle.profile.specs.declared.Shape.{Shape}
 use Rattle.profile.proofs.Lists.{flat_map_length}
-use Rattle.filewriter.specs.Written.{Fit, low_bytes, masks_distance, moves_distance, trailer_bytes, trailer_of}
+use Rattle.putting.proofs.Texts.{put_as, put_kept, put_then}
+use Rattle.filewriter.specs.Written.{Fit, low_bytes, masks_distance, moves_distance, trailer_of}
 use Rattle.filewriter.proofs.Answers.{file_length}
-use Rattle.logfile.proofs.Bytes.{sets_four}
 use Rattle.filewriter.proofs.Bytes.{low_length}
 use Rattle.filewriter.proofs.put_file.Goals as goal
+use Rattle.filewriter.proofs.put_file.Goals.{After-put_bytes-end}
 
--- the output has place for all of it
-room : (h : Shape) (masks moves log out : List ℕ) → Fit h masks moves log out →
-    2 * length masks + 4 * length moves + length log + trailer_length ≤ length out
-room h masks moves log out fit = let r = fit.room in let e = file_length (profile_of h masks moves) log in omega arith
+-- how long the sections are, and the place that there is
+record Sizes (h : Shape) (masks moves log out : List ℕ) : Type 0 where
+  of_masks : length (flat_map (low_bytes 2) masks) ≡ 2 * h.k
+  of_moves : length (flat_map (low_bytes 4) moves) ≡ 4 * (h.s * h.k)
+  letters : h.k ≤ most_letters
+  moves_few : h.s * h.k ≤ most_states * most_letters
+  log_short : length log ≤ longest
+  room : 2 * h.k + (4 * (h.s * h.k) + (length log + trailer_length)) ≤ length out
 
--- the distances back from the trailer
-distances : (h : Shape) (masks moves log out : List ℕ) → Fit h masks moves log out →
-    let p = profile_of h masks moves in let i = 2 * length masks in let k = i + 4 * length moves + length log in
-    (k ≡ masks_distance p log) × (k - i ≡ moves_distance p log)
-distances h masks moves log out fit = let e = fit.letters.0 in let d = fit.states.0 in omega arith
+sizes : (h : Shape) (masks moves log out : List ℕ) → Fit h masks moves log out → Sizes h masks moves log out
+sizes h masks moves log out fit =
+    let s = fit.states in
+    let l = fit.letters in record {
+      of_masks = flat_map_length (low_bytes 2) 2 (low_length 2) masks ∙ ap (λ n. 2 * n) l.0;
+      of_moves = flat_map_length (low_bytes 4) 4 (low_length 4) moves ∙ ap (λ n. 4 * n) s.0;
+      letters = l.1;
+      moves_few = mul-le-mul s.1 l.1;
+      log_short = fit.log;
+      room = omega (arith, fit.room, file_length (profile_of h masks moves) log, l.0, s.0);
+    }
 
-pub put_masks-requires : goal.put_masks-requires
-put_masks-requires c = omega (arith, room _ _ _ _ _ c.requires)
+pub put_numbers-moves_at-requires : goal.put_numbers-moves_at-requires
+put_numbers-moves_at-requires c = omega (arith, sizes _ _ _ _ _ c.requires)
 
-pub put_moves-requires : goal.put_moves-requires
-put_moves-requires c = omega (arith, room _ _ _ _ _ c.requires, c.put_masks.auto.out)
+pub put_numbers-log_at-requires : goal.put_numbers-log_at-requires
+put_numbers-log_at-requires c = omega (arith, sizes _ _ _ _ _ c.requires, put_kept c.put_numbers-moves_at.ensures, c.put_numbers-moves_at.ensures.behind)
+
+pub put_bytes-end-requires : goal.put_bytes-end-requires
+put_bytes-end-requires c =
+    let p = c.put_numbers-moves_at.ensures in
+    let q = c.put_numbers-log_at.ensures in
+    omega (arith, sizes _ _ _ _ _ c.requires, put_kept p, put_kept q, p.behind, q.behind)
+
+-- where the log ends, and the distances back from there
+ends : (c : After-put_bytes-end)
+    → let p = lent c.args.profile.now in let w = c.args.log.now in
+    (c.put_bytes-end.result ≡ masks_distance p w) × (c.put_bytes-end.result - c.put_numbers-moves_at.result ≡ moves_distance p w) × (c.put_bytes-end.result < 65536)
+ends c = omega (arith, sizes _ _ _ _ _ c.requires, c.put_numbers-moves_at.ensures.behind, c.put_numbers-log_at.ensures.behind, c.put_bytes-end.ensures.behind)
+
+pub overflow_cast-to_masks : goal.overflow_cast-to_masks
+overflow_cast-to_masks c = omega (arith, ends (goal.at.overflow_cast-to_masks c).After-put_bytes-end)
+
+pub overflow_cast-to_moves : goal.overflow_cast-to_moves
+overflow_cast-to_moves c = omega (arith, ends (goal.at.overflow_cast-to_moves c).After-put_bytes-end)
 
 pub put_bytes-requires : goal.put_bytes-requires
-put_bytes-requires c = omega (arith, room _ _ _ _ _ c.requires, c.put_masks.auto.out, c.put_moves.auto.out)
-
-pub put_bytes-requires-2 : goal.put_bytes-requires-2
-put_bytes-requires-2 c = omega (arith, room _ _ _ _ _ c.requires, c.put_masks.auto.out, c.put_moves.auto.out, c.put_bytes.auto.out, c.trailer_bytes-trailer.type_inv)
+put_bytes-requires c =
+    let p = c.put_numbers-moves_at.ensures in
+    let q = c.put_numbers-log_at.ensures in
+    let r = c.put_bytes-end.ensures in
+    omega (arith, sizes _ _ _ _ _ c.requires, put_kept p, put_kept q, put_kept r, ends (goal.at.put_bytes-requires c).After-put_bytes-end, c.trailer_bytes-trailer.type_inv)
 
 pub returns : goal.returns
 returns c =
     let a = c.args in
-    let p = lent a.profile.now in
     let w = a.log.now in
-    let i = 2 * length a.profile.now.masks.now in
-    let j = i + 4 * length a.profile.now.moves.now in
-    let k = j + length w in
-    let d = distances _ _ _ _ _ c.requires in
-    let to_masks : k ≡ masks_distance p w = d.0 in
-    let to_moves : k - i ≡ moves_distance p w = d.1 in
-    let m = flat_map (low_bytes 2) a.profile.now.masks.now in
-    let v = flat_map (low_bytes 4) a.profile.now.moves.now in
-    let trailer = c.trailer_bytes-trailer.ensures ∙ ap₂ (trailer_of a.profile.now.shape (length w)) to_masks to_moves in
-    let three = c.put_bytes.ensures ∙ ap (λ l. sets l j w) (c.put_moves.ensures ∙ ap (λ l. sets l i v) c.put_masks.ensures) in
-    c.put_bytes-2.ensures ∙ ap₂ (λ l t. sets l k t) three trailer
-    ∙ sets_four a.out.now m v w (trailer_bytes p w) (sym (flat_map_length (low_bytes 2) 2 (low_length 2) a.profile.now.masks.now))
-    (ap (λ n. i + n) (sym (flat_map_length (low_bytes 4) 4 (low_length 4) a.profile.now.moves.now))) refl
+    let d = ends (goal.at.returns c).After-put_bytes-end in
+    let trailer = c.trailer_bytes-trailer.ensures ∙ ap₂ (trailer_of a.profile.now.shape (length w)) d.0 d.1 in
+    (put_then c.put_numbers-moves_at.ensures (put_then c.put_numbers-log_at.ensures (put_then c.put_bytes-end.ensures (put_as trailer c.put_bytes.ensures)))).put

@@ -8,7 +8,7 @@ use Rattle.profile.specs.Refusals.{refused_by}
 use Rattle.theory.proofs.Refusals.{log_at, profile_at}
 use Rattle.filewriter.specs.Written.{file_bytes}
 use Rattle.filewriter.proofs.Answers.{file_fits, file_length, file_short, fit_of, write_refused, write_told}
-use Rattle.logfile.proofs.Bytes.{sets_start}
+use Rattle.putting.proofs.Texts.{sets_start}
 use Rattle.filewriter.proofs.write_file.Goals as goal
 
 pub returns-then-out-size : goal.returns-then-out-size

@@ -33,8 +33,8 @@ profile_checked f h at at' l r x e o a lw a' rw' c =
     ∙ ap (λ g. lowest (profile_refusals (profile_of g (take (h.k - 0) (drop 0 l)) (take (h.s * h.k - 0) (drop 0 r))))) e
     ∙ ap₂ (λ x y. lowest (profile_refusals (profile_of (file_shape f) x y))) masks moves
 
-pub fill_moves-requires : goal.fill_moves-requires
-fill_moves-requires c =
+pub fill-requires-2 : goal.fill-requires-2
+fill-requires-2 c =
     let f = c.args.f.now in
     let n = shape_known f c.shape_of-shape.ensures c.requires.0 in
     omega (arith, n, (inside f c.requires.1).moves, c.section_at-2.ensures)
@@ -42,7 +42,7 @@ fill_moves-requires c =
 pub returns-in_err-check_profile : goal.returns-in_err-check_profile
 returns-in_err-check_profile c =
     let f = c.args.f.now in
-    let p = profile_checked f _ _ _ _ _ _ c.shape_of-shape.ensures c.requires.0 c.section_at.ensures c.fill_masks.ensures c.section_at-2.ensures c.fill_moves.ensures c.check_profile.ensures in
+    let p = profile_checked f _ _ _ _ _ _ c.shape_of-shape.ensures c.requires.0 c.section_at.ensures c.fill.ensures c.section_at-2.ensures c.fill-2.ensures c.check_profile.ensures in
     let gone : c.from_residual.result ≡ Err c.in_err-check_profile.field-0.0 = grind arith in
     rw gone (sym (content_profile f (file_log f) c.requires.0 (sym p ∙ ap refused_by c.in_err-check_profile.was)))
 
@@ -50,6 +50,6 @@ pub returns : goal.returns
 returns c =
     let f = c.args.f.now in
     let e = c.shape_of-shape.ensures in
-    let p = profile_checked f _ _ _ _ _ _ e c.requires.0 c.section_at.ensures c.fill_masks.ensures c.section_at-2.ensures c.fill_moves.ensures c.check_profile.ensures in
+    let p = profile_checked f _ _ _ _ _ _ e c.requires.0 c.section_at.ensures c.fill.ensures c.section_at-2.ensures c.fill-2.ensures c.check_profile.ensures in
     c.check_log.ensures ∙ ap₂ (λ k w. lowest (log_refusals k w)) (shape_known f e c.requires.0).0 (log_found f c.section_at-from.ensures c.length_at.ensures)
     ∙ sym (content_log f (file_log f) c.requires.0 (sym p ∙ ap refused_by c.in_ok-check_profile.was))

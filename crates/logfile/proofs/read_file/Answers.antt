@@ -45,5 +45,5 @@ returns c =
     read_told f a.masks.now a.moves.now
     (buffers_long f (length a.masks.now) (length a.moves.now) good (omega (arith, n, c.if-masks-k.false)) (omega (arith, n, c.if-moves-count.false)))
     c.shape_of-shape.ensures c.length_at.ensures
-    (c.fill_masks.ensures ∙ numbers_put 2 f a.masks.now c.section_at.ensures n.0)
-    (c.fill_moves.ensures ∙ numbers_put 4 f a.moves.now c.section_at-2.ensures n.1)
+    (c.fill.ensures ∙ numbers_put 2 f a.masks.now c.section_at.ensures n.0)
+    (c.fill-2.ensures ∙ numbers_put 4 f a.moves.now c.section_at-2.ensures n.1)

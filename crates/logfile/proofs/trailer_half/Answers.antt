@@ -7,4 +7,4 @@ use Rattle.logfile.proofs.trailer_half.Goals as goal
 pub returns : goal.returns
 returns c =
     let a = c.args in
-    c.half_at.ensures ∙ ap (λ n. half a.f.now (n + a.i)) c.trailer_at-end.ensures
+    c.number_at.ensures ∙ ap (λ n. half a.f.now (n + a.i)) c.trailer_at-end.ensures

@@ -5,7 +5,7 @@ use native.Mathlib.Omega.{arith}
 use lib.ListN.{length, take, drop}
 use Rattle.report.specs.Report.{decimal}
 use Rattle.report.proofs.Decimal.{first_digits}
-use Rattle.report.proofs.Texts.{put_as}
+use Rattle.putting.proofs.Texts.{put_as}
 use Rattle.report.proofs.put_decimal.Goals as goal
 use Rattle.report.proofs.put_decimal.Goals.{After-decimal-k}
 

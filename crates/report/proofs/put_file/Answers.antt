@@ -15,7 +15,7 @@ use Rattle.logfile.proofs.Bytes.{numbers_length}
 use Rattle.logfile.proofs.Sections.{first_part, open_file, shape_known}
 use Rattle.report.specs.Report.{judged_table, judged_text, read_table, unless_refused}
 use Rattle.report.proofs.Printing.{file_good, log_told, refusal_read, shape_read}
-use Rattle.report.proofs.Texts.{put_as}
+use Rattle.putting.proofs.Texts.{put_as}
 use Rattle.report.proofs.put_file.Goals as goal
 
 -- what a file is refused by, with places for the most masks and moves

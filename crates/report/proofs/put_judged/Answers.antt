@@ -7,7 +7,7 @@ use Rattle.profile.specs.Limits.{longest}
 use Rattle.profile.specs.Automata.{lent}
 use Rattle.verdict.specs.Verdict.{Promise}
 use Rattle.report.proofs.Printing.{order_room, table_none, table_refused, table_some, text_none, text_refused, text_some}
-use Rattle.report.proofs.Texts.{put_as, put_kept, put_then}
+use Rattle.putting.proofs.Texts.{put_as, put_kept, put_then}
 use Rattle.report.proofs.put_judged.Goals as goal
 
 pub slice_bounds-put_order-end : goal.slice_bounds-put_order-end

@@ -6,7 +6,7 @@ use lib.Seq.{take_all}
 use Rattle.profile.specs.Lists.{flat_map}
 use Rattle.report.specs.Report.{spaced}
 use Rattle.report.proofs.Decimal.{decimal_short}
-use Rattle.report.proofs.Texts.{put_as, put_kept, put_none, put_then, spaced_more}
+use Rattle.putting.proofs.Texts.{put_as, put_kept, put_none, put_then, flat_map_more}
 use Rattle.report.proofs.put_letters.Goals as goal
 
 -- a letter takes at most four bytes
@@ -30,7 +30,7 @@ loop-letter-preserved c =
     let h : i < length a.letters.now = omega arith in
     let s = c.put_spaced-to.ensures in record {
       long = put_kept s ∙ l.invariant.long;
-      put = put_as (spaced_more a.letters.now i h) (put_then l.invariant.put s);
+      put = put_as (flat_map_more spaced a.letters.now i 0 h) (put_then l.invariant.put s);
       short = omega (arith, short (get_or a.letters.now i 0) (omega (arith, c.type_inv.letters i)), l.invariant.short, s.behind);
     }
 

@@ -3,7 +3,8 @@ use mathlib.Core.Path.{◌≡◌}
 use Prim.Native.Nat.{◌+◌, ◌*◌, ◌≤◌}
 use lib.ListN.{length, take}
 use Rattle.profile.specs.Lists.{flat_map}
-use Rattle.report.specs.Report.{Put, spaced}
+use Rattle.putting.specs.Putting.{Put}
+use Rattle.report.specs.Report.{spaced}
 use Rattle.report.proofs.put_letters.Given as goal
 
 abbrev pub invariant-loop-letter : goal.invariant-loop-letter

@@ -4,7 +4,7 @@ use Prim.Native.Nat.{◌+◌, ◌≤◌}
 use native.Mathlib.Omega.{arith}
 use lib.ListN.{length}
 use Rattle.report.specs.Report.{decimal}
-use Rattle.report.proofs.Texts.{length_three, put_kept, put_then}
+use Rattle.putting.proofs.Texts.{length_three, put_kept, put_then}
 use Rattle.report.proofs.put_line.Goals as goal
 use Rattle.report.proofs.put_line.Goals.{Start}
 

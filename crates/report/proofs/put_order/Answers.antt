@@ -1,5 +1,5 @@
 -- `report::put_order` meets its contract.
-use Rattle.report.proofs.Texts.{put_then}
+use Rattle.putting.proofs.Texts.{put_then}
 use Rattle.report.proofs.put_order.Goals as goal
 
 pub returns : goal.returns

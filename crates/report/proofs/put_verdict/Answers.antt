@@ -4,7 +4,7 @@ use Prim.Native.Nat.{◌≤◌}
 use lib.ListN.{length}
 use Rattle.report.specs.Report.{number_line, prefixes_word, verdict_word}
 use Rattle.report.proofs.Printing.{line_short}
-use Rattle.report.proofs.Texts.{put_kept, put_then}
+use Rattle.putting.proofs.Texts.{put_kept, put_then}
 use Rattle.report.proofs.put_verdict.Goals as goal
 use Rattle.report.proofs.put_verdict.Goals.{Start}
 

@@ -1,4 +1,4 @@
--- `report::put_bytes` meets its contract.
+-- `putting::put_bytes` meets its contract.
 use mathlib.Core.Path.{refl, sym, ◌∙◌}
 use mathlib.Core.List.{append_assoc}
 use Prim.Native.Nat.{◌+◌, ◌-◌}
@@ -7,7 +7,7 @@ use lib.ListN.{drop, length, take}
 use lib.Seq.{sets-eq}
 use Rattle.std.proofs.lemmas.List.Edits.{paste_all}
 use Rattle.std.proofs.lemmas.Slice.{put_mid-paste}
-use Rattle.report.proofs.put_bytes.Goals as goal
+use Rattle.putting.proofs.put_bytes.Goals as goal
 
 pub returns : goal.returns
 returns c =

@@ -1,0 +1,2 @@
+-- What is put where.
+pub mod Putting
