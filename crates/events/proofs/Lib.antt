@@ -1,3 +1,3 @@
 -- Laws about the letters that can be added; other crates cite them.
 pub mod Adding
-pub mod Keepers
+pub mod Keeping

@@ -33,8 +33,18 @@ fn keepers_of(masks: &[u16], k: usize, x: usize) -> u32
     set
 }
 
+// The sets of the letters below k that keep each letter from coming next, by the masks: made once for all prefixes.
+#[derive(Clone, Copy)]
+pub struct Keepers<'a> {
+    pub masks: &'a [u16],
+    pub k: usize,
+    pub sets: [u32; MOST_LETTERS],
+    pub ghost few: { k ≤ most_letters },
+    pub ghost kept: { sets ≡ all_keepers (independent_by masks.now) k },
+}
+
 // The set of the letters below k that keep each letter.
-pub fn all_keepers(masks: &[u16], k: usize) -> [u32; MOST_LETTERS]
+fn all_keepers(masks: &[u16], k: usize) -> [u32; MOST_LETTERS]
     requires { k ≤ most_letters }
     ensures { result ≡ all_keepers (independent_by masks.now) k }
 {
@@ -45,25 +55,27 @@ pub fn all_keepers(masks: &[u16], k: usize) -> [u32; MOST_LETTERS]
     sets
 }
 
+// The same sets with what they are made of.
+pub fn prepared<'a>(masks: &'a [u16], k: usize) -> Keepers<'a>
+    requires { k ≤ most_letters }
+    ensures masks { result.masks.now ≡ masks.now }
+    ensures k { result.k ≡ k }
+{
+    let sets = all_keepers(masks, k);
+    Keepers { masks, k, sets }
+}
+
 // Letter x can come next: it has an event left, and each letter that keeps it has its next event later. Each turn takes the lowest of those
 // letters out of the set that is left.
-pub fn comes_next(
-    masks: &[u16],
-    keepers: &[u32; MOST_LETTERS],
-    k: usize,
-    n: usize,
-    next: &[Place],
-    x: usize,
-) -> bool
-    requires k_le_most_letters { (k ≤ most_letters) × (x < k) }
-    requires keepers_value { keepers.now ≡ all_keepers (independent_by masks.now) k }
-    ensures { result ≡ comes_next? (independent_by masks.now) k n next.now x }
+pub fn comes_next(keepers: &Keepers, n: usize, next: &[Place], x: usize) -> bool
+    requires { x < keepers.now.k }
+    ensures { result ≡ comes_next? (independent_by keepers.now.masks.now) keepers.now.k n next.now x }
 {
     let own = place_at(next, x);
     if n <= own as usize {
         return false;
     }
-    let mut rest = keepers[x];
+    let mut rest = keepers.sets[x];
     while rest != 0 {
         let y = u32::trailing_zeros(rest) as usize;
         if place_at(next, y) <= own {

@@ -60,7 +60,7 @@ pub record Filling (p : Rules) (w before table : List ℕ) (room t first j n : �
   pub sixteen : length cursors ≡ most_letters
   pub placed : Placed p w t j cursors
 
-module _ {p : Rules} {w : List ℕ} {m room : ℕ} {starts places turns : List ℕ} {termed : Bool} (r : Ready p w m room starts places turns termed) {before : List ℕ}
+module _ {p : Rules} {w : List ℕ} {m room : ℕ} {found : List ℕ → List ℕ} (r : Ready p w m room found) {before : List ℕ}
     {t from first : ℕ} (b : Begun p w before room t from first) where
   pub filling_start : (cursors : List ℕ) → length cursors ≡ most_letters
       → Filling p w before before room t first 0 0 (started p.profile.k (records_between before from first) cursors)
@@ -153,7 +153,7 @@ pub reaching_start : {p : Rules} {w before : List ℕ} {room t from first : ℕ}
     → n ≡ pairs p w (totals p w (suc t)) → Reaching p w before before room t from first n
 reaching_start n b le e = record { kept = refl; up_to = le; begins = b; written = b.written; paired = e }
 
-module _ {p : Rules} {w : List ℕ} {m room : ℕ} {starts places turns : List ℕ} {termed : Bool} (r : Ready p w m room starts places turns termed) where
+module _ {p : Rules} {w : List ℕ} {m room : ℕ} {found : List ℕ → List ℕ} (r : Ready p w m room found) where
   -- records of all totals
   order_count : length (in_order p w) ≡ prefix_count p.may p.letter p.profile.k w
   order_count = by_total_length p.may p.letter p.profile.k w r.log.letters

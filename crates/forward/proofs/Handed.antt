@@ -1,4 +1,4 @@
--- The letters that can be added to the next prefix, by what the prefixes with one letter less hand on, and by a test of few letters.
+-- What the prefixes with one letter less hand on to the next prefix: some letters that can be added to it, and others that can if they are among those.
 use mathlib.Core.Path.{◌≡◌, refl, sym, ◌∙◌, ap, subst}
 use mathlib.Core.Bool.{Bool, true, false, not, ◌||◌, true≢false}
 use mathlib.Core.Logic.{⊎_elim, ◌≢◌}
@@ -26,13 +26,11 @@ use Rattle.terms.specs.Coded.{event_letter, may_of}
 use Rattle.parents.proofs.Complements.{bits_below, complement_bit}
 use Rattle.parents.proofs.Parents.{hits_less, hits_removable, inherited as handed_on, passed_before}
 use Rattle.cursors.proofs.Levels.{level_whole}
-use Rattle.events.specs.Events.{comes_next?}
-use Rattle.letters.specs.Letters.{letter_by, neither, next_by, tested_by}
-use Rattle.letters.proofs.Tests.{letter_at, letter_of}
+use Rattle.letters.specs.Letters.{Hands}
 use Rattle.merge.specs.Merge.{givers, inherited, other_letters, passing}
 use Rattle.records.specs.Records.{last_at}
 use Rattle.records.proofs.Drafts.{last_of_draft}
-use Rattle.forward.specs.Forward.{Finds, Ready}
+use Rattle.forward.specs.Forward.{Ready}
 use Rattle.forward.specs.Merging.{Placed}
 use Rattle.forward.proofs.Steps.{cursor_at, next_givers, next_letters}
 use Rattle.forward.proofs.Totals.{apart, counted}
@@ -44,7 +42,7 @@ pub freely : (q : Profile) (termed : Bool) → termed ≡ false → (a b : ℕ) 
 freely q false e a b h = h
 freely q true e a b h = absurd (true≢false e)
 
-module _ {p : Rules} {w : List ℕ} {m room : ℕ} {starts places turns : List ℕ} {termed : Bool} (r : Ready p w m room starts places turns termed) (n : ℕ) (t : List ℕ)
+module _ {p : Rules} {w : List ℕ} {m room : ℕ} {found : List ℕ → List ℕ} (r : Ready p w m room found) (n : ℕ) (t : List ℕ)
     (written : t ≡ drafted p w (of_total p w n)) (cursors : List ℕ) (long : p.profile.k ≤ length cursors) (j : ℕ) (placed : Placed p w n j cursors)
     (lt : j < length (of_total p w (suc n))) where
   abbrev k : ℕ
@@ -141,65 +139,15 @@ module _ {p : Rules} {w : List ℕ} {m room : ℕ} {starts places turns : List �
         (λ a b l m. free a b (subst (λ y. T (independent masks y (p.letter b))) (sym l) (subst (λ y. T (independent masks x y)) (sym m) u.2))) a in
         union_of (λ x. other_letters t (at cursors x) x) q u.1 (others_of x u.1 q h (distinct masks r.profile.relation.own x q u.2) before)
 
-    both_few : bit_or I P < 2 ^ 32
-    both_few = bits_below 32 (bit_or I P) (λ q b.
-        let most = r.profile.relation.most in
-        ⊎_elim (λ i. omega (arith, (given_at q i).0))
-        (λ i. let u = union_at (λ x. get_or masks x 0) (filter (bit G) (below k)) q i in omega (arith, (r.profile.relation.inside u.0 q u.2).1))
-        (either (bit I q) (bit P q) (subst T (bit_of_or I P q) b)))
-
-    -- the letters that are tested
-    open_of : (q : ℕ) → q < k → T (not (bit I q)) → T (not (bit P q)) → T (bit (neither k I P) q)
-    open_of q h i j =
-        let most = r.profile.relation.most in
-        let z : 2 ^ k - 1 - 0 ≡ 2 ^ k - 1 = omega arith in
-        let a : T (bit (2 ^ k - 1) q) = subst (λ S. T (bit S q)) z (subst T (sym (complement_bit k 0 q (pow_pos k) h ∙ ap not (bit_none q))) tt) in
-        let b : T (bit (2 ^ 32 - 1 - bit_or I P) q) = subst T (sym (complement_bit 32 (bit_or I P) q both_few (omega arith) ∙ ap not (bit_of_or I P q ∙ nor (bit I q) (bit P q) i j))) tt in
-        subst T (sym (bit_of_and (2 ^ k - 1) (2 ^ 32 - 1 - bit_or I P) q)) (both (bit (2 ^ k - 1) q) (bit (2 ^ 32 - 1 - bit_or I P) q) a b)
-      where
-        nor : (x y : Bool) → T (not x) → T (not y) → (x || y) ≡ false
-        nor true y a b = absurd a
-        nor false true a b = absurd b
-        nor false false a b = refl
-
-    -- the test by places says which letters can be added
-    comes : termed ≡ false → (x : ℕ) → x < k → comes_next? (independent masks) k (length w) (next_by k starts places (packed layout e)) x ≡ add x
-    comes plain x h =
-        let f : Finds p w starts places turns false = subst (Finds p w starts places turns) plain r.finds in
-        sym (passing_bit (comes_next? (independent masks) k (length w) (next_by k starts places (packed layout e))) k x h)
-        ∙ ap (λ l. bit (union (λ x. 2 ^ x) l) x) (f e prefix) ∙ passing_bit add k x h
-
-    -- so they are what is handed on and what passes the test
-    pub handed_letters : termed ≡ false
-        → bit_or I (tested_by (independent masks) k (length w) starts places (packed layout e) (neither k I P)) ≡ addable_set p w e
-    handed_letters plain = sets_eq (bit_or I S) (addable_set p w e) into from
-      where
-        f : ℕ → ℕ
-        f = letter_by (independent masks) k (length w) starts places (packed layout e)
-
-        S : ℕ
-        S = tested_by (independent masks) k (length w) starts places (packed layout e) (neither k I P)
-
-        into : (q : ℕ) → T (bit (bit_or I S) q) → T (bit (addable_set p w e) q)
-        into q b = ⊎_elim
-            (λ i. let g = given_at q i in subst T (sym (passing_bit add k q g.0)) g.1)
-            (λ s.
-            let u = union_at f (filter (bit (neither k I P)) (below k)) q s in
-            let h = below_at k u.0 (filter_at (bit (neither k I P)) (below k) u.1).0 in
-            let c = letter_at u.0 q (comes_next? (independent masks) k (length w) (next_by k starts places (packed layout e)) u.0) u.2 in
-            subst (λ z. T (bit (addable_set p w e) z)) c.1 (subst T (sym (passing_bit add k u.0 h)) (subst T (comes plain u.0 h) c.0)))
-            (either (bit I q) (bit S q) (subst T (bit_of_or I S q) b))
-
-        from : (q : ℕ) → T (bit (addable_set p w e) q) → T (bit (bit_or I S) q)
-        from q b =
-            let h : q < k = bit_below k (addable_set p w e) q (passing_below add k) b in
-            let a = subst T (passing_bit add k q h) b in
-            subst T (sym (bit_of_or I S q)) (⊎_elim (or_left (bit I q) (bit S q))
-            (λ i. ⊎_elim (λ g. or_left (bit I q) (bit S q) (passed_at q h g a))
-            (λ g. or_right (bit I q) (bit S q) (union_of f q (filter_of (bit (neither k I P)) (below_of k q h) (open_of q h i g))
-            (letter_of q (comes_next? (independent masks) k (length w) (next_by k starts places (packed layout e)) q) (subst T (sym (comes plain q h)) a))))
-            (test (bit P q)))
-            (test (bit I q)))
+  -- so what the finder is told is true
+  pub hands : (termed : Bool) → (termed ≡ false → (a b : ℕ) → T (independent masks (p.letter a) (p.letter b)) → T (p.may a b)) → Hands termed (found (packed layout e)) I P
+  hands termed free = (
+    (λ q b. let g = given_at q b in subst (Mem q) (sym same) (filter_of add (below_of k q g.0) g.1)),
+    λ plain q m b. let i = filter_at add (below k) (subst (Mem q) same m) in passed_at (free plain) q (below_at k q i.0) b i.1,
+  )
+    where
+      same : found (packed layout e) ≡ filter add (below k)
+      same = r.finds e prefix
 
   -- the letters whose cursors give it are those of which it can have one less
   pub handed_removable : G ≡ removable_set p w e

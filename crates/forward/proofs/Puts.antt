@@ -1,5 +1,5 @@
 -- A step of the merge in the table: the next record of a total is put, or there is none, or it does not fit.
-use mathlib.Core.Path.{◌≡◌, sym, ◌∙◌, ap, ap₂, subst}
+use mathlib.Core.Path.{◌≡◌, sym, ◌∙◌, ap, ap₂, subst, subst₂}
 use mathlib.Core.Bool.{Bool, false}
 use Rattle.std.specs.Prelude.{Some}
 use mathlib.Core.List.{List, [], ◌∷◌, ◌++◌, append_assoc}
@@ -19,15 +19,14 @@ use Rattle.profile.specs.Tables.{layout, packed, record_length}
 use Rattle.profile.specs.Traces.{independent}
 use Rattle.profile.proofs.Lists.{mem_getd}
 use Rattle.parents.proofs.Ones.{passing_ones}
-use Rattle.letters.specs.Letters.{neither, tested_by}
-use Rattle.term_letters.specs.Letters.{letters_found}
+use Rattle.letters.specs.Letters.{Hands}
 use Rattle.cursors.specs.Cursors.{advanced}
 use Rattle.merge.specs.Merge.{givers, inherited, least_of, passing, united}
 use Rattle.records.specs.Records.{put_record}
 use Rattle.forward.specs.Forward.{Ready}
 use Rattle.forward.specs.Merging.{Merging, Placed, Steps, begun, records_between, totals}
 use Rattle.forward.proofs.Drafts.{begun_part, begun_put, totals_suc}
-use Rattle.forward.proofs.Handed.{handed_letters, handed_removable}
+use Rattle.forward.proofs.Handed.{handed_removable, hands}
 use Rattle.forward.proofs.Steps.{next_forward, next_none, next_placed, next_some}
 use Rattle.forward.proofs.Totals.{found_letters}
 use Rattle.records.proofs.Halves.{addable_few, removable_few}
@@ -46,7 +45,7 @@ level_part p w table t from first D b e h =
 halves : (A R : ℕ) → A < 65536 → R < 65536 → bit_or A (R * 2 ^ 16 % 2 ^ 32) ≡ A + 65536 * R
 halves A R a b = ap (bit_or A) (shl_exact {a = R} 16 16 32 b (omega arith)) ∙ or_shifted_r R 16 A a ∙ omega arith
 
-module _ {p : Rules} {w : List ℕ} {room : ℕ} {starts places turns : List ℕ} {termed : Bool} {table : List ℕ} (r : Ready p w (length table) room starts places turns termed)
+module _ {p : Rules} {w : List ℕ} {room : ℕ} {found : List ℕ → List ℕ} {table : List ℕ} (r : Ready p w (length table) room found)
     {t from first j : ℕ} {cursors : List ℕ} (h : Merging p w table room t from first j cursors) where
   abbrev E : List (List ℕ)
   E = of_total p w (suc t)
@@ -79,26 +78,21 @@ module _ {p : Rules} {w : List ℕ} {room : ℕ} {starts places turns : List ℕ
       h.behind,
     )
 
-    -- the letters that can be added to it, where all are tested, and where the log has no terms
-    pub merge_found : (L : ℕ) → L ≡ union (λ x. 2 ^ x) (letters_found termed (independent p.profile.masks) p.profile.k (length w) starts places turns v)
-        → L ≡ addable_set p w (get_or E j [])
+    -- the letters that can be added to it
+    pub merge_found : (L : ℕ) → L ≡ union (λ x. 2 ^ x) (found v) → L ≡ addable_set p w (get_or E j [])
     merge_found L l =
         let q = next_some r t part part_drafted cursors long j h.placed v least in
         l ∙ ap (union (λ x. 2 ^ x)) (found_letters r (suc t) (get_or E j []) (mem_getd E j [] q.0) v q.1)
 
-    pub merge_handed : termed ≡ false → ((a b : ℕ) → T (independent p.profile.masks (p.letter a) (p.letter b)) → T (p.may a b)) → (I P L : ℕ)
+    pub merge_hands : (termed : Bool) → (termed ≡ false → (a b : ℕ) → T (independent p.profile.masks (p.letter a) (p.letter b)) → T (p.may a b)) → (I P : ℕ)
         → I ≡ inherited p.profile.k part cursors (givers part p.profile.k cursors)
         → P ≡ passing p.profile.k p.profile.masks (givers part p.profile.k cursors)
-        → L ≡ bit_or I (tested_by (independent p.profile.masks) p.profile.k (length w) starts places v (neither p.profile.k I P))
-        → L ≡ addable_set p w (get_or E j [])
-    merge_handed plain free I P L i s l =
+        → Hands termed (found v) I P
+    merge_hands termed free I P i s =
         let q = next_some r t part part_drafted cursors long j h.placed v least in
-        l ∙ ap (λ u. bit_or I (tested u (neither p.profile.k I P))) q.1
-        ∙ ap₂ (λ x y. bit_or x (tested (packed layout (get_or E j [])) (neither p.profile.k x y))) i s
-        ∙ handed_letters r t part part_drafted cursors long j h.placed q.0 free plain
-      where
-        tested : List ℕ → ℕ → ℕ
-        tested = tested_by (independent p.profile.masks) p.profile.k (length w) starts places
+        subst₂ (Hands termed (found v)) (sym i) (sym s)
+        (subst (λ u. Hands termed (found u) (inherited p.profile.k part cursors (givers part p.profile.k cursors)) (passing p.profile.k p.profile.masks (givers part p.profile.k cursors))) (sym q.1)
+        (hands r t part part_drafted cursors long j h.placed q.0 termed free))
 
     pub merge_put : (S L F n : ℕ) (after next : List ℕ) → first + j < room
         → S ≡ united p.profile.k p.profile.s p.profile.moves part cursors (givers part p.profile.k cursors) → next ≡ advanced p.profile.k part cursors (givers part p.profile.k cursors)

@@ -31,7 +31,7 @@ use Rattle.forward.proofs.Totals.{apart, counted}
 use Rattle.records.proofs.Halves.{bit_lower}
 use Rattle.records.specs.Drafts.{drafted, forward_set, letters_set, of_total}
 
-module _ {p : Rules} {w : List ℕ} {m room : ℕ} {starts places turns : List ℕ} {termed : Bool} (r : Ready p w m room starts places turns termed) (n : ℕ) (t : List ℕ)
+module _ {p : Rules} {w : List ℕ} {m room : ℕ} {found : List ℕ → List ℕ} (r : Ready p w m room found) (n : ℕ) (t : List ℕ)
     (written : t ≡ drafted p w (of_total p w n)) (cursors : List ℕ) (long : p.profile.k ≤ length cursors) where
   abbrev C : List (List ℕ)
   C = of_total p w n

@@ -1,7 +1,7 @@
 -- The prefixes of a total, for a good profile and log: their counts, their records, and the first of them.
 use mathlib.Core.Path.{◌≡◌, refl, sym, ◌∙◌, ap, ap₂, subst}
 use mathlib.Core.Logic.{◌≢◌}
-use mathlib.Core.Bool.{Bool, not}
+use mathlib.Core.Bool.{not}
 use mathlib.Core.List.Memᴰ
 use mathlib.Core.List.{List, [], ◌∷◌, ◌++◌, map, append-nil}
 use Prim.Native.Nat.{ℕ, ◌*◌, ◌%◌, ◌^◌}
@@ -15,7 +15,6 @@ use Rattle.profile.specs.Automata.{automaton, union}
 use Rattle.profile.specs.Lists.{Mem, below}
 use Rattle.profile.specs.Prefixes.{IsPrefix, at, closed?, less}
 use Rattle.profile.specs.Tables.{layout, packed}
-use Rattle.profile.specs.Traces.{independent}
 use Rattle.profile.proofs.Lists.{all_of, fst_of}
 use Rattle.theory.proofs.Looks.{pairs_cons}
 use Rattle.theory.proofs.Merge.{at_prefix, forward_first, level_at, level_first, level_left}
@@ -24,7 +23,6 @@ use Rattle.theory.proofs.Prefixes.{front_none, prefix_of_front, removable?}
 use Rattle.theory.proofs.Profiles.{lawful}
 use Rattle.theory.proofs.Unions.{union_none}
 use Rattle.counts.proofs.Packed.{Small}
-use Rattle.term_letters.specs.Letters.{letters_found}
 use Rattle.records.specs.Records.{put_record}
 use Rattle.forward.specs.Forward.{Ready}
 use Rattle.forward.specs.Merging.{begun, pairs, totals}
@@ -32,7 +30,7 @@ use Rattle.forward.proofs.Drafts.{begun_put}
 use Rattle.theory.proofs.Levels.{le_total}
 use Rattle.records.specs.Drafts.{draft, forward_set, letters_of, letters_set, of_total, removable_set}
 
-module _ {p : Rules} {w : List ℕ} {m room : ℕ} {starts places turns : List ℕ} {termed : Bool} (r : Ready p w m room starts places turns termed) where
+module _ {p : Rules} {w : List ℕ} {m room : ℕ} {found : List ℕ → List ℕ} (r : Ready p w m room found) where
   pub apart : (a b : ℕ) → T (p.may a b) → p.letter a ≢ p.letter b
   apart = r.log.apart
 
@@ -44,17 +42,12 @@ module _ {p : Rules} {w : List ℕ} {m room : ℕ} {starts places turns : List �
       (l.0, all_of (λ v. ltb v (2 ^ layout.width)) c (λ v q. lt→ltb v (2 ^ layout.width) (omega (arith, le_total q, l.2, left, r.log.short))), l.1)
 
   module _ (n : ℕ) (c : List ℕ) (i : Mem c (of_total p w n)) (v : List ℕ) (e : v ≡ packed layout c) where
-    abbrev found : List ℕ
-    found = letters_found termed (independent p.profile.masks) p.profile.k (length w) starts places turns v
-
-    -- the letters found by the places of the log's events
-    pub found_letters : found ≡ letters_of p w c
-    found_letters =
-        ap (letters_found termed (independent p.profile.masks) p.profile.k (length w) starts places turns) e
-        ∙ r.finds c (counted n c i).2
+    -- the letters found
+    pub found_letters : found v ≡ letters_of p w c
+    found_letters = ap found e ∙ r.finds c (counted n c i).2
 
     -- the record of c, of which no letter can be taken away
-    pub record_found : (S L : ℕ) → S ≡ forward_set p w c → L ≡ union (λ x. 2 ^ x) found → removable_set p w c ≡ 0
+    pub record_found : (S L : ℕ) → S ≡ forward_set p w c → L ≡ union (λ x. 2 ^ x) (found v) → removable_set p w c ≡ 0
         → v ++ (S ∷ L ∷ []) ≡ draft (forward_set p w) (letters_set p w) c
     record_found S L f l none =
         let last : L ≡ letters_set p w c = l ∙ ap (union (λ x. 2 ^ x)) found_letters ∙ omega (arith, none) in
@@ -83,7 +76,7 @@ module _ {p : Rules} {w : List ℕ} {m room : ℕ} {starts places turns : List �
         let z = ap (λ h. h q) (at_prefix p.may p.letter apart p.profile.k w r.log.letters (prefix_of_front p.may p.letter apart (front_none p.may w))) in
         T_not (eqb (at empty q) 0) (fst_of (not (eqb (at empty q) 0)) (closed? p.may p.letter w (less (at empty) q)) s) (subst (λ n. T (eqb n 0)) (sym z) tt))
 
-    pub first_record : (t : List ℕ) (S L : ℕ) → S ≡ 1 * 2 ^ p.profile.start % 2 ^ 32 → L ≡ union (λ x. 2 ^ x) (letters_found termed (independent p.profile.masks) p.profile.k (length w) starts places turns v)
+    pub first_record : (t : List ℕ) (S L : ℕ) → S ≡ 1 * 2 ^ p.profile.start % 2 ^ 32 → L ≡ union (λ x. 2 ^ x) (found v)
         → put_record t 0 (v ++ (S ∷ L ∷ [])) ≡ begun p w (totals p w 1) t
     first_record t S L s l =
         let f : S ≡ forward_set p w empty = s ∙ (shl_exact {a = 1} 1 p.profile.start 32 (omega arith) (omega (arith, r.profile.starts, r.profile.states.1)) ∙ one-mul (2 ^ p.profile.start))
@@ -92,7 +85,7 @@ module _ {p : Rules} {w : List ℕ} {m room : ℕ} {starts places turns : List �
         ∙ begun_put p w [] empty t refl
         ∙ ap (λ C. begun p w C t) (sym first_total)
 
-    pub first_pairs : (n : ℕ) → n ≡ length (letters_found termed (independent p.profile.masks) p.profile.k (length w) starts places turns v) → n ≡ pairs p w (totals p w 1)
+    pub first_pairs : (n : ℕ) → n ≡ length (found v) → n ≡ pairs p w (totals p w 1)
     first_pairs n h =
         h ∙ ap length (found_letters 0 empty empty_in v empty_packed)
         ∙ omega (arith, pairs_cons p.may p.letter p.profile.k w empty [], ap (pairs p w) first_total)

@@ -1,29 +1,25 @@
 -- Document 01, "Prefixes and their table": the forward pass, which puts the record of each prefix, one total after the other. While the table is built the
 -- last number of a record has the letters that can be added, and those of which one can be taken away.
-use Rattle.std.specs.Prelude.{Option, Some, None, ◌≡◌, Bool, List, ◌++◌, ℕ, ◌*◌, ◌≤◌, ◌<◌, length, drop}
+use Rattle.std.specs.Prelude.{Option, Some, None, ◌≡◌, List, ◌++◌, ℕ, ◌*◌, ◌≤◌, ◌<◌, length, drop}
 use Rattle.profile.specs.Limits.{most_records}
 use Rattle.profile.specs.Rules.{Rules, looks_by, prefixes_by}
 use Rattle.profile.specs.Prefixes.{IsPrefix, additions, at}
 use Rattle.profile.specs.Tables.{layout, packed, record_length}
-use Rattle.profile.specs.Traces.{independent}
 use Rattle.theory.proofs.Refusals.{GoodEvents, GoodProfile}
-use Rattle.term_letters.specs.Letters.{letters_found}
 use Rattle.forward.specs.declared.Filled.{Filled}
 use Rattle.records.specs.Drafts.{drafted, in_order}
 
--- by these places of events, and their turns where they have terms, the letters that can be added to each prefix of the events w are found
-abbrev pub Finds : Rules → List ℕ → List ℕ → List ℕ → List ℕ → Bool → Type 0
-Finds p w starts places turns termed = (c : List ℕ) → IsPrefix p.may p.letter w (at c)
-    → letters_found termed (independent p.profile.masks) p.profile.k (length w) starts places turns (packed layout c)
-    ≡ additions p.may p.letter p.profile.k w c
+-- the letters found for the numbers of counts of each prefix of the events w are those that can be added to it
+abbrev pub Finds : Rules → List ℕ → (List ℕ → List ℕ) → Type 0
+Finds p w found = (c : List ℕ) → IsPrefix p.may p.letter w (at c) → found (packed layout c) ≡ additions p.may p.letter p.profile.k w c
 
--- a good profile and log, a table of n numbers that `room` records fit, and places of events by which the letters that can be added to a prefix are found
-pub record Ready (p : Rules) (w : List ℕ) (n room : ℕ) (starts places turns : List ℕ) (termed : Bool) : Type 0 where
+-- a good profile and log, a table of n numbers that `room` records fit, and letters found that are those which can be added to a prefix
+pub record Ready (p : Rules) (w : List ℕ) (n room : ℕ) (found : List ℕ → List ℕ) : Type 0 where
   pub profile : GoodProfile p.profile
   pub log : GoodEvents p w
   pub fits : record_length layout * room ≤ n
   pub few : room ≤ most_records
-  pub finds : Finds p w starts places turns termed
+  pub finds : Finds p w found
 
 -- the table `before` became `after`: it holds the records of all prefixes, or these do not fit
 abbrev pub Forward : Rules → List ℕ → ℕ → List ℕ → List ℕ → Option Filled → Type 0

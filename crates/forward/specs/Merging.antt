@@ -1,18 +1,15 @@
 -- Between one total and the next, for the functions that the forward pass is made of: a total is put record by record, by a merge of the total before it.
-use Rattle.std.specs.Prelude.{Option, Some, None, ◌≡◌, Bool, List, [], ◌++◌, ℕ, suc, ◌+◌, ◌-◌, ◌*◌, ◌≤◌, ◌<◌, length, get_or, take, drop}
+use Rattle.std.specs.Prelude.{Option, Some, None, ◌≡◌, List, [], ◌++◌, ℕ, suc, ◌+◌, ◌-◌, ◌*◌, ◌≤◌, ◌<◌, length, get_or, take, drop}
 use Rattle.std.proofs.Math.Option.{none, some}
 use Rattle.profile.specs.Limits.{most_letters}
-use Rattle.profile.specs.Automata.{Profile}
 use Rattle.profile.specs.Rules.{Rules}
 use Rattle.profile.specs.Lists.{below, flat_map}
 use Rattle.profile.specs.Prefixes.{at}
 use Rattle.profile.specs.Tables.{layout, record_length}
-use Rattle.profile.specs.Traces.{independent}
 use Rattle.theory.proofs.Looks.{pairs_in}
 use Rattle.theory.proofs.Merge.{Cursor, extends?}
 use Rattle.counts.specs.Counts.{words}
 use Rattle.counts.specs.declared.Counts.{Counts}
-use Rattle.events.specs.Events.{all_keepers}
 use Rattle.cursors.specs.Cursors.{advanced}
 use Rattle.merge.specs.declared.Handed.{Handed}
 use Rattle.merge.specs.Merge.{givers, inherited, least_of, passing, united}
@@ -32,10 +29,6 @@ module _ (p : Rules) (w : List ℕ) where
   abbrev pub begun : List (List ℕ) → List ℕ → List ℕ
   begun C t = drafted p w C ++ drop (record_length layout * length C) t
 
--- what is computed once for all records: the letters that keep each letter from coming next
-abbrev pub Prepared : Rules → List ℕ → Type 0
-Prepared p keepers = (keepers ≡ all_keepers (independent p.profile.masks) p.profile.k)
-
 -- the records of the table from record a on and before record b
 abbrev pub records_between : List ℕ → ℕ → ℕ → List ℕ
 records_between t a b = take (record_length layout * b - record_length layout * a) (drop (record_length layout * a) t)
@@ -47,12 +40,8 @@ pub record Begun (p : Rules) (w table : List ℕ) (room t from first : ℕ) : Ty
   pub inside : first ≤ room
   pub written : table ≡ begun p w (totals p w (suc t)) table
 
-abbrev pub Standing : Rules → List ℕ → List ℕ → Part → List ℕ → List ℕ → List ℕ → Bool → Type 0
-Standing p w table a starts places turns termed = Ready p w (length table) a.room starts places turns termed × Begun p w table a.room a.t a.from a.first
-
--- where total t + 1 stands, if it has n records
-abbrev pub part_behind : Part → ℕ → Part
-part_behind a n = record { room = a.room; t = a.t + 1; from = a.first; first = a.first + n }
+abbrev pub Standing : Rules → List ℕ → List ℕ → ℕ → Part → (List ℕ → List ℕ) → Type 0
+Standing p w table room a found = Ready p w (length table) room found × Begun p w table room a.t a.from a.first
 
 -- total t + 1 is put behind them, or does not fit
 abbrev pub Grows : Rules → List ℕ → ℕ → ℕ → ℕ → List ℕ → List ℕ → Option (ℕ × ℕ) → Type 0
@@ -78,9 +67,8 @@ pub record Merging (p : Rules) (w table : List ℕ) (room t from first j : ℕ) 
   pub long : most_letters ≤ length cursors
   pub placed : Placed p w t j cursors
 
-abbrev pub Halfway : Rules → List ℕ → List ℕ → Part → ℕ → List ℕ → List ℕ → List ℕ → List ℕ → Bool → Type 0
-Halfway p w table a j cursors starts places turns termed =
-    Ready p w (length table) a.room starts places turns termed × Merging p w table a.room a.t a.from a.first j cursors
+abbrev pub Halfway : Rules → List ℕ → List ℕ → ℕ → Part → ℕ → List ℕ → (List ℕ → List ℕ) → Type 0
+Halfway p w table room a j cursors found = Ready p w (length table) room found × Merging p w table room a.t a.from a.first j cursors
 
 -- record j of total t + 1 is put, or there is none, or it does not fit
 abbrev pub Steps : Rules → List ℕ → ℕ → ℕ → ℕ → ℕ → List ℕ → List ℕ → List ℕ → Option (Option ℕ) → Type 0
@@ -94,12 +82,12 @@ Steps p w room t first j before after cursors (Some (Some n)) =
     × Placed p w t (suc j) cursors
 
 -- the counts that come next by the cursors, the letters of these, and what the records there hand on; the cursors move on
-abbrev pub Comes : Profile → List ℕ → List ℕ → List ℕ → Option (Counts × ℕ × Handed) → Type 0
-Comes p t before after None = least_of t p.k before ≡ none
-Comes p t before after (Some n) =
-    (least_of t p.k before ≡ some (words n.0))
-    × (n.2.forward ≡ united p.k p.s p.moves t before (givers t p.k before))
-    × (n.2.letters ≡ inherited p.k t before (givers t p.k before))
-    × (n.2.passed ≡ passing p.k p.masks (givers t p.k before))
-    × (after ≡ advanced p.k t before (givers t p.k before))
-    × (n.1 ≡ givers t p.k before)
+abbrev pub Comes : ℕ → ℕ → List ℕ → List ℕ → List ℕ → List ℕ → List ℕ → Option (Counts × ℕ × Handed) → Type 0
+Comes k s masks moves t before after None = least_of t k before ≡ none
+Comes k s masks moves t before after (Some n) =
+    (least_of t k before ≡ some (words n.0))
+    × (n.2.forward ≡ united k s moves t before (givers t k before))
+    × (n.2.letters ≡ inherited k t before (givers t k before))
+    × (n.2.passed ≡ passing k masks (givers t k before))
+    × (after ≡ advanced k t before (givers t k before))
+    × (n.1 ≡ givers t k before)

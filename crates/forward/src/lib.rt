@@ -1,26 +1,24 @@
 // The forward pass: the records of all prefixes, one total after the other; document 01, "Prefixes and their table".
 #![tactic(auto)]
 
-ghost use Rattle.std.specs.Prelude.{◌≡◌, [], ◌∷◌, ◌++◌, suc, ◌+◌, ◌*◌, ◌≤◌, ◌<◌, length, replicate};
-ghost use Rattle.profile.specs.Limits.{most_letters};
+ghost use Rattle.std.specs.Prelude.{◌≡◌, [], ◌∷◌, ◌++◌, suc, ◌+◌, ◌*◌, ◌≤◌, length, replicate};
+ghost use Rattle.profile.specs.Limits.{most_letters, most_states};
 ghost use Rattle.profile.specs.Automata.{lent};
-ghost use Rattle.profile.specs.Refusals.{longest};
 ghost use Rattle.profile.specs.Tables.{layout, record_length};
-ghost use Rattle.profile.specs.Traces.{independent};
 ghost use Rattle.terms.specs.Coded.{rules_of};
 ghost use Rattle.counts.specs.Counts.{words};
-ghost use Rattle.events.specs.Events.{all_keepers};
 ghost use Rattle.cursors.specs.Cursors.{started};
 ghost use Rattle.records.specs.Records.{put_record};
+ghost use Rattle.rows.specs.Rows.{by_letter};
 ghost use Rattle.forward.specs.Forward.{Forward, Ready};
-ghost use Rattle.forward.specs.Merging.{Comes, Grows, Halfway, Prepared, Standing, Steps, begun, pairs, part_behind, records_between, totals};
+ghost use Rattle.forward.specs.Merging.{Comes, Grows, Halfway, Standing, Steps, begun, pairs, records_between, totals};
 
 use counts::Counts;
+use letters::Finder;
 use merge::Handed;
-use profile::limits::{MOST_LETTERS, Place};
-use profile::{Places, Profile};
+use profile::Profile;
+use profile::limits::{MOST_LETTERS, MOST_MOVES};
 use records::RECORD;
-use rows::Rows;
 
 // The bits of the half of a record's last number that has the letters that can be added; above it are those that lead to the record.
 const HALF: u32 = 16;
@@ -32,54 +30,61 @@ pub struct Filled {
     pub looks: u64,
 }
 
-// Where total t stands in a table that `room` records fit: from record `from` to before record `first`, at which the
-// next total begins.
+// What a pass goes by: the profile, its moves by letter, the log, and what finds the letters that can be added; `room` records fit the table.
+#[derive_where(Clone, Copy)]
+struct Pass<'a, F> {
+    profile: &'a Profile<'a>,
+    rows: &'a [u32; MOST_MOVES],
+    log: &'a [u8],
+    finder: &'a F,
+    room: usize,
+}
+
+// Where total t stands in the table: from record `from` to before record `first`, at which the next total begins.
 #[derive(Clone, Copy)]
 struct Part {
-    room: usize,
     t: usize,
     from: usize,
     first: usize,
 }
 
 // Puts the record of the empty prefix; the number of letters that can be added to it.
-fn put_first(
-    table: &mut [u32],
-    profile: &Profile,
-    keepers: &[u32; MOST_LETTERS],
-    log: &[u8],
-    placed: &Places,
-    turns: &[Place],
-    termed: bool,
-) -> u32
-    requires keepers_value { keepers.now ≡ all_keepers (independent profile.now.masks.now) profile.now.shape.k }
-    requires ready { Ready (rules_of (lent profile.now) termed) log.now (length table.old) 1 placed.now.starts.now placed.now.places.now turns.now termed }
-    ensures { (result ≡ pairs (rules_of (lent profile.now) termed) log.now (totals (rules_of (lent profile.now) termed) log.now 1))
-        × (table.new ≡ begun (rules_of (lent profile.now) termed) log.now (totals (rules_of (lent profile.now) termed) log.now 1) table.old) }
+fn put_first<F: Finder>(table: &mut [u32], pass: &Pass<F>) -> u32
+    requires { Ready (rules_of (lent pass.now.profile.now) F.termed) pass.now.log.now (length table.old) 1 (F.found pass.now.finder.now) }
+    ensures { (result ≡ pairs (rules_of (lent pass.now.profile.now) F.termed) pass.now.log.now (totals (rules_of (lent pass.now.profile.now) F.termed) pass.now.log.now 1))
+        × (table.new ≡ begun (rules_of (lent pass.now.profile.now) F.termed) pass.now.log.now (totals (rules_of (lent pass.now.profile.now) F.termed) pass.now.log.now 1) table.old) }
 {
-    let k = profile.shape.k;
-    let start = profile.shape.start;
+    let start = pass.profile.shape.start;
     let c = counts::none_counted();
-    let letters = if termed {
-        term_letters::addable_in_terms(c, k, profile.masks, keepers, log.len(), placed, turns)
-    } else {
-        letters::addable(c, k, profile.masks, keepers, log.len(), placed)
-    };
+    let letters = pass.finder.addable(c);
     records::put(table, 0, c, 1u32 << start, letters.set);
     letters.number
 }
 
 // The next counts by the cursors, of the total after the one in `level`, the letters that lead to them, and what the records from which these lead hand
 // on; none where there are none. Their cursors move on.
-fn next_counts(level: &[u32], rows: &Rows, cursors: &mut [usize]) -> Option<(Counts, u32, Handed)>
-    requires { (rows.now.profile.shape.k ≤ most_letters)
-        × (most_letters ≤ length cursors.old)
-        × (rows.now.profile.shape.k ≤ length rows.now.profile.masks.now) }
-    ensures { Comes (lent rows.now.profile) level.now cursors.old cursors.new result }
+fn next_counts(
+    level: &[u32],
+    profile: &Profile,
+    rows: &[u32; MOST_MOVES],
+    cursors: &mut [usize],
+) -> Option<(Counts, u32, Handed)>
+    requires k_le_most_letters { (profile.now.shape.k ≤ most_letters) × (profile.now.shape.s ≤ most_states) × (most_letters ≤ length cursors.old) × (profile.now.shape.k ≤ length profile.now.masks.now) }
+    requires rows_value { rows.now ≡ by_letter profile.now.shape.k profile.now.shape.s profile.now.moves.now }
+    ensures { Comes profile.now.shape.k profile.now.shape.s profile.now.masks.now profile.now.moves.now level.now cursors.old cursors.new result }
 {
-    let k = rows.profile.shape.k;
+    let k = profile.shape.k;
     let (c, set) = merge::least_counts(level, k, cursors)?;
-    let handed = merge::unite(level, rows, cursors, set);
+    let handed = merge::unite(
+        level,
+        profile.moves,
+        rows,
+        profile.masks,
+        k,
+        profile.shape.s,
+        cursors,
+        set,
+    );
     cursors::advance(level, k, cursors, set);
     Some((c, set, handed))
 }
@@ -94,58 +99,29 @@ fn put_in(table: &mut [u32], first: usize, j: usize, c: Counts, forward: u32, la
 }
 
 // Puts record j of the total behind the part, if there is one, and tells the number of letters that can be added to it; `None` where it does not fit.
-fn merge_next(
+fn merge_next<F: Finder>(
     table: &mut [u32],
+    pass: &Pass<F>,
     part: Part,
     j: usize,
-    rows: &Rows,
-    keepers: &[u32; MOST_LETTERS],
-    log: &[u8],
-    placed: &Places,
     cursors: &mut [usize],
-    turns: &[Place],
-    termed: bool,
 ) -> Option<Option<u32>>
-    requires halfway { Halfway (rules_of (lent rows.now.profile) termed) log.now table.old part j cursors.old placed.now.starts.now placed.now.places.now turns.now termed }
-    requires prepared { Prepared (rules_of (lent rows.now.profile) termed) keepers.now }
-    ensures { Steps (rules_of (lent rows.now.profile) termed) log.now part.room part.t part.first j table.old table.new cursors.new result }
+    requires halfway { Halfway (rules_of (lent pass.now.profile.now) F.termed) pass.now.log.now table.old pass.now.room part j cursors.old (F.found pass.now.finder.now) }
+    requires prepared { (pass.now.rows.now ≡ by_letter pass.now.profile.now.shape.k pass.now.profile.now.shape.s pass.now.profile.now.moves.now) }
+    ensures { Steps (rules_of (lent pass.now.profile.now) F.termed) pass.now.log.now pass.now.room part.t part.first j table.old table.new cursors.new result }
 {
-    let k = rows.profile.shape.k;
-    let room = part.room;
+    let room = pass.room;
     let first = part.first;
     let start = RECORD * part.from;
     let end = RECORD * first;
-    let next = next_counts(&table[start..end], rows, cursors);
+    let next = next_counts(&table[start..end], pass.profile, pass.rows, cursors);
     match next {
         None => Some(None),
         Some((c, from, handed)) => {
             if first + j < room {
-                // Chosen here and in `put_first`, not in a function of its own: the compiler then puts the tests into the loop.
-                let set = if termed {
-                    let found = term_letters::addable_in_terms(
-                        c,
-                        k,
-                        rows.profile.masks,
-                        keepers,
-                        log.len(),
-                        placed,
-                        turns,
-                    );
-                    found.set
-                } else {
-                    // What is handed on can be added. What may pass one of the letters that lead here, and is not handed on, cannot. The others are tested.
-                    let open = letters::in_neither(k, handed.letters, handed.passed);
-                    handed.letters
-                        | letters::tested(
-                            c,
-                            k,
-                            rows.profile.masks,
-                            keepers,
-                            log.len(),
-                            placed,
-                            open,
-                        )
-                };
+                let set = pass
+                    .finder
+                    .addable_with(c, handed.letters, handed.passed);
                 put_in(table, first, j, c, handed.forward, set | (from << HALF));
                 Some(Some(u32::count_ones(set)))
             } else {
@@ -168,76 +144,44 @@ fn first_cursors(table: &[u32], part: Part, k: usize) -> [usize; MOST_LETTERS]
 }
 
 // Puts the records of the total behind the part: so many, with the pairs of one of them and a letter that can be added to it; none where they do not fit.
-fn fill_total(
-    table: &mut [u32],
-    part: Part,
-    rows: &Rows,
-    keepers: &[u32; MOST_LETTERS],
-    log: &[u8],
-    placed: &Places,
-    turns: &[Place],
-    termed: bool,
-) -> Option<(usize, u64)>
-    requires { Standing (rules_of (lent rows.now.profile) termed) log.now table.old part placed.now.starts.now placed.now.places.now turns.now termed × Prepared (rules_of (lent rows.now.profile) termed) keepers.now }
-    ensures { Grows (rules_of (lent rows.now.profile) termed) log.now part.room part.t part.first table.old table.new result }
+fn fill_total<F: Finder>(table: &mut [u32], pass: &Pass<F>, part: Part) -> Option<(usize, u64)>
+    requires standing { Standing (rules_of (lent pass.now.profile.now) F.termed) pass.now.log.now table.old pass.now.room part (F.found pass.now.finder.now) }
+    requires prepared { (pass.now.rows.now ≡ by_letter pass.now.profile.now.shape.k pass.now.profile.now.shape.s pass.now.profile.now.moves.now) }
+    ensures { Grows (rules_of (lent pass.now.profile.now) F.termed) pass.now.log.now pass.now.room part.t part.first table.old table.new result }
 {
-    let mut cursors = first_cursors(table, part, rows.profile.shape.k);
+    let mut cursors = first_cursors(table, part, pass.profile.shape.k);
     let mut pairs = 0u64;
     let mut j = 0;
     // Kept: a `for` has no end to go to, since only the merge tells how many records the total has.
-    while let Some(n) = merge_next(
-        table,
-        part,
-        j,
-        rows,
-        keepers,
-        log,
-        placed,
-        &mut cursors,
-        turns,
-        termed,
-    )? {
+    while let Some(n) = merge_next(table, pass, part, j, &mut cursors)? {
         pairs += n as u64;
         j += 1;
     }
     Some((j, pairs))
 }
 
-// Where the total behind the part stands, which has so many records.
-fn next_part(part: Part, records: usize) -> Part
-    requires { (part.t < longest) × (part.first + records ≤ part.room) }
-    ensures { result ≡ part_behind part records }
-{
-    Part {
-        room: part.room,
-        t: part.t + 1,
-        from: part.first,
-        first: part.first + records,
-    }
-}
-
 // Puts the records of the totals behind the part, where those up to it have `number` pairs of a record and a letter that can be added.
-fn fill_totals(
+fn fill_totals<F: Finder>(
     table: &mut [u32],
+    pass: &Pass<F>,
     part: Part,
     number: u32,
-    rows: &Rows,
-    keepers: &[u32; MOST_LETTERS],
-    log: &[u8],
-    placed: &Places,
-    turns: &[Place],
-    termed: bool,
 ) -> Option<Filled>
-    requires standing { Standing (rules_of (lent rows.now.profile) termed) log.now table.old part placed.now.starts.now placed.now.places.now turns.now termed }
-    requires t_in_bounds { ((part.t ≤ length log.now) × (number ≡ pairs (rules_of (lent rows.now.profile) termed) log.now (totals (rules_of (lent rows.now.profile) termed) log.now (suc part.t)))) × Prepared (rules_of (lent rows.now.profile) termed) keepers.now }
-    ensures { Forward (rules_of (lent rows.now.profile) termed) log.now part.room table.old table.new result }
+    requires standing { Standing (rules_of (lent pass.now.profile.now) F.termed) pass.now.log.now table.old pass.now.room part (F.found pass.now.finder.now) }
+    requires prepared { (pass.now.rows.now ≡ by_letter pass.now.profile.now.shape.k pass.now.profile.now.shape.s pass.now.profile.now.moves.now) }
+    requires t_in_bounds { (part.t ≤ length pass.now.log.now) × (number ≡ pairs (rules_of (lent pass.now.profile.now) F.termed) pass.now.log.now (totals (rules_of (lent pass.now.profile.now) F.termed) pass.now.log.now (suc part.t))) }
+    ensures { Forward (rules_of (lent pass.now.profile.now) F.termed) pass.now.log.now pass.now.room table.old table.new result }
 {
     let mut at = part;
     let mut looks = number as u64;
     // Kept: the part has the number of its total, which the next part comes from; a `for` would count the totals twice.
-    while at.t < log.len() {
-        let (records, pairs) = fill_total(table, at, rows, keepers, log, placed, turns, termed)?;
-        at = next_part(at, records);
+    while at.t < pass.log.len() {
+        let (records, pairs) = fill_total(table, pass, at)?;
+        at = Part {
+            t: at.t + 1,
+            from: at.first,
+            first: at.first + records,
+        };
         looks += pairs;
     }
     Some(Filled {
@@ -247,31 +191,33 @@ fn fill_totals(
 }
 
 // Fills the records of all prefixes, where `room` records fit.
-pub fn fill_forward(
+pub fn fill_forward<F: Finder>(
     table: &mut [u32],
     room: usize,
     profile: &Profile,
     log: &[u8],
-    placed: &Places,
-    turns: &[Place],
-    termed: bool,
+    finder: &F,
 ) -> Option<Filled>
-    requires { Ready (rules_of (lent profile.now) termed) log.now (length table.old) room placed.now.starts.now placed.now.places.now turns.now termed }
-    ensures { Forward (rules_of (lent profile.now) termed) log.now room table.old table.new result }
+    requires { Ready (rules_of (lent profile.now) F.termed) log.now (length table.old) room (F.found finder.now) }
+    ensures { Forward (rules_of (lent profile.now) F.termed) log.now room table.old table.new result }
 {
     if room == 0 {
         return None;
     }
-    let keepers = events::all_keepers(profile.masks, profile.shape.k);
-    let number = put_first(table, profile, &keepers, log, placed, turns, termed);
-    let rows = Rows::of(profile);
+    let mut rows = [0u32; MOST_MOVES];
+    rows::by_letter(profile.moves, profile.shape.k, profile.shape.s, &mut rows);
+    let pass = Pass {
+        profile,
+        rows: &rows,
+        log,
+        finder,
+        room,
+    };
+    let number = put_first(table, &pass);
     let part = Part {
-        room: room,
         t: 0,
         from: 0,
         first: 1,
     };
-    fill_totals(
-        table, part, number, &rows, &keepers, log, placed, turns, termed,
-    )
+    fill_totals(table, &pass, part, number)
 }

@@ -1,8 +1,8 @@
 -- The letters that can be added to a prefix, by its numbers of counts and the places of each letter's events.
-use Rattle.std.specs.Prelude.{Bool, cond, List, map, ℕ, ◌+◌, ◌-◌, ◌^◌, get_or}
+use Rattle.std.specs.Prelude.{◌≡◌, Bool, false, cond, List, map, ℕ, T, ◌+◌, ◌-◌, ◌^◌, get_or}
 use Rattle.std.specs.Int.Bits.{bit_and, bit_or}
 use Rattle.profile.specs.Automata.{union}
-use Rattle.profile.specs.Lists.{below, filter}
+use Rattle.profile.specs.Lists.{Mem, below, filter}
 use Rattle.profile.specs.Tables.{count_field, layout}
 use Rattle.profile.specs.Traces.{bit}
 use Rattle.events.specs.Events.{comes_next?}
@@ -28,3 +28,8 @@ tested_by may k n starts places t G = union (letter_by may k n starts places t) 
 -- the letters below k that are in neither of two sets
 abbrev pub neither : ℕ → ℕ → ℕ → ℕ
 neither k a b = bit_and (2 ^ k - 1) (2 ^ 32 - 1 - bit_or a b)
+
+-- what a finder is told of the letters found: those of the set `handed` are among them and, without terms, those of `passed` that are among them are handed on
+abbrev pub Hands : Bool → List ℕ → ℕ → ℕ → Type 0
+Hands termed found handed passed =
+    ((x : ℕ) → T (bit handed x) → Mem x found) × (termed ≡ false → (x : ℕ) → Mem x found → T (bit passed x) → T (bit handed x))

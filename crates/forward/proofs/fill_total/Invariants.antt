@@ -6,9 +6,9 @@ use Rattle.forward.proofs.Fills.{Filling}
 use Rattle.forward.proofs.fill_total.Given as goal
 
 abbrev pub invariant-loop-n : goal.invariant-loop-n
-invariant-loop-n l =
-    Filling (rules_of (lent l.rows.profile) l.termed) l.log l.initial.table l.table l.part.room l.part.t l.part.first l.j l.pairs l.cursors
+invariant-loop-n g l =
+    Filling (rules_of (lent l.pass.profile.now) g.F.Finder.termed) l.pass.log.now l.initial.table l.table l.pass.room l.part.t l.part.first l.j l.pairs l.cursors
 
 abbrev pub decreases-loop-n : goal.decreases-loop-n
-decreases-loop-n l =
-    l.part.room - (l.part.first + l.j)
+decreases-loop-n g l =
+    l.pass.room - (l.part.first + l.j)

@@ -9,4 +9,4 @@ use Rattle.letters.proofs.tested.Goals as goal
 pub returns : goal.returns
 returns c =
     let a = c.args in
-    ap (λ S. bit_and S a.set) c.addable-found.ensures.0 ∙ tested_all (independent a.masks.now) a.k a.n a.placed.now.starts.now a.placed.now.places.now (words a.c) a.set
+    ap (λ S. bit_and S a.set) c.addable-found.ensures.0 ∙ tested_all (independent a.by.now.keepers.now.masks.now) a.by.now.keepers.now.k a.by.now.n a.by.now.placed.now.starts.now a.by.now.placed.now.places.now (words a.c) a.set

@@ -6,7 +6,7 @@ use Rattle.profile.specs.Traces.{independent}
 use Rattle.parents.proofs.Unions.{over_left, over_none, over_taken}
 use Rattle.letters.specs.Letters.{letter_by, tested_by}
 use Rattle.letters.proofs.tested_few.Goals as goal
-use Rattle.letters.proofs.tested_few.Goals.{else-x-k, then-x-k}
+use Rattle.letters.proofs.tested_few.Goals.{else-x-by, then-x-by}
 
 pub loop-rest-preserved : goal.loop-rest-preserved
 loop-rest-preserved c =
@@ -16,10 +16,10 @@ loop-rest-preserved c =
     let t = c.numbers-t.result in
     let r = bit_and n (n - 1) in
     let some : 0 < n = omega arith in
-    let f = letter_by (independent a.masks.now) a.k a.n a.placed.now.starts.now a.placed.now.places.now t in
-    let all = tested_by (independent a.masks.now) a.k a.n a.placed.now.starts.now a.placed.now.places.now t in (
+    let f = letter_by (independent a.by.now.keepers.now.masks.now) a.by.now.keepers.now.k a.by.now.n a.by.now.placed.now.starts.now a.by.now.placed.now.places.now t in
+    let all = tested_by (independent a.by.now.keepers.now.masks.now) a.by.now.keepers.now.k a.by.now.n a.by.now.placed.now.starts.now a.by.now.placed.now.places.now t in (
       omega (arith, and_le_r n (n - 1), l.invariant.0),
-      (elim c.if-x-k.branch [ then-x-k w ↦ ap (λ o. bit_or o (all r)) (w.out-is ∙ ap (bit_or l.out) w.tested_letter-out.ensures) ∙ over_taken f a.k n some l.invariant.0 l.out w.if-x-k.true ∙ l.invariant.1 | else-x-k w ↦ ap (λ o. bit_or o (all r)) w.out-is ∙ ap (bit_or l.out) (over_left f a.k n some l.invariant.0 w.if-x-k.false) ∙ l.invariant.1 ]),
+      (elim c.if-x-by.branch [ then-x-by w ↦ ap (λ o. bit_or o (all r)) (w.out-is ∙ ap (bit_or l.out) w.tested_letter-out.ensures) ∙ over_taken f a.by.now.keepers.now.k n some l.invariant.0 l.out w.if-x-by.true ∙ l.invariant.1 | else-x-by w ↦ ap (λ o. bit_or o (all r)) w.out-is ∙ ap (bit_or l.out) (over_left f a.by.now.keepers.now.k n some l.invariant.0 w.if-x-by.false) ∙ l.invariant.1 ]),
     )
 
 pub returns : goal.returns
@@ -27,7 +27,7 @@ returns c =
     let a = c.args in
     let l = c.loop-rest in
     let t = c.numbers-t.result in
-    let f = letter_by (independent a.masks.now) a.k a.n a.placed.now.starts.now a.placed.now.places.now t in
-    let all = tested_by (independent a.masks.now) a.k a.n a.placed.now.starts.now a.placed.now.places.now in
+    let f = letter_by (independent a.by.now.keepers.now.masks.now) a.by.now.keepers.now.k a.by.now.n a.by.now.placed.now.starts.now a.by.now.placed.now.places.now t in
+    let all = tested_by (independent a.by.now.keepers.now.masks.now) a.by.now.keepers.now.k a.by.now.n a.by.now.placed.now.starts.now a.by.now.placed.now.places.now in
     let e : 0 ≡ l.rest = omega arith in
-    sym (over_none f a.k l.out) ∙ ap (λ n. bit_or l.out (all t n)) e ∙ l.invariant.1 ∙ ap (λ v. all v a.set) c.numbers-t.ensures
+    sym (over_none f a.by.now.keepers.now.k l.out) ∙ ap (λ n. bit_or l.out (all t n)) e ∙ l.invariant.1 ∙ ap (λ v. all v a.set) c.numbers-t.ensures

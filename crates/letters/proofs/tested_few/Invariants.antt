@@ -9,7 +9,7 @@ use Rattle.letters.proofs.tested_few.Given as goal
 
 abbrev pub invariant-loop-rest : goal.invariant-loop-rest
 invariant-loop-rest l =
-    (l.rest < 2 ^ 32) × (bit_or l.out (tested_by (independent l.masks) l.k l.n l.placed.starts.now l.placed.places.now l.t l.rest) ≡ tested_by (independent l.masks) l.k l.n l.placed.starts.now l.placed.places.now l.t l.set)
+    (l.rest < 2 ^ 32) × (bit_or l.out (tested_by (independent l.by.keepers.now.masks.now) l.by.keepers.now.k l.by.n l.by.placed.now.starts.now l.by.placed.now.places.now l.t l.rest) ≡ tested_by (independent l.by.keepers.now.masks.now) l.by.keepers.now.k l.by.n l.by.placed.now.starts.now l.by.placed.now.places.now l.t l.set)
 
 abbrev pub decreases-loop-rest : goal.decreases-loop-rest
 decreases-loop-rest l = l.rest

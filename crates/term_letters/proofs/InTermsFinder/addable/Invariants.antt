@@ -1,4 +1,4 @@
--- `term_letters::addable_in_terms` meets its contract. The loop's invariant: the letters below x are done.
+-- The `addable` of `InTerms` meets its contract. The loop's invariant: the letters below x are done.
 use mathlib.Core.Path.{◌≡◌}
 use mathlib.Core.Bool.{Bool, ◌&&◌}
 use mathlib.Core.List.{List}
@@ -9,7 +9,7 @@ use Rattle.profile.specs.Lists.{below, filter}
 use Rattle.profile.specs.Traces.{independent}
 use Rattle.events.specs.Events.{comes_next?}
 use Rattle.term_events.specs.InTerms.{in_term?}
-use Rattle.term_letters.proofs.addable_in_terms.Given as goal
+use Rattle.term_letters.proofs.InTermsFinder.addable.Given as goal
 
 -- the test of the loop
 abbrev pub passes : (ℕ → ℕ → Bool) → ℕ → ℕ → List ℕ → List ℕ → ℕ → Bool
@@ -17,5 +17,5 @@ passes may k n next after x = comes_next? may k n next x && in_term? k next afte
 
 abbrev pub invariant-loop-x : goal.invariant-loop-x
 invariant-loop-x l =
-    (l.number ≤ l.x) × (l.set ≡ union (λ y. 2 ^ y) (filter (passes (independent l.masks) l.k l.n l.next l.after) (below l.x)))
-    × (l.number ≡ length (filter (passes (independent l.masks) l.k l.n l.next l.after) (below l.x)))
+    (l.number ≤ l.x) × (l.set ≡ union (λ y. 2 ^ y) (filter (passes (independent l.keepers.masks.now) l.keepers.k l.self.n l.next l.after) (below l.x)))
+    × (l.number ≡ length (filter (passes (independent l.keepers.masks.now) l.keepers.k l.self.n l.next l.after) (below l.x)))
