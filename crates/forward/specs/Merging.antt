@@ -2,6 +2,7 @@
 use Rattle.std.specs.Prelude.{Option, Some, None, ◌≡◌, List, [], ◌++◌, ℕ, suc, ◌+◌, ◌-◌, ◌*◌, ◌≤◌, ◌<◌, length, get_or, take, drop}
 use Rattle.std.proofs.Math.Option.{none, some}
 use Rattle.profile.specs.Limits.{most_letters}
+use Rattle.profile.specs.Automata.{Profile}
 use Rattle.profile.specs.Rules.{Rules}
 use Rattle.profile.specs.Lists.{below, flat_map}
 use Rattle.profile.specs.Prefixes.{at}
@@ -82,12 +83,12 @@ Steps p w room t first j before after cursors (Some (Some n)) =
     × Placed p w t (suc j) cursors
 
 -- the counts that come next by the cursors, the letters of these, and what the records there hand on; the cursors move on
-abbrev pub Comes : ℕ → ℕ → List ℕ → List ℕ → List ℕ → List ℕ → List ℕ → Option (Counts × ℕ × Handed) → Type 0
-Comes k s masks moves t before after None = least_of t k before ≡ none
-Comes k s masks moves t before after (Some n) =
-    (least_of t k before ≡ some (words n.0))
-    × (n.2.forward ≡ united k s moves t before (givers t k before))
-    × (n.2.letters ≡ inherited k t before (givers t k before))
-    × (n.2.passed ≡ passing k masks (givers t k before))
-    × (after ≡ advanced k t before (givers t k before))
-    × (n.1 ≡ givers t k before)
+abbrev pub Comes : Profile → List ℕ → List ℕ → List ℕ → Option (Counts × ℕ × Handed) → Type 0
+Comes p t before after None = least_of t p.k before ≡ none
+Comes p t before after (Some n) =
+    (least_of t p.k before ≡ some (words n.0))
+    × (n.2.forward ≡ united p.k p.s p.moves t before (givers t p.k before))
+    × (n.2.letters ≡ inherited p.k t before (givers t p.k before))
+    × (n.2.passed ≡ passing p.k p.masks (givers t p.k before))
+    × (after ≡ advanced p.k t before (givers t p.k before))
+    × (n.1 ≡ givers t p.k before)

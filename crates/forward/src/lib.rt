@@ -2,14 +2,13 @@
 #![tactic(auto)]
 
 ghost use Rattle.std.specs.Prelude.{◌≡◌, [], ◌∷◌, ◌++◌, suc, ◌+◌, ◌*◌, ◌≤◌, length, replicate};
-ghost use Rattle.profile.specs.Limits.{most_letters, most_states};
+ghost use Rattle.profile.specs.Limits.{most_letters};
 ghost use Rattle.profile.specs.Automata.{lent};
 ghost use Rattle.profile.specs.Tables.{layout, record_length};
 ghost use Rattle.terms.specs.Coded.{rules_of};
 ghost use Rattle.counts.specs.Counts.{words};
 ghost use Rattle.cursors.specs.Cursors.{started};
 ghost use Rattle.records.specs.Records.{put_record};
-ghost use Rattle.rows.specs.Rows.{by_letter};
 ghost use Rattle.forward.specs.Forward.{Forward, Ready};
 ghost use Rattle.forward.specs.Merging.{Comes, Grows, Halfway, Standing, Steps, begun, pairs, records_between, totals};
 
@@ -17,8 +16,9 @@ use counts::Counts;
 use letters::Finder;
 use merge::Handed;
 use profile::Profile;
-use profile::limits::{MOST_LETTERS, MOST_MOVES};
+use profile::limits::MOST_LETTERS;
 use records::RECORD;
+use rows::Rows;
 
 // The bits of the half of a record's last number that has the letters that can be added; above it are those that lead to the record.
 const HALF: u32 = 16;
@@ -30,11 +30,10 @@ pub struct Filled {
     pub looks: u64,
 }
 
-// What a pass goes by: the profile, its moves by letter, the log, and what finds the letters that can be added; `room` records fit the table.
+// What a pass goes by: the profile with its moves by letter, the log, and what finds the letters that can be added; `room` records fit the table.
 #[derive_where(Clone, Copy)]
 struct Pass<'a, F> {
-    profile: &'a Profile<'a>,
-    rows: &'a [u32; MOST_MOVES],
+    rows: &'a Rows<'a>,
     log: &'a [u8],
     finder: &'a F,
     room: usize,
@@ -50,11 +49,11 @@ struct Part {
 
 // Puts the record of the empty prefix; the number of letters that can be added to it.
 fn put_first<F: Finder>(table: &mut [u32], pass: &Pass<F>) -> u32
-    requires { Ready (rules_of (lent pass.now.profile.now) F.termed) pass.now.log.now (length table.old) 1 (F.found pass.now.finder.now) }
-    ensures { (result ≡ pairs (rules_of (lent pass.now.profile.now) F.termed) pass.now.log.now (totals (rules_of (lent pass.now.profile.now) F.termed) pass.now.log.now 1))
-        × (table.new ≡ begun (rules_of (lent pass.now.profile.now) F.termed) pass.now.log.now (totals (rules_of (lent pass.now.profile.now) F.termed) pass.now.log.now 1) table.old) }
+    requires { Ready (rules_of (lent pass.now.rows.now.profile) F.termed) pass.now.log.now (length table.old) 1 (F.found pass.now.finder.now) }
+    ensures { (result ≡ pairs (rules_of (lent pass.now.rows.now.profile) F.termed) pass.now.log.now (totals (rules_of (lent pass.now.rows.now.profile) F.termed) pass.now.log.now 1))
+        × (table.new ≡ begun (rules_of (lent pass.now.rows.now.profile) F.termed) pass.now.log.now (totals (rules_of (lent pass.now.rows.now.profile) F.termed) pass.now.log.now 1) table.old) }
 {
-    let start = pass.profile.shape.start;
+    let start = pass.rows.profile.shape.start;
     let c = counts::none_counted();
     let letters = pass.finder.addable(c);
     records::put(table, 0, c, 1u32 << start, letters.set);
@@ -63,28 +62,15 @@ fn put_first<F: Finder>(table: &mut [u32], pass: &Pass<F>) -> u32
 
 // The next counts by the cursors, of the total after the one in `level`, the letters that lead to them, and what the records from which these lead hand
 // on; none where there are none. Their cursors move on.
-fn next_counts(
-    level: &[u32],
-    profile: &Profile,
-    rows: &[u32; MOST_MOVES],
-    cursors: &mut [usize],
-) -> Option<(Counts, u32, Handed)>
-    requires k_le_most_letters { (profile.now.shape.k ≤ most_letters) × (profile.now.shape.s ≤ most_states) × (most_letters ≤ length cursors.old) × (profile.now.shape.k ≤ length profile.now.masks.now) }
-    requires rows_value { rows.now ≡ by_letter profile.now.shape.k profile.now.shape.s profile.now.moves.now }
-    ensures { Comes profile.now.shape.k profile.now.shape.s profile.now.masks.now profile.now.moves.now level.now cursors.old cursors.new result }
+fn next_counts(level: &[u32], rows: &Rows, cursors: &mut [usize]) -> Option<(Counts, u32, Handed)>
+    requires { (rows.now.profile.shape.k ≤ most_letters)
+        × (most_letters ≤ length cursors.old)
+        × (rows.now.profile.shape.k ≤ length rows.now.profile.masks.now) }
+    ensures { Comes (lent rows.now.profile) level.now cursors.old cursors.new result }
 {
-    let k = profile.shape.k;
+    let k = rows.profile.shape.k;
     let (c, set) = merge::least_counts(level, k, cursors)?;
-    let handed = merge::unite(
-        level,
-        profile.moves,
-        rows,
-        profile.masks,
-        k,
-        profile.shape.s,
-        cursors,
-        set,
-    );
+    let handed = merge::unite(level, rows, cursors, set);
     cursors::advance(level, k, cursors, set);
     Some((c, set, handed))
 }
@@ -106,15 +92,14 @@ fn merge_next<F: Finder>(
     j: usize,
     cursors: &mut [usize],
 ) -> Option<Option<u32>>
-    requires halfway { Halfway (rules_of (lent pass.now.profile.now) F.termed) pass.now.log.now table.old pass.now.room part j cursors.old (F.found pass.now.finder.now) }
-    requires prepared { (pass.now.rows.now ≡ by_letter pass.now.profile.now.shape.k pass.now.profile.now.shape.s pass.now.profile.now.moves.now) }
-    ensures { Steps (rules_of (lent pass.now.profile.now) F.termed) pass.now.log.now pass.now.room part.t part.first j table.old table.new cursors.new result }
+    requires { Halfway (rules_of (lent pass.now.rows.now.profile) F.termed) pass.now.log.now table.old pass.now.room part j cursors.old (F.found pass.now.finder.now) }
+    ensures { Steps (rules_of (lent pass.now.rows.now.profile) F.termed) pass.now.log.now pass.now.room part.t part.first j table.old table.new cursors.new result }
 {
     let room = pass.room;
     let first = part.first;
     let start = RECORD * part.from;
     let end = RECORD * first;
-    let next = next_counts(&table[start..end], pass.profile, pass.rows, cursors);
+    let next = next_counts(&table[start..end], pass.rows, cursors);
     match next {
         None => Some(None),
         Some((c, from, handed)) => {
@@ -145,11 +130,10 @@ fn first_cursors(table: &[u32], part: Part, k: usize) -> [usize; MOST_LETTERS]
 
 // Puts the records of the total behind the part: so many, with the pairs of one of them and a letter that can be added to it; none where they do not fit.
 fn fill_total<F: Finder>(table: &mut [u32], pass: &Pass<F>, part: Part) -> Option<(usize, u64)>
-    requires standing { Standing (rules_of (lent pass.now.profile.now) F.termed) pass.now.log.now table.old pass.now.room part (F.found pass.now.finder.now) }
-    requires prepared { (pass.now.rows.now ≡ by_letter pass.now.profile.now.shape.k pass.now.profile.now.shape.s pass.now.profile.now.moves.now) }
-    ensures { Grows (rules_of (lent pass.now.profile.now) F.termed) pass.now.log.now pass.now.room part.t part.first table.old table.new result }
+    requires { Standing (rules_of (lent pass.now.rows.now.profile) F.termed) pass.now.log.now table.old pass.now.room part (F.found pass.now.finder.now) }
+    ensures { Grows (rules_of (lent pass.now.rows.now.profile) F.termed) pass.now.log.now pass.now.room part.t part.first table.old table.new result }
 {
-    let mut cursors = first_cursors(table, part, pass.profile.shape.k);
+    let mut cursors = first_cursors(table, part, pass.rows.profile.shape.k);
     let mut pairs = 0u64;
     let mut j = 0;
     // Kept: a `for` has no end to go to, since only the merge tells how many records the total has.
@@ -167,10 +151,9 @@ fn fill_totals<F: Finder>(
     part: Part,
     number: u32,
 ) -> Option<Filled>
-    requires standing { Standing (rules_of (lent pass.now.profile.now) F.termed) pass.now.log.now table.old pass.now.room part (F.found pass.now.finder.now) }
-    requires prepared { (pass.now.rows.now ≡ by_letter pass.now.profile.now.shape.k pass.now.profile.now.shape.s pass.now.profile.now.moves.now) }
-    requires t_in_bounds { (part.t ≤ length pass.now.log.now) × (number ≡ pairs (rules_of (lent pass.now.profile.now) F.termed) pass.now.log.now (totals (rules_of (lent pass.now.profile.now) F.termed) pass.now.log.now (suc part.t))) }
-    ensures { Forward (rules_of (lent pass.now.profile.now) F.termed) pass.now.log.now pass.now.room table.old table.new result }
+    requires standing { Standing (rules_of (lent pass.now.rows.now.profile) F.termed) pass.now.log.now table.old pass.now.room part (F.found pass.now.finder.now) }
+    requires t_in_bounds { (part.t ≤ length pass.now.log.now) × (number ≡ pairs (rules_of (lent pass.now.rows.now.profile) F.termed) pass.now.log.now (totals (rules_of (lent pass.now.rows.now.profile) F.termed) pass.now.log.now (suc part.t))) }
+    ensures { Forward (rules_of (lent pass.now.rows.now.profile) F.termed) pass.now.log.now pass.now.room table.old table.new result }
 {
     let mut at = part;
     let mut looks = number as u64;
@@ -204,10 +187,8 @@ pub fn fill_forward<F: Finder>(
     if room == 0 {
         return None;
     }
-    let mut rows = [0u32; MOST_MOVES];
-    rows::by_letter(profile.moves, profile.shape.k, profile.shape.s, &mut rows);
+    let rows = Rows::of(profile);
     let pass = Pass {
-        profile,
         rows: &rows,
         log,
         finder,

@@ -7,7 +7,7 @@ use Rattle.forward.proofs.fill_total.Given as goal
 
 abbrev pub invariant-loop-n : goal.invariant-loop-n
 invariant-loop-n g l =
-    Filling (rules_of (lent l.pass.profile.now) g.F.Finder.termed) l.pass.log.now l.initial.table l.table l.pass.room l.part.t l.part.first l.j l.pairs l.cursors
+    Filling (rules_of (lent l.pass.rows.now.profile) g.F.Finder.termed) l.pass.log.now l.initial.table l.table l.pass.room l.part.t l.part.first l.j l.pairs l.cursors
 
 abbrev pub decreases-loop-n : goal.decreases-loop-n
 decreases-loop-n g l =

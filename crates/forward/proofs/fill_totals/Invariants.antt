@@ -8,7 +8,7 @@ use Rattle.forward.proofs.fill_totals.Given as goal
 
 abbrev pub invariant-loop-at : goal.invariant-loop-at
 invariant-loop-at g l =
-    Reaching (rules_of (lent l.pass.profile.now) g.F.Finder.termed) l.pass.log.now l.initial.table l.table l.pass.room l.at.t l.at.from l.at.first l.looks
+    Reaching (rules_of (lent l.pass.rows.now.profile) g.F.Finder.termed) l.pass.log.now l.initial.table l.table l.pass.room l.at.t l.at.from l.at.first l.looks
 
 abbrev pub decreases-loop-at : goal.decreases-loop-at
 decreases-loop-at g l =

@@ -12,46 +12,43 @@ use Rattle.forward.proofs.merge_next.Goals as goal
 pub next_counts-next-requires : goal.next_counts-next-requires
 next_counts-next-requires g c =
     let h = c.requires in
-    let p = h.halfway.0.profile in
-    record {
-      k_le_most_letters = (p.relation.most, p.states.1, h.halfway.1.long, omega (arith, p.relation.long));
-      rows_value = h.prepared;
-    }
+    let p = h.0.profile in
+    (p.relation.most, h.1.long, omega (arith, p.relation.long))
 
 pub overflow_add-first : goal.overflow_add-first
-overflow_add-first g c = let h = c.requires.halfway in omega (arith, h.0.few, h.1.inside)
+overflow_add-first g c = let h = c.requires in omega (arith, h.0.few, h.1.inside)
 
 pub addable_with-set-requires : goal.addable_with-set-requires
 addable_with-set-requires g c =
     let a = c.args in
-    let h = c.requires.halfway in
+    let h = c.requires in
     let x = c.next_counts-next in
-    let q = a.pass.now.profile.now in
+    let q = a.pass.now.rows.now.profile in
     let level = records_between a.table.now a.part.from a.part.first in
-    let n = subst (Comes q.shape.k q.shape.s q.masks.now q.moves.now level a.cursors.now x.new.cursors) c.in-Some.is x.ensures in
+    let n = subst (Comes (lent q) level a.cursors.now x.new.cursors) c.in-Some.is x.ensures in
     merge_hands h.0 h.1 (words c.in-Some.c) n.0 g.F.Finder.termed (freely (lent q) g.F.Finder.termed) c.in-Some.handed.letters c.in-Some.handed.passed n.2 n.3
 
 pub put_in-requires : goal.put_in-requires
-put_in-requires g c = omega (arith, c.if-first-j.true, c.requires.halfway.0.fits)
+put_in-requires g c = omega (arith, c.if-first-j.true, c.requires.0.fits)
 
 pub returns-in-None : goal.returns-in-None
 returns-in-None g c =
     let a = c.args in
-    let h = c.requires.halfway in
+    let h = c.requires in
     let x = c.next_counts-next in
-    let q = a.pass.now.profile.now in
+    let q = a.pass.now.rows.now.profile in
     let level = records_between a.table.now a.part.from a.part.first in
-    let n = subst (Comes q.shape.k q.shape.s q.masks.now q.moves.now level a.cursors.now x.new.cursors) c.in-None.is x.ensures in
+    let n = subst (Comes (lent q) level a.cursors.now x.new.cursors) c.in-None.is x.ensures in
     (merge_none h.0 h.1 n, refl)
 
 pub returns-then-first-j : goal.returns-then-first-j
 returns-then-first-j g c =
     let a = c.args in
-    let h = c.requires.halfway in
+    let h = c.requires in
     let x = c.next_counts-next in
-    let q = a.pass.now.profile.now in
+    let q = a.pass.now.rows.now.profile in
     let level = records_between a.table.now a.part.from a.part.first in
-    let n = subst (Comes q.shape.k q.shape.s q.masks.now q.moves.now level a.cursors.now x.new.cursors) c.in-Some.is x.ensures in
+    let n = subst (Comes (lent q) level a.cursors.now x.new.cursors) c.in-Some.is x.ensures in
     let y = c.addable_with-set in
     let z = c.put_in in
     merge_put h.0 h.1 (words c.in-Some.c) n.0 c.in-Some.handed.forward y.result c.in-Some.from (ones y.result) z.new.table x.new.cursors
@@ -60,9 +57,9 @@ returns-then-first-j g c =
 pub returns-else-first-j : goal.returns-else-first-j
 returns-else-first-j g c =
     let a = c.args in
-    let h = c.requires.halfway in
+    let h = c.requires in
     let x = c.next_counts-next in
-    let q = a.pass.now.profile.now in
+    let q = a.pass.now.rows.now.profile in
     let level = records_between a.table.now a.part.from a.part.first in
-    let n = subst (Comes q.shape.k q.shape.s q.masks.now q.moves.now level a.cursors.now x.new.cursors) c.in-Some.is x.ensures in
+    let n = subst (Comes (lent q) level a.cursors.now x.new.cursors) c.in-Some.is x.ensures in
     merge_full h.0 h.1 (words c.in-Some.c) n.0 c.if-first-j.false
