@@ -1,7 +1,7 @@
 // The backward numbers of the table: document 01, "Prefixes and their table".
 #![tactic(auto)]
 
-ghost use Rattle.std.specs.Prelude.{◌≡◌, ℕ, ◌+◌, ◌*◌, ◌<◌, ◌≤◌, ◌++◌, length, drop, slice_index};
+ghost use Rattle.std.specs.Prelude.{◌≡◌, ℕ, ◌+◌, ◌*◌, ◌<◌, ◌≤◌, ◌++◌, length, drop, slice_index, Bool};
 ghost use Rattle.profile.specs.Limits.{most_letters};
 ghost use Rattle.profile.specs.Automata.{lent};
 ghost use Rattle.terms.specs.Coded.{rules_of};
@@ -139,7 +139,8 @@ fn clear_flags(table: &mut [u32], records: usize)
 }
 
 // Puts the backward numbers of `records` records that hold the letters that can be added and those that can be taken away, from the last to the first.
-pub fn fill_backward(table: &mut [u32], records: usize, profile: &Profile, log: &[u8], termed: bool)
+pub fn fill_backward(table: &mut [u32], records: usize, profile: &Profile, log: &[u8])
+    ghost termed: { Bool }
     requires { Drafted (rules_of (lent profile.now) termed) log.now table.old records }
     ensures { table.new
         ≡ filled_all (rules_of (lent profile.now) termed) log.now

@@ -55,14 +55,15 @@ fn all_keepers(masks: &[u16], k: usize) -> [u32; MOST_LETTERS]
     sets
 }
 
-// The same sets with what they are made of.
-pub fn prepared<'a>(masks: &'a [u16], k: usize) -> Keepers<'a>
-    requires { k ≤ most_letters }
-    ensures masks { result.masks.now ≡ masks.now }
-    ensures k { result.k ≡ k }
-{
-    let sets = all_keepers(masks, k);
-    Keepers { masks, k, sets }
+impl<'a> Keepers<'a> {
+    pub fn of(masks: &'a [u16], k: usize) -> Keepers<'a>
+        requires { k ≤ most_letters }
+        ensures masks { result.masks.now ≡ masks.now }
+        ensures k { result.k ≡ k }
+    {
+        let sets = all_keepers(masks, k);
+        Keepers { masks, k, sets }
+    }
 }
 
 // Letter x can come next: it has an event left, and each letter that keeps it has its next event later. Each turn takes the lowest of those

@@ -104,9 +104,7 @@ fn merge_next<F: Finder>(
         None => Some(None),
         Some((c, from, handed)) => {
             if first + j < room {
-                let set = pass
-                    .finder
-                    .addable_with(c, handed.letters, handed.passed);
+                let set = pass.finder.addable_with(c, handed.letters, handed.passed);
                 put_in(table, first, j, c, handed.forward, set | (from << HALF));
                 Some(Some(u32::count_ones(set)))
             } else {

@@ -3,30 +3,24 @@
 
 ghost use Rattle.std.specs.Prelude.{◌≡◌, ◌++◌, map, ◌+◌, ◌≤◌, drop, get_or, length};
 ghost use Rattle.std.proofs.Math.Option.{none};
-ghost use Rattle.profile.specs.Limits.{most_letters};
 ghost use Rattle.profile.specs.Lists.{below, first_place};
 ghost use Rattle.profile.specs.Refusals.{log_refusals, lowest, relation_refusals};
 ghost use Rattle.profile.specs.Traces.{independent};
-ghost use Rattle.events.specs.Events.{all_keepers, comes_next?};
+ghost use Rattle.events.specs.Events.{comes_next?};
 ghost use Rattle.order.specs.Order.{Placed, first_letters, ordered_buffer, ordering};
 
+use events::Keepers;
 use profile::limits::{MOST_LETTERS, MOST_PLACES, Place};
 use profile::{Places, Refusal};
 
 // The smallest letter that can come next; k where there is none.
 // Kept: not an Option, as `put_letters` calls it while events are left, when some letter can come next, and would have a None to rule out.
-fn least_next(
-    masks: &[u16],
-    keepers: &[u32; MOST_LETTERS],
-    k: usize,
-    n: usize,
-    next: &[Place],
-) -> usize
-    requires { (k ≤ most_letters) × (keepers.now ≡ all_keepers (independent masks.now) k) }
-    ensures { result ≡ first_place (comes_next? (independent masks.now) k n next.now) (below k) }
+fn least_next(keepers: &Keepers, n: usize, next: &[Place]) -> usize
+    ensures { result ≡ first_place (comes_next? (independent keepers.now.masks.now) keepers.now.k n next.now) (below keepers.now.k) }
 {
+    let k = keepers.k;
     (0..k)
-        .position(|a| events::comes_next(masks, keepers, k, n, next, a))
+        .position(|a| events::comes_next(keepers, n, next, a))
         .unwrap_or(k)
 }
 
@@ -41,23 +35,20 @@ fn first_places(placed: &Places, next: &mut [Place])
 
 // Takes every event of the log, each time the smallest letter that can come next, and writes the letters.
 fn put_letters(
-    k: usize,
-    masks: &[u16],
-    keepers: &[u32; MOST_LETTERS],
+    keepers: &Keepers,
     log: &[u8],
     placed: &Places,
     next: &mut [Place],
     used: &mut [Place],
     out: &mut [u8],
 )
-    requires placed { Placed k masks.now log.now placed.now.starts.now placed.now.places.now next.old used.old out.old }
-    requires keepers_value { keepers.now ≡ all_keepers (independent masks.now) k }
-    ensures { out.new ≡ first_letters masks.now log.now ++ drop (length log.now) out.old }
+    requires { Placed keepers.now.k keepers.now.masks.now log.now placed.now.starts.now placed.now.places.now next.old used.old out.old }
+    ensures { out.new ≡ first_letters keepers.now.masks.now log.now ++ drop (length log.now) out.old }
 {
     first_places(placed, next);
     let n = log.len();
     for t in 0..n {
-        let a = least_next(masks, keepers, k, n, next);
+        let a = least_next(keepers, n, next);
         out[t] = a as u8;
         let m = used[a] + 1;
         used[a] = m;
@@ -70,15 +61,13 @@ fn put_first(k: usize, masks: &[u16], log: &[u8], out: &mut [u8])
     requires { (lowest (relation_refusals k masks.now) ≡ none) × (lowest (log_refusals k log.now) ≡ none) × (length log.now ≤ length out.old) }
     ensures { out.new ≡ first_letters masks.now log.now ++ drop (length log.now) out.old }
 {
-    let keepers = events::all_keepers(masks, k);
+    let keepers = Keepers::of(masks, k);
     let mut starts: [Place; MOST_LETTERS] = [0; MOST_LETTERS];
     let mut places: [Place; MOST_PLACES] = [0; MOST_PLACES];
     places::place_events(log, k, &mut starts, &mut places);
     let mut next: [Place; MOST_LETTERS] = [0; MOST_LETTERS];
     let mut used: [Place; MOST_LETTERS] = [0; MOST_LETTERS];
     put_letters(
-        k,
-        masks,
         &keepers,
         log,
         &Places {

@@ -17,7 +17,8 @@ use Rattle.forward.specs.Forward.{Finds}
 use Rattle.termed_judge.specs.CodedCalls.{CodedCall}
 
 pub finds : (p : Profile) (log codes starts places turns s q u : List ℕ) → CodedCall p log codes → starts ≡ map (place_start log) (below p.k) ++ s
-    → places ≡ place_table p.k log ++ q → turns ≡ turn_table p.k codes ++ u → Finds (rules_of p true) codes starts places turns true
+    → places ≡ place_table p.k log ++ q → turns ≡ turn_table p.k codes ++ u
+    → Finds (rules_of p true) codes (letters_in_terms (independent p.masks) p.k (length codes) starts places turns)
 finds p log codes starts places turns s q u c es ep et v h =
     ap₂ (λ a b. letters_in_terms (independent p.masks) p.k (length codes) a b turns (packed layout v))
     (es ∙ ap (λ l. map (place_start l) (below p.k) ++ s) c.letters) (ep ∙ ap (λ l. place_table p.k l ++ q) c.letters)

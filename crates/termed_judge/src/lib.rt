@@ -8,9 +8,11 @@ ghost use Rattle.table.specs.Table.{Fills};
 ghost use Rattle.termed.specs.Termed.{Promise};
 ghost use Rattle.termed_judge.specs.CodedCalls.{Answered, CodedCall};
 
+use events::Keepers;
 use profile::limits::{LONGEST, MOST_LETTERS, MOST_PLACES, Place};
 use profile::{Calendar, Places, Profile, Refusal};
 use table::Filled;
+use term_letters::InTerms;
 use verdict::Judged;
 
 // Fills the table with the records of events that are codes; the log has their letters.
@@ -30,18 +32,16 @@ pub fn fill_coded(
     let mut turns: [Place; MOST_PLACES] = [0; MOST_PLACES];
     turning::put_turns(codes, k, &mut turns);
     let room = records::capacity(table);
-    table::fill(
-        table,
-        room,
-        profile,
-        codes,
-        &Places {
+    let finder = InTerms {
+        keepers: &Keepers::of(profile.masks, k),
+        n: codes.len(),
+        placed: &Places {
             starts: &starts,
             places: &places,
         },
-        &turns,
-        true,
-    )
+        turns: &turns,
+    };
+    table::fill(table, room, profile, codes, &finder)
 }
 
 // The verdict of events that are codes, where nothing but 10 can refuse; the log has their letters.

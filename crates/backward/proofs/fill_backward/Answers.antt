@@ -28,16 +28,16 @@ inside : (p : Rules) (w t : List ℕ) (n : ℕ) (d : Drafted p w t n) (u rest : 
 inside p w t n d u rest j from h s = swept_inside d.profile d.log u rest (j - 1) from (down p w d.log u rest j from h s)
 
 pub overflow_sub-last : goal.overflow_sub-last
-overflow_sub-last c = some _ _ _ _ c.requires
+overflow_sub-last g c = some _ _ _ _ c.requires
 
 pub of-rows-requires : goal.of-rows-requires
-of-rows-requires c = (c.requires.profile.relation.most, c.requires.profile.states.1)
+of-rows-requires g c = (c.requires.profile.relation.most, c.requires.profile.states.1)
 
 pub put_done-requires : goal.put_done-requires
-put_done-requires c = omega (arith, some _ _ _ _ c.requires, c.requires.fits)
+put_done-requires g c = omega (arith, some _ _ _ _ c.requires, c.requires.fits)
 
 pub loop-j-init : goal.loop-j-init
-loop-j-init c =
+loop-j-init g c =
     let s = c in
     let a = s.args in
     let from : ℕ → ℕ = λ x. get_or (replicate most_letters a.records) x 0 in (
@@ -48,7 +48,7 @@ loop-j-init c =
     )
 
 pub back_of-back-requires : goal.back_of-back-requires
-back_of-back-requires c =
+back_of-back-requires g c =
     let l = c.loop-j in record {
       k_in_bounds = subst (λ (q : Profile). q.shape.k ≤ length l.cursors) (sym c.of-rows.ensures) (omega (arith, c.requires.profile.relation.most));
       inside = subst (λ (q : Profile). Inside l.table (l.j - 1) q.shape.k (λ x. get_or l.cursors x 0)) (sym c.of-rows.ensures)
@@ -56,17 +56,17 @@ back_of-back-requires c =
     }
 
 pub put_done-requires-in-loop-j : goal.put_done-requires-in-loop-j
-put_done-requires-in-loop-j c =
+put_done-requires-in-loop-j g c =
     let l = c.loop-j in
     omega (arith, (inside _ _ _ _ c.requires l.table _ l.j (λ x. get_or l.cursors x 0) (omega arith) (l.invariant.2 c.requires.log)).record_in)
 
 pub loop-j-preserved : goal.loop-j-preserved
-loop-j-preserved c =
+loop-j-preserved g c =
     let s = c in
     let a = s.args in
     let l = c.loop-j in
     let b = c.back_of-back in
-    let p : Rules = rules_of (lent a.profile.now) a.termed in
+    let p : Rules = rules_of (lent a.profile.now) g.termed in
     let w : List ℕ = a.log.now in
     let from : ℕ → ℕ = λ x. get_or l.cursors x 0 in
     let after : ℕ → ℕ = λ x. get_or b.new.cursors x 0 in
@@ -85,17 +85,17 @@ loop-j-preserved c =
     )
 
 pub clear_flags-requires : goal.clear_flags-requires
-clear_flags-requires c = omega (arith, c.requires.fits, c.loop-j.invariant.0, c.put_done.auto.table)
+clear_flags-requires g c = omega (arith, c.requires.fits, c.loop-j.invariant.0, c.put_done.auto.table)
 
 pub shape_of-table : goal.shape_of-table
-shape_of-table c = c.clear_flags.auto.table ∙ c.loop-j.invariant.0 ∙ c.put_done.auto.table
+shape_of-table g c = c.clear_flags.auto.table ∙ c.loop-j.invariant.0 ∙ c.put_done.auto.table
 
 pub returns : goal.returns
-returns c =
+returns g c =
     let s = c in
     let a = s.args in
     let l = c.loop-j in
-    let p : Rules = rules_of (lent a.profile.now) a.termed in
+    let p : Rules = rules_of (lent a.profile.now) g.termed in
     let w : List ℕ = a.log.now in
     let z : l.j ≡ 0 = omega arith in
     let from : ℕ → ℕ = λ x. get_or l.cursors x 0 in

@@ -9,6 +9,6 @@ use Rattle.backward.proofs.Swept.{Swept}
 use Rattle.backward.proofs.fill_backward.Given as goal
 
 abbrev pub invariant-loop-j : goal.invariant-loop-j
-invariant-loop-j l =
+invariant-loop-j g l =
     (length l.table ≡ length l.initial.table) × (length l.cursors ≡ most_letters)
-    × ((good : GoodEvents (rules_of (lent l.profile) l.termed) l.log) → Swept good l.table (drop (record_length layout * l.records) l.initial.table) l.j (λ x. get_or l.cursors x 0))
+    × ((good : GoodEvents (rules_of (lent l.profile) g.termed) l.log) → Swept good l.table (drop (record_length layout * l.records) l.initial.table) l.j (λ x. get_or l.cursors x 0))

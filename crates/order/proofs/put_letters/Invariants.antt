@@ -6,4 +6,4 @@ use Rattle.order.proofs.put_letters.Given as goal
 
 abbrev pub invariant-loop-t : goal.invariant-loop-t
 invariant-loop-t l =
-    (length l.next ≡ length l.initial.next) × (length l.used ≡ length l.initial.used) × (length l.out ≡ length l.initial.out) × Chosen l.k l.masks l.log l.initial.out l.next l.used l.out l.t
+    (length l.next ≡ length l.initial.next) × (length l.used ≡ length l.initial.used) × (length l.out ≡ length l.initial.out) × Chosen l.keepers.k l.keepers.masks.now l.log l.initial.out l.next l.used l.out l.t

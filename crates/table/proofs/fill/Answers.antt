@@ -16,11 +16,11 @@ use Rattle.table.proofs.Filling.{done, full, ready, whole, whole_length}
 use Rattle.table.proofs.fill.Goals as goal
 
 pub fill_backward-requires : goal.fill_backward-requires
-fill_backward-requires c =
+fill_backward-requires g c =
     let s = c in
     let x = c.fill_forward in
     let a = s.args in
-    let p = rules_of (lent a.profile.now) a.termed in
+    let p = rules_of (lent a.profile.now) g.F.Finder.termed in
     let z : ℕ = record_length layout * a.room - 0 in
     let e : z ≡ record_length layout * a.room = omega arith in
     let q : x.result ≡ Some c.in_ok-pass.pass = grind arith in
@@ -28,11 +28,11 @@ fill_backward-requires c =
     ready p a.log.now a.table.now s.requires.sound c.in_ok-pass.pass (x.new.table ++ drop z a.table.now) (whole p a.log.now a.table.now s.requires.sound z e x.new.table x.auto.table c.in_ok-pass.pass h) (whole_length p a.log.now a.table.now s.requires.sound z e x.new.table x.auto.table)
 
 pub returns-in_err-pass : goal.returns-in_err-pass
-returns-in_err-pass c =
+returns-in_err-pass g c =
     let s = c in
     let x = c.fill_forward in
     let a = s.args in
-    let p = rules_of (lent a.profile.now) a.termed in
+    let p = rules_of (lent a.profile.now) g.F.Finder.termed in
     let z : ℕ = record_length layout * a.room - 0 in
     let e : z ≡ record_length layout * a.room = omega arith in
     let q : x.result ≡ None = grind arith in
@@ -42,11 +42,11 @@ returns-in_err-pass c =
     rw (y.1, i) (full p a.log.now a.table.now s.requires.sound z e x.new.table x.auto.table h)
 
 pub returns : goal.returns
-returns c =
+returns g c =
     let s = c in
     let x = c.fill_forward in
     let a = s.args in
-    let p = rules_of (lent a.profile.now) a.termed in
+    let p = rules_of (lent a.profile.now) g.F.Finder.termed in
     let z : ℕ = record_length layout * a.room - 0 in
     let e : z ≡ record_length layout * a.room = omega arith in
     let q : x.result ≡ Some c.in_ok-pass.pass = grind arith in

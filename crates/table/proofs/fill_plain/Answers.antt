@@ -15,6 +15,7 @@ fill-requires c =
     let k = s.args.profile.now.shape.k in
     let w = s.args.log.now in record {
       sound = s.requires;
-      finds = λ v h. ap₂ (λ i q. letters_by (independent s.args.profile.now.masks.now) k (length w) i q (packed layout v)) e.ensures.0 e.ensures.1
+      finds = λ v h. ap₂ (λ m n. letters_by (independent m) n (length w) c.place_events.new.starts c.place_events.new.places (packed layout v)) c.of.ensures.masks c.of.ensures.k
+          ∙ ap₂ (λ i q. letters_by (independent s.args.profile.now.masks.now) k (length w) i q (packed layout v)) e.ensures.0 e.ensures.1
           ∙ letters_placed (independent s.args.profile.now.masks.now) k w v _ _ s.requires.log.short s.requires.profile.relation.most h s.requires.log.apart s.requires.log.letters;
     }
