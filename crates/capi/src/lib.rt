@@ -20,6 +20,30 @@ ghost use Rattle.closest_calls.specs.Calls.{Closing, TermClosing};
 
 use profile::{Calendar, Profile, Refusal, Shape};
 use refusals::refuse;
+use rules::Grammar;
+
+// The profile that a caller hands as numbers and slices.
+fn lend<'a>(
+    k: usize,
+    s: usize,
+    start: usize,
+    finals: u32,
+    masks: &'a [u16],
+    moves: &'a [u32],
+) -> Profile<'a>
+    ensures { (result.shape ≡ record { k = k; s = s; start = start; finals = finals }) × (result.masks ≡ masks.entry) × (result.moves ≡ moves.entry) }
+{
+    Profile {
+        shape: Shape {
+            k,
+            s,
+            start,
+            finals,
+        },
+        masks,
+        moves,
+    }
+}
 
 // The judge.
 pub fn fumarehi_judge(
@@ -36,22 +60,8 @@ pub fn fumarehi_judge(
 ) -> u32
     ensures { Judging (profile_of (record { k = k; s = s; start = start; finals = finals }) masks.now moves.now) log.now order.old order.new work.old work.new result told.new }
 {
-    let shape = Shape {
-        k: k,
-        s: s,
-        start: start,
-        finals: finals,
-    };
-    let judged = verdict::judge(
-        &Profile {
-            shape,
-            masks,
-            moves,
-        },
-        log,
-        order,
-        work,
-    );
+    let profile = lend(k, s, start, finals, masks, moves);
+    let judged = verdict::judge(&profile, log, order, work);
     answers::tell_judged(judged, told)
 }
 
@@ -69,21 +79,8 @@ pub fn fumarehi_table(
 ) -> u32
     ensures { Building (profile_of (record { k = k; s = s; start = start; finals = finals }) masks.now moves.now) log.now table.old table.new result told.new }
 {
-    let shape = Shape {
-        k: k,
-        s: s,
-        start: start,
-        finals: finals,
-    };
-    match table::build(
-        &Profile {
-            shape,
-            masks,
-            moves,
-        },
-        log,
-        table,
-    ) {
+    let profile = lend(k, s, start, finals, masks, moves);
+    match table::build(&profile, log, table) {
         Err(unbuilt) => refuse(unbuilt, told),
         Ok(filled) => {
             *told = [0, filled.prefixes as u64, filled.looks];
@@ -203,21 +200,8 @@ pub fn fumarehi_write_file(
         let l = file_bytes p log.now in let q = write_refusal p log.now (length file.old) in let a = writing q (length l) in
         (result ≡ writing_code a) × (told.new ≡ writing_told a) × (file.new ≡ filled q l file.old) }
 {
-    let shape = Shape {
-        k: k,
-        s: s,
-        start: start,
-        finals: finals,
-    };
-    match filewriter::write_file(
-        &Profile {
-            shape,
-            masks,
-            moves,
-        },
-        log,
-        file,
-    ) {
+    let profile = lend(k, s, start, finals, masks, moves);
+    match filewriter::write_file(&profile, log, file) {
         Err(unwritten) => refuse(unwritten, told),
         Ok(n) => {
             *told = [0, n as u64];
@@ -271,22 +255,8 @@ pub fn fumarehi_run_start(
 ) -> u32
     ensures { Starting (profile_of (record { k = k; s = s; start = start; finals = finals }) masks.now moves.now) held.old held.new table.old table.new result told.new }
 {
-    let shape = Shape {
-        k: k,
-        s: s,
-        start: start,
-        finals: finals,
-    };
-    calls::start(
-        &Profile {
-            shape,
-            masks,
-            moves,
-        },
-        held,
-        table,
-        told,
-    )
+    let profile = lend(k, s, start, finals, masks, moves);
+    calls::start(&profile, held, table, told)
 }
 
 // The running judge's event.
@@ -304,23 +274,8 @@ pub fn fumarehi_run_event(
 ) -> u32
     ensures { Stepping (profile_of (record { k = k; s = s; start = start; finals = finals }) masks.now moves.now) letter held.old held.new table.old table.new result told.new }
 {
-    let shape = Shape {
-        k: k,
-        s: s,
-        start: start,
-        finals: finals,
-    };
-    calls::event(
-        &Profile {
-            shape,
-            masks,
-            moves,
-        },
-        letter,
-        held,
-        table,
-        told,
-    )
+    let profile = lend(k, s, start, finals, masks, moves);
+    calls::event(&profile, letter, held, table, told)
 }
 
 // The running judge's question.
@@ -337,22 +292,8 @@ pub fn fumarehi_run_question(
 ) -> u32
     ensures { Asking (profile_of (record { k = k; s = s; start = start; finals = finals }) masks.now moves.now) held.now table.now result told.new }
 {
-    let shape = Shape {
-        k: k,
-        s: s,
-        start: start,
-        finals: finals,
-    };
-    calls::question(
-        &Profile {
-            shape,
-            masks,
-            moves,
-        },
-        held,
-        table,
-        told,
-    )
+    let profile = lend(k, s, start, finals, masks, moves);
+    calls::question(&profile, held, table, told)
 }
 
 // The judge with terms: days and terms are numbers year × 10,000 + month × 100 + day, terms the first and the last day of each in turn.
@@ -364,31 +305,17 @@ pub fn fumarehi_judge_terms(
     masks: &[u16],
     moves: &[u32],
     log: &[u8],
-    calendar: &Calendar,
+    days: &[u32],
+    terms: &[u32],
     order: &mut [u8],
     work: &mut [u32],
     told: &mut [u64; 4],
 ) -> u32
-    ensures { TermJudging (profile_of (record { k = k; s = s; start = start; finals = finals }) masks.now moves.now) log.now calendar.now.days.now calendar.now.terms.now order.old order.new work.old work.new result told.new }
+    ensures { TermJudging (profile_of (record { k = k; s = s; start = start; finals = finals }) masks.now moves.now) log.now days.now terms.now order.old order.new work.old work.new result told.new }
 {
-    let shape = Shape {
-        k: k,
-        s: s,
-        start: start,
-        finals: finals,
-    };
-    term_calls::judge(
-        &Profile {
-            shape,
-            masks,
-            moves,
-        },
-        log,
-        calendar,
-        order,
-        work,
-        told,
-    )
+    let profile = lend(k, s, start, finals, masks, moves);
+    let calendar = Calendar { days, terms };
+    term_calls::judge(&profile, log, &calendar, order, work, told)
 }
 
 // A teacher's view.
@@ -407,13 +334,8 @@ pub fn fumarehi_view(
 ) -> u32
     ensures { Viewing (profile_of (record { k = k; s = s; start = start; finals = finals }) masks.now moves.now) visible log.now order.old order.new work.old work.new result told.new }
 {
-    let shape = Shape {
-        k: k,
-        s: s,
-        start: start,
-        finals: finals,
-    };
-    view_calls::view(shape, visible, masks, moves, log, order, work, told)
+    let profile = lend(k, s, start, finals, masks, moves);
+    view_calls::view(&profile, visible, log, order, work, told)
 }
 
 // The judge for grammars.
@@ -430,7 +352,8 @@ pub fn fumarehi_grammar(
 ) -> u32
     ensures { GrammarJudging k masks.now names rules.now log.now order.old order.new work.old work.new sets.old sets.new result told.new }
 {
-    grammar_calls::judge(k, masks, names, rules, log, order, work, sets, told)
+    let grammar = Grammar { k, masks, names, rules };
+    grammar_calls::judge(&grammar, log, order, work, sets, told)
 }
 
 // A ceiling: place, ceiling.
@@ -463,25 +386,8 @@ pub fn fumarehi_closest(
 ) -> u32
     ensures { Closing (profile_of (record { k = k; s = s; start = start; finals = finals }) masks.now moves.now) log.now budget order.old order.new work.old work.new costs.old costs.new result told.new }
 {
-    let shape = Shape {
-        k: k,
-        s: s,
-        start: start,
-        finals: finals,
-    };
-    closest_calls::closest(
-        &Profile {
-            shape,
-            masks,
-            moves,
-        },
-        log,
-        order,
-        work,
-        costs,
-        budget,
-        told,
-    )
+    let profile = lend(k, s, start, finals, masks, moves);
+    closest_calls::closest(&profile, log, order, work, costs, budget, told)
 }
 
 // The same for a log with terms; days and terms as the judge with terms has them.
@@ -493,33 +399,17 @@ pub fn fumarehi_closest_terms(
     masks: &[u16],
     moves: &[u32],
     log: &[u8],
-    calendar: &Calendar,
+    days: &[u32],
+    terms: &[u32],
     order: &mut [u8],
     work: &mut [u32],
     costs: &mut [u32],
     budget: u64,
     told: &mut [u64; 6],
 ) -> u32
-    ensures { TermClosing (profile_of (record { k = k; s = s; start = start; finals = finals }) masks.now moves.now) log.now calendar.now.days.now calendar.now.terms.now budget order.old order.new work.old work.new costs.old costs.new result told.new }
+    ensures { TermClosing (profile_of (record { k = k; s = s; start = start; finals = finals }) masks.now moves.now) log.now days.now terms.now budget order.old order.new work.old work.new costs.old costs.new result told.new }
 {
-    let shape = Shape {
-        k: k,
-        s: s,
-        start: start,
-        finals: finals,
-    };
-    closest_calls::closest_terms(
-        &Profile {
-            shape,
-            masks,
-            moves,
-        },
-        log,
-        calendar,
-        order,
-        work,
-        costs,
-        budget,
-        told,
-    )
+    let profile = lend(k, s, start, finals, masks, moves);
+    let calendar = Calendar { days, terms };
+    closest_calls::closest_terms(&profile, log, &calendar, order, work, costs, budget, told)
 }
