@@ -3,8 +3,9 @@
 
 ghost use Rattle.std.specs.Prelude.{◌≡◌, ◌+◌, ◌*◌, ◌≤◌, ◌<◌, length, set as list_set};
 ghost use Rattle.profile.specs.Limits.{most_records};
-ghost use Rattle.pairs.specs.Pairs.{AllKnown, Known, Setting};
+ghost use Rattle.pairs.specs.Pairs.{AllKnown, Known, Room};
 
+use pairs::nested::Nested;
 use pairs::{cell, place};
 
 // Puts the set of a pair, at both of its places.
@@ -19,41 +20,22 @@ fn put_pair(sets: &mut [u16], records: usize, i: usize, j: usize, set: u16)
 }
 
 // Puts the sets of the pairs of a record before record j and that record, the nearest first.
-fn fill_column(
-    table: &[u32],
-    k: usize,
-    masks: &[u16],
-    rules: &[u16],
-    log: &[u8],
-    sets: &mut [u16],
-    records: usize,
-    j: usize,
-)
-    requires setting { Setting k masks.now log.now table.now records }
-    requires j_lt_records { (j < records) × (records * records ≤ length sets.old) × Known k masks.now rules.now log.now records sets.old j j }
-    ensures { Known k masks.now rules.now log.now records sets.new (j + 1) (j + 1) }
+fn fill_column(nested: &Nested, sets: &mut [u16], j: usize)
+    requires { (j < nested.now.records) × Room nested.now sets.old × Known nested.now sets.old j j }
+    ensures { Known nested.now sets.new (j + 1) (j + 1) }
 {
     for i in (0..j).rev() {
-        let set = cell(table, k, masks, rules, log, sets, records, i, j);
-        put_pair(sets, records, i, j, set);
+        let set = cell(nested, sets, i, j);
+        put_pair(sets, nested.records, i, j, set);
     }
 }
 
 // Puts the sets of all pairs of two records.
-pub fn fill_sets(
-    table: &[u32],
-    k: usize,
-    masks: &[u16],
-    rules: &[u16],
-    log: &[u8],
-    sets: &mut [u16],
-    records: usize,
-)
-    requires setting { Setting k masks.now log.now table.now records }
-    requires records_in_bounds { records * records ≤ length sets.old }
-    ensures { AllKnown k masks.now rules.now log.now records sets.new }
+pub fn fill_sets(nested: &Nested, sets: &mut [u16])
+    requires { Room nested.now sets.old }
+    ensures { AllKnown nested.now sets.new }
 {
-    for j in 1..records {
-        fill_column(table, k, masks, rules, log, sets, records, j);
+    for j in 1..nested.records {
+        fill_column(nested, sets, j);
     }
 }

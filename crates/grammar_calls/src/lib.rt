@@ -3,19 +3,18 @@
 
 ghost use Rattle.grammar_calls.specs.GrammarCalls.{Judging};
 
+use rules::Grammar;
+
 pub fn judge(
-    k: usize,
-    masks: &[u16],
-    names: usize,
-    rules: &[u16],
+    grammar: &Grammar,
     log: &[u8],
     order: &mut [u8],
     work: &mut [u32],
     sets: &mut [u16],
     told: &mut [u64; 4],
 ) -> u32
-    ensures { Judging k masks.now names rules.now log.now order.old order.new work.old work.new sets.old sets.new result told.new }
+    ensures { Judging grammar.now.k grammar.now.masks.now grammar.now.names grammar.now.rules.now log.now order.old order.new work.old work.new sets.old sets.new result told.new }
 {
-    let judged = grammar_judge::judge(k, masks, names, rules, log, order, work, sets);
+    let judged = grammar_judge::judge(grammar, log, order, work, sets);
     answers::tell_judged(judged, told)
 }

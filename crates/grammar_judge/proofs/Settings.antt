@@ -16,7 +16,7 @@ use Rattle.profile.specs.Refusals.{log_refusals, lowest, relation_refusals}
 use Rattle.theory.proofs.Levels.{by_total_length}
 use Rattle.theory.proofs.Refusals.{log_at, relation_at}
 use Rattle.records.proofs.Drafts.{counts_of_draft, drafts_length}
-use Rattle.pairs.specs.Pairs.{Setting}
+use Rattle.pairs.specs.Settings.{Setting}
 use Rattle.pairs.proofs.Squares.{small_square}
 use Rattle.bare.specs.Bare.{Counted, bare_record, prefixes_of}
 

@@ -14,13 +14,36 @@ use Rattle.profile.proofs.Traces.{order_of_reach, takes_length}
 use Rattle.theory.proofs.Prefixes.{front_marked, front_none, prefix_of_front}
 use Rattle.theory.proofs.Profiles.{distinct}
 use Rattle.grammars.specs.Grammars.{Derivable, grammar_of}
-use Rattle.grammars.proofs.Spans.{Between, Spans, spans_whole, whole_spans}
+use Rattle.grammars.proofs.Spans.{Spans, spans_whole, whole_spans}
 use Rattle.grammars.proofs.Places.{between_places, counts_of, first_place_none, last_place_all, place_of, total_marked, total_of}
-use Rattle.pairs.specs.Pairs.{AllKnown, Setting}
+use Rattle.pairs.specs.declared.nested.Nested.{Nested}
+use Rattle.pairs.specs.Settings.{Setting}
+use Rattle.pairs.specs.Pairs.{AllKnown, Between}
 use Rattle.derivation.specs.Deriving.{Written, splice}
 use Rattle.grammar_judge.specs.GrammarJudge.{VerdictIs}
 
-module _ (k : ℕ) (masks w table : List ℕ) (records : ℕ) (s : Setting k masks w table records) (rules : List ℕ) where
+module _ (on : Nested) where
+  abbrev k : ℕ
+  k = on.grammar.k
+
+  abbrev masks : List ℕ
+  masks = on.grammar.masks.now
+
+  abbrev rules : List ℕ
+  rules = on.grammar.rules.now
+
+  abbrev w : List ℕ
+  w = on.log.now
+
+  abbrev table : List ℕ
+  table = on.table.now
+
+  abbrev records : ℕ
+  records = on.records
+
+  abbrev s : Setting k masks w table records
+  s = on.setting
+
   abbrev differ : (a b : ℕ) → T (independent masks a b) → a ≢ b
   differ = distinct masks s.relation.own
 
@@ -34,7 +57,7 @@ module _ (k : ℕ) (masks w table : List ℕ) (records : ℕ) (s : Setting k mas
   last_is = last_place_all (independent masks) differ k w s.log.letters (records - 1) (omega (arith, some_record, s.whole))
 
   abbrev Whole : Type 0
-  Whole = Between (independent masks) (grammar_of rules) w (counts_of (independent masks) k w 0) (counts_of (independent masks) k w (records - 1)) 0
+  Whole = Between on 0 (records - 1) 0
 
   -- a log that can be derived spans the two
   pub whole_of : (v : List ℕ) → Derivable (grammar_of rules) (independent masks) w v → Whole
@@ -50,7 +73,7 @@ module _ (k : ℕ) (masks w table : List ℕ) (records : ℕ) (s : Setting k mas
       let lt = between_places (independent masks) differ k w s.log.letters (grammar_of rules) 0 (records - 1) (omega (arith, some_record, s.whole)) (omega (arith, some_record, s.whole)) (whole_of v d) in
       omega arith
 
-  module _ (sets : List ℕ) (known : AllKnown k masks rules w records sets) (many : 2 ≤ records) where
+  module _ (sets : List ℕ) (known : AllKnown on sets) (many : 2 ≤ records) where
     row_first : get_or sets (0 * records + (records - 1)) 0 ≡ get_or sets (records - 1) 0
     row_first = let e : 0 * records + (records - 1) ≡ records - 1 = omega arith in ap (λ p. get_or sets p 0) e
 
@@ -62,7 +85,7 @@ module _ (k : ℕ) (masks w table : List ℕ) (records : ℕ) (s : Setting k mas
     pub some_told : bit (get_or sets (records - 1) 0) 0 ≡ true → Whole
     some_told e = ((known.right 0 (records - 1) (omega arith) (omega arith)).0 0).0 (subst T (sym (ap (λ S. bit S 0) row_first ∙ e)) tt)
 
-  pub order_told : (before after : List ℕ) → Written k masks rules w 0 (records - 1) 0 before after → VerdictIs masks rules w before after true
+  pub order_told : (before after : List ℕ) → Written on 0 (records - 1) 0 before after → VerdictIs masks rules w before after true
   order_told before after y =
       let v = y.word in
       let r = spans_whole (independent masks) (grammar_of rules) w differ (subst₂ (λ c e. Spans (independent masks) (grammar_of rules) w c e 0 v) first_is last_is y.spans) in

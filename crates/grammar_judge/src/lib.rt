@@ -1,66 +1,47 @@
 // The judge for grammars: document 02, Paper 13, "Nested loans".
 #![tactic(auto)]
 
-ghost use Rattle.std.specs.Prelude.{◌*◌, ◌≤◌, length};
-ghost use Rattle.pairs.specs.Pairs.{Setting};
+ghost use Rattle.std.specs.Prelude.{◌≤◌, length};
+ghost use Rattle.pairs.specs.Pairs.{Room};
 ghost use Rattle.grammar_judge.specs.GrammarJudge.{Promise, VerdictIs};
 
+use pairs::nested::Nested;
 use profile::Refusal;
+use rules::Grammar;
 use table::Filled;
 use verdict::Judged;
 
 // The verdict by the second table, with the order.
-fn put_verdict(
-    table: &[u32],
-    k: usize,
-    masks: &[u16],
-    rules: &[u16],
-    log: &[u8],
-    sets: &mut [u16],
-    records: usize,
-    order: &mut [u8],
-) -> bool
-    requires { Setting k masks.now log.now table.now records × (records * records ≤ length sets.old) × (length log.now ≤ length order.old) }
-    ensures { VerdictIs masks.now rules.now log.now order.old order.new result }
+fn put_verdict(nested: &Nested, sets: &mut [u16], order: &mut [u8]) -> bool
+    requires { Room nested.now sets.old × (length nested.now.log.now ≤ length order.old) }
+    ensures { VerdictIs nested.now.grammar.masks.now nested.now.grammar.rules.now nested.now.log.now order.old order.new result }
 {
+    let records = nested.records;
     if records < 2 {
         return false;
     }
-    filling::fill_sets(table, k, masks, rules, log, sets, records);
+    filling::fill_sets(nested, sets);
     if !rulesets::has(sets[records - 1], 0) {
         return false;
     }
-    derivation::put_part(
-        table,
-        k,
-        masks,
-        rules,
-        log,
-        sets,
-        records,
-        0,
-        0,
-        records - 1,
-        order,
-    );
+    derivation::put_part(nested, sets, 0, 0, records - 1, order);
     true
 }
 
 // The verdict of a log by a grammar, with an order, P and looks; refused by 2, 4, 21, 7, 8, 9, 10 and 22.
 pub fn judge(
-    k: usize,
-    masks: &[u16],
-    names: usize,
-    rules: &[u16],
+    grammar: &Grammar,
     log: &[u8],
     order: &mut [u8],
     work: &mut [u32],
     sets: &mut [u16],
 ) -> Result<Judged, Refusal>
-    ensures { Promise k masks.now names rules.now log.now order.old order.new work.old work.new sets.old sets.new result }
+    ensures { Promise grammar.now.k grammar.now.masks.now grammar.now.names grammar.now.rules.now log.now order.old order.new work.old work.new sets.old sets.new result }
 {
+    let k = grammar.k;
+    let masks = grammar.masks;
     checks::check_relation(k, masks)?;
-    if rules::bad_rules(k, names, rules) {
+    if rules::bad_rules(k, grammar.names, grammar.rules) {
         return Err(Refusal::BadRule);
     }
     logcheck::check_log(k, log)?;
@@ -71,7 +52,13 @@ pub fn judge(
     if sets.len() < prefixes * prefixes {
         return Err(Refusal::ShortSets);
     }
-    if put_verdict(work, k, masks, rules, log, sets, prefixes, order) {
+    let nested = Nested {
+        grammar: *grammar,
+        log,
+        table: work,
+        records: prefixes,
+    };
+    if put_verdict(&nested, sets, order) {
         Ok(Judged::Order { prefixes, looks })
     } else {
         Ok(Judged::NoOrder { prefixes, looks })

@@ -4,11 +4,13 @@
 ghost use Rattle.std.specs.Prelude.{◌≡◌, cond, not, ◌++◌, map, ◌*◌, ◌≤◌, ◌<◌, drop, get_or, length};
 ghost use Rattle.std.specs.Int.Bits.{bit_or};
 ghost use Rattle.profile.specs.Limits.{most_letters, most_states};
+ghost use Rattle.profile.specs.Automata.{lent};
 ghost use Rattle.profile.specs.Lists.{below};
 ghost use Rattle.profile.specs.Traces.{bit};
 ghost use Rattle.views.specs.Views.{reach as reach_of, unseen as unseen_of};
-ghost use Rattle.hidden.specs.Hidden.{bare, late_move, led_into, widened as widened_by};
+ghost use Rattle.hidden.specs.Hidden.{late_move, led_into, widened as widened_by};
 
+use profile::Profile;
 use steps::{leads_from, meet, step_forward};
 
 // The set, and with it what letter a leads to where the mask lacks the letter.
@@ -24,25 +26,26 @@ fn with_hidden(set: u32, visible: u32, a: usize, to: u32) -> u32
 }
 
 // State q and the states to which one hidden letter leads from it.
-fn unseen(moves: &[u32], k: usize, s: usize, visible: u32, q: usize) -> u32
-    requires { (k ≤ most_letters) × (q < most_states) }
-    ensures { result ≡ unseen_of (bare k s moves.now) visible q }
+fn unseen(profile: &Profile, visible: u32, q: usize) -> u32
+    requires { (profile.now.shape.k ≤ most_letters) × (q < most_states) }
+    ensures { result ≡ unseen_of (lent profile.now) visible q }
 {
+    let k = profile.shape.k;
     let mut out = 0u32;
     for a in 0..k {
-        let to = leads_from(moves, k, q, a);
+        let to = leads_from(profile.moves, k, q, a);
         out = with_hidden(out, visible, a, to);
     }
     (1u32 << q) | out
 }
 
 // Puts the sets of states that at most one hidden letter reaches.
-fn put_unseen(moves: &[u32], k: usize, s: usize, visible: u32, reach: &mut [u32])
-    requires { (k ≤ most_letters) × (s ≤ most_states) × (s ≤ length reach.old) }
-    ensures { reach.new ≡ map (unseen_of (bare k s moves.now) visible) (below s) ++ drop s reach.old }
+fn put_unseen(profile: &Profile, visible: u32, reach: &mut [u32])
+    requires { (profile.now.shape.k ≤ most_letters) × (profile.now.shape.s ≤ most_states) × (profile.now.shape.s ≤ length reach.old) }
+    ensures { reach.new ≡ map (unseen_of (lent profile.now) visible) (below profile.now.shape.s) ++ drop profile.now.shape.s reach.old }
 {
-    for q in 0..s {
-        let to = unseen(moves, k, s, visible, q);
+    for q in 0..profile.shape.s {
+        let to = unseen(profile, visible, q);
         reach[q] = to;
     }
 }
@@ -72,23 +75,26 @@ fn pass(reach: &mut [u32], s: usize, n: usize)
 }
 
 // Puts, for each state, the states that hidden letters reach from it.
-pub fn put_reach(moves: &[u32], k: usize, s: usize, visible: u32, reach: &mut [u32])
-    requires { (k ≤ most_letters) × (s ≤ most_states) × (s ≤ length reach.old) }
-    ensures { reach.new ≡ map (reach_of (bare k s moves.now) visible) (below s) ++ drop s reach.old }
+pub fn put_reach(profile: &Profile, visible: u32, reach: &mut [u32])
+    requires { (profile.now.shape.k ≤ most_letters) × (profile.now.shape.s ≤ most_states) × (profile.now.shape.s ≤ length reach.old) }
+    ensures { reach.new ≡ map (reach_of (lent profile.now) visible) (below profile.now.shape.s) ++ drop profile.now.shape.s reach.old }
 {
-    put_unseen(moves, k, s, visible, reach);
+    let s = profile.shape.s;
+    put_unseen(profile, visible, reach);
     for n in 0..s {
         pass(reach, s, n);
     }
 }
 
 // Puts the moves with hidden letters before each letter.
-pub fn put_moves(moves: &[u32], k: usize, s: usize, reach: &[u32], late: &mut [u32])
-    requires { (1 ≤ k) × (k ≤ most_letters) × (s ≤ most_states) × (s ≤ length reach.now) × (s * k ≤ length late.old) }
-    ensures { late.new ≡ map (late_move k s moves.now reach.now) (below (s * k)) ++ drop (s * k) late.old }
+pub fn put_moves(profile: &Profile, reach: &[u32], late: &mut [u32])
+    requires { (1 ≤ profile.now.shape.k) × (profile.now.shape.k ≤ most_letters) × (profile.now.shape.s ≤ most_states) × (profile.now.shape.s ≤ length reach.now) × (profile.now.shape.s * profile.now.shape.k ≤ length late.old) }
+    ensures { late.new ≡ map (late_move (lent profile.now) reach.now) (below (profile.now.shape.s * profile.now.shape.k)) ++ drop (profile.now.shape.s * profile.now.shape.k) late.old }
 {
+    let k = profile.shape.k;
+    let s = profile.shape.s;
     for j in 0..s * k {
-        let to = step_forward(moves, k, s, reach[j / k], j % k);
+        let to = step_forward(profile.moves, k, s, reach[j / k], j % k);
         late[j] = to;
     }
 }

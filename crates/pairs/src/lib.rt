@@ -1,12 +1,15 @@
 // The set of names of one pair of prefixes, by those of the pairs between: document 02, Paper 13.
 #![tactic(auto)]
 
+pub mod nested;
+
 ghost use Rattle.std.specs.Prelude.{◌≡◌, ◌+◌, ◌*◌, ◌≤◌, ◌<◌, length, drop};
 ghost use Rattle.profile.specs.Limits.{most_records};
 ghost use Rattle.grammars.specs.Grammars.{most_names};
-ghost use Rattle.pairs.specs.Pairs.{Gathered, JoinedIs, Known, Right, Setting};
+ghost use Rattle.pairs.specs.Pairs.{Gathered, JoinedIs, Known, Right, Room};
 
 use gaps::Gap;
+use nested::Nested;
 use rules::MOST_NAMES;
 
 // The place of the pair of the records a and b in the second table.
@@ -38,35 +41,25 @@ fn meeting_names(rules: &[u16], row: &[u16], column: &[u16], i: usize, j: usize)
 }
 
 // The names with two parts that meet in a record between i and j.
-fn joined(rules: &[u16], sets: &[u16], records: usize, i: usize, j: usize) -> u16
-    requires { (i < j) × (j < records) × (records ≤ most_records) × (records * records ≤ length sets.now) }
-    ensures { JoinedIs rules.now (drop (i * records) sets.now) (drop (j * records) sets.now) (i + 1) j result }
+fn joined(nested: &Nested, sets: &[u16], i: usize, j: usize) -> u16
+    requires { (i < j) × (j < nested.now.records) × Room nested.now sets.now }
+    ensures { JoinedIs nested.now.grammar.rules.now (drop (i * nested.now.records) sets.now) (drop (j * nested.now.records) sets.now) (i + 1) j result }
 {
-    let row = place(records, i, 0);
-    let column = place(records, j, 0);
+    let rules = nested.grammar.rules;
+    let row = place(nested.records, i, 0);
+    let column = place(nested.records, j, 0);
     meeting_names(rules, &sets[row..], &sets[column..], i, j)
 }
 
 // The names that derive some order of the events between the prefixes of the records i and j.
-pub fn cell(
-    table: &[u32],
-    k: usize,
-    masks: &[u16],
-    rules: &[u16],
-    log: &[u8],
-    sets: &[u16],
-    records: usize,
-    i: usize,
-    j: usize,
-) -> u16
-    requires setting { Setting k masks.now log.now table.now records }
-    requires i_lt_j { (i < j) × (j < records) × (records * records ≤ length sets.now) × Known k masks.now rules.now log.now records sets.now j (i + 1) }
-    ensures { Right k masks.now rules.now log.now i j result }
+pub fn cell(nested: &Nested, sets: &[u16], i: usize, j: usize) -> u16
+    requires { (i < j) × (j < nested.now.records) × Room nested.now sets.now × Known nested.now sets.now j (i + 1) }
+    ensures { Right nested.now i j result }
 {
-    let between = gaps::gap_between(table, k, i, j);
+    let between = gaps::gap_between(nested.table, nested.grammar.k, i, j);
     match between {
         Gap::Outside => 0,
-        Gap::Letter(a) => rulesets::lettered(rules, a),
-        Gap::Apart => joined(rules, sets, records, i, j),
+        Gap::Letter(a) => rulesets::lettered(nested.grammar.rules, a),
+        Gap::Apart => joined(nested, sets, i, j),
     }
 }

@@ -14,38 +14,58 @@ use Rattle.profile.proofs.Sets.{not_in_none}
 use Rattle.records.specs.Records.{counts_at}
 use Rattle.counts.specs.Counts.{counts_in}
 use Rattle.grammars.specs.Grammars.{grammar_of}
-use Rattle.grammars.proofs.Spans.{Between, Spans, spans_letter}
-use Rattle.grammars.proofs.Places.{between_letter, counts_of, prefix_mem, total_of}
-use Rattle.pairs.specs.Pairs.{AllKnown, Meets, Setting}
+use Rattle.grammars.proofs.Spans.{spans_letter}
+use Rattle.grammars.proofs.Places.{between_letter, prefix_mem}
+use Rattle.pairs.specs.declared.nested.Nested.{Nested}
+use Rattle.pairs.specs.Settings.{Setting}
+use Rattle.pairs.specs.Pairs.{AllKnown, Between, Meet, Spans, total_in}
 use Rattle.gaps.specs.Gaps.{GapIs}
 use Rattle.gaps.specs.declared.Gap.TheVariants.{Apart, Letter, Outside}
 use Rattle.pairs.proofs.Squares.{row_at}
 use Rattle.profile.specs.Limits.{longest}
 use Rattle.pairs.proofs.Cells.{apart_letters, cell_outside, inside, letter_is, parts_are, total_is, total_le}
 
-module _ (k : ℕ) (masks w table : List ℕ) (records : ℕ) (s : Setting k masks w table records) (rules : List ℕ) where
-  abbrev Part : ℕ → ℕ → ℕ → Type 0
-  Part i j n = Between (independent masks) (grammar_of rules) w (counts_of (independent masks) k w i) (counts_of (independent masks) k w j) n
+module _ (on : Nested) where
+  abbrev k : ℕ
+  k = on.grammar.k
 
-  pub step_outside : (i j n : ℕ) → i < records → j < records → GapIs k (count_field layout (counts_at table i)) (count_field layout (counts_at table j)) Outside → Part i j n → ⊥
-  step_outside i j n hi hj g b = not_in_none n ((cell_outside k masks w table records s rules i j hi hj g n).1 b)
+  abbrev masks : List ℕ
+  masks = on.grammar.masks.now
 
-  pub step_letter : (i j a n : ℕ) → i < records → j < records → GapIs k (count_field layout (counts_at table i)) (count_field layout (counts_at table j)) (Letter a) → Part i j n
-      → Spans (independent masks) (grammar_of rules) w (counts_of (independent masks) k w i) (counts_of (independent masks) k w j) n (a ∷ [])
+  abbrev rules : List ℕ
+  rules = on.grammar.rules.now
+
+  abbrev w : List ℕ
+  w = on.log.now
+
+  abbrev table : List ℕ
+  table = on.table.now
+
+  abbrev records : ℕ
+  records = on.records
+
+  abbrev s : Setting k masks w table records
+  s = on.setting
+
+  pub step_outside : (i j n : ℕ) → i < records → j < records → GapIs k (count_field layout (counts_at table i)) (count_field layout (counts_at table j)) Outside → Between on i j n → ⊥
+  step_outside i j n hi hj g b = not_in_none n ((cell_outside on i j hi hj g n).1 b)
+
+  pub step_letter : (i j a n : ℕ) → i < records → j < records → GapIs k (count_field layout (counts_at table i)) (count_field layout (counts_at table j)) (Letter a) → Between on i j n
+      → Spans on i j n (a ∷ [])
   step_letter i j a n hi hj g b =
-      let d = apart_letters k masks w table records s in
-      let ii = inside k masks w table records s i hi in
-      let jj = inside k masks w table records s j hj in
-      let e = letter_is k masks w table records s i j a hi hj g in
+      let d = apart_letters on in
+      let ii = inside on i hi in
+      let jj = inside on j hj in
+      let e = letter_is on i j a hi hj g in
       let p = (prefix_mem (independent masks) d k w s.log.letters i ii).1 in
       let q = (prefix_mem (independent masks) d k w s.log.letters j jj).1 in
       spans_letter (independent masks) (grammar_of rules) w d p q e ((between_letter (independent masks) d k w s.log.letters (grammar_of rules) i j a n ii jj e).0 b)
 
-  module _ (sets : List ℕ) (known : AllKnown k masks rules w records sets) where
-    pub step_parts : (i j n : ℕ) → i < j → j < records → GapIs k (count_field layout (counts_at table i)) (count_field layout (counts_at table j)) Apart → Part i j n
-        → (m l r : ℕ) × (i + 1 ≤ m) × (m < j) × Meets rules (drop (i * records) sets) (drop (j * records) sets) n m l r
+  module _ (sets : List ℕ) (known : AllKnown on sets) where
+    pub step_parts : (i j n : ℕ) → i < j → j < records → GapIs k (count_field layout (counts_at table i)) (count_field layout (counts_at table j)) Apart → Between on i j n
+        → (m l r : ℕ) × (i + 1 ≤ m) × (m < j) × Meet on sets i j n m l r
     step_parts i j n h hj g b =
-        let v = (parts_are k masks w table records s rules i j n (omega arith) hj g).0 b in
+        let v = (parts_are on i j n (omega arith) hj g).0 b in
         let m = v.0 in (
           m,
           v.1,
@@ -59,22 +79,21 @@ module _ (k : ℕ) (masks w table : List ℕ) (records : ℕ) (s : Setting k mas
           ),
         )
 
-    pub step_met : (i j n m l r : ℕ) → j < records → i + 1 ≤ m → m < j → Meets rules (drop (i * records) sets) (drop (j * records) sets) n m l r
-        → T ((grammar_of rules).two n l r) × Part i m l × Part m j r
+    pub step_met : (i j n m l r : ℕ) → j < records → i + 1 ≤ m → m < j → Meet on sets i j n m l r
+        → T ((grammar_of rules).two n l r) × Between on i m l × Between on m j r
     step_met i j n m l r hj h lt v = (
       v.0,
       ((known.right i m (omega arith) (omega arith)).0 l).0 (subst (λ x. T (bit x l)) (row_at sets (i * records) m) v.1),
       ((known.right m j lt hj).1 r).0 (subst (λ x. T (bit x r)) (row_at sets (j * records) m) v.2),
     )
 
--- totals are small
-module _ (k : ℕ) (masks w table : List ℕ) (records : ℕ) (s : Setting k masks w table records) where
+  -- totals are small
   pub total_small : (i r : ℕ) → i < records → r ≡ total (counts_in layout (counts_at table i)) → r ≤ longest
   total_small i r h e =
-      let x : r ≡ total_of (independent masks) k w i = e ∙ total_is k masks w table records s i h in
-      let y = total_le k masks w table records s i h in
+      let x : r ≡ total_in on i = e ∙ total_is on i h in
+      let y = total_le on i h in
       let z = s.log.short in
-      small_by r (total_of (independent masks) k w i) (length w) x y z
+      small_by r (total_in on i) (length w) x y z
     where
       small_by : (r t n : ℕ) → r ≡ t → t ≤ n → n ≤ longest → r ≤ longest
       small_by r t n x y z = omega arith

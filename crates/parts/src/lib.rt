@@ -1,16 +1,12 @@
 // The next step of an order that can be derived, by the sets of names of all pairs of prefixes: document 02, Paper 13.
 #![tactic(auto)]
 
-ghost use Rattle.std.specs.Prelude.{ℕ, ◌+◌, ◌*◌, ◌≤◌, ◌<◌, length, drop};
-ghost use Rattle.profile.specs.Limits.{most_records};
-ghost use Rattle.profile.specs.Traces.{independent};
-ghost use Rattle.grammars.specs.Grammars.{grammar_of};
-ghost use Rattle.grammars.proofs.Spans.{Between};
-ghost use Rattle.grammars.proofs.Places.{counts_of};
-ghost use Rattle.pairs.specs.Pairs.{AllKnown, Meets, Setting};
+ghost use Rattle.std.specs.Prelude.{ℕ, ◌+◌, ◌≤◌, ◌<◌, length};
+ghost use Rattle.pairs.specs.Pairs.{AllKnown, Between, Meet, Meets, Room};
 ghost use Rattle.parts.specs.Parts.{StepIs};
 
 use gaps::Gap;
+use pairs::nested::Nested;
 use pairs::place;
 
 // A rule's two names and the record between their parts.
@@ -45,14 +41,14 @@ fn meeting(rules: &[u16], row: &[u16], column: &[u16], from: usize, to: usize, n
 }
 
 // Two parts of the name n that meet in a record between i and j.
-fn parts_of(rules: &[u16], sets: &[u16], records: usize, i: usize, j: usize, n: usize) -> Split
-    requires i_lt_j { (i < j) × (j < records) × (records ≤ most_records) × (records * records ≤ length sets.now) }
-    requires by_index { (m l r : ℕ) × (i + 1 ≤ m) × (m < j) × Meets rules.now (drop (i * records) sets.now) (drop (j * records) sets.now) n m l r }
-    ensures { (i + 1 ≤ result.at) × (result.at < j)
-        × Meets rules.now (drop (i * records) sets.now) (drop (j * records) sets.now) n result.at result.first result.second }
+fn parts_of(nested: &Nested, sets: &[u16], n: usize, i: usize, j: usize) -> Split
+    requires i_lt_j { (i < j) × (j < nested.now.records) × Room nested.now sets.now }
+    requires by_index { (m l r : ℕ) × (i + 1 ≤ m) × (m < j) × Meet nested.now sets.now i j n m l r }
+    ensures { (i + 1 ≤ result.at) × (result.at < j) × Meet nested.now sets.now i j n result.at result.first result.second }
 {
-    let row = place(records, i, 0);
-    let column = place(records, j, 0);
+    let rules = nested.grammar.rules;
+    let row = place(nested.records, i, 0);
+    let column = place(nested.records, j, 0);
     meeting(rules, &sets[row..], &sets[column..], i + 1, j, n)
 }
 
@@ -64,29 +60,18 @@ pub enum Step {
 }
 
 // The next step to write an order of the events between the prefixes of the records i and j that can be derived from the name n.
-pub fn next_step(
-    table: &[u32],
-    k: usize,
-    masks: &[u16],
-    rules: &[u16],
-    log: &[u8],
-    sets: &[u16],
-    records: usize,
-    n: usize,
-    i: usize,
-    j: usize,
-) -> Step
-    requires setting { Setting k masks.now log.now table.now records × AllKnown k masks.now rules.now log.now records sets.now }
-    requires i_lt_j { (i < j) × (j < records)
-        × Between (independent masks.now) (grammar_of rules.now) log.now (counts_of (independent masks.now) k log.now i) (counts_of (independent masks.now) k log.now j) n }
-    ensures { StepIs k masks.now rules.now log.now i j n result }
+pub fn next_step(nested: &Nested, sets: &[u16], n: usize, i: usize, j: usize) -> Step
+    requires known { AllKnown nested.now sets.now }
+    requires i_lt_j { (i < j) × (j < nested.now.records) × Between nested.now i j n }
+    ensures { StepIs nested.now i j n result }
 {
-    let between = gaps::gap_between(table, k, i, j);
+    let table = nested.table;
+    let between = gaps::gap_between(table, nested.grammar.k, i, j);
     match between {
         Gap::Outside => Step::Leaf(0, 0),
         Gap::Letter(a) => Step::Leaf(gaps::total_at(table, i), a as u8),
         Gap::Apart => {
-            let parts = parts_of(rules, sets, records, i, j, n);
+            let parts = parts_of(nested, sets, n, i, j);
             let middle = gaps::total_at(table, parts.at);
             let first = gaps::total_at(table, i);
             let last = gaps::total_at(table, j);

@@ -10,6 +10,15 @@ pub const MOST_NAMES: usize = 16;
 
 pub const MOST_RULES: usize = 64;
 
+// A grammar as a call is lent it: its names and rules, and the letters that it derives, with their masks.
+#[derive(Clone, Copy)]
+pub struct Grammar<'a> {
+    pub k: usize,
+    pub masks: &'a [u16],
+    pub names: usize,
+    pub rules: &'a [u16],
+}
+
 // The digits of a rule.
 // Kept: the C interface hands a rule, and its kind, as a number of 16 bits.
 pub fn kind(x: u16) -> usize

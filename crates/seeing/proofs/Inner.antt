@@ -19,7 +19,7 @@ use Rattle.theory.proofs.Refusals.{GoodProfile, log_at, profile_at}
 use Rattle.views.specs.Views.{buffer_refusals, finals_late, late, leads_late, reach, view}
 use Rattle.views.proofs.Late.{late_order}
 use Rattle.views.proofs.Refused.{late_passes}
-use Rattle.hidden.specs.Hidden.{bare, late_move, led_into}
+use Rattle.hidden.specs.Hidden.{late_move, led_into}
 use Rattle.hidden.proofs.Rounds.{map_agree, state_of}
 use Rattle.cleared.specs.Cleared.{Clean, answer, order_as, order_left, table_as, table_left, told_as}
 use Rattle.seeing.specs.Seeing.{hulled_left}
@@ -42,23 +42,23 @@ module _ (p : Profile) (visible : ℕ) (u : List ℕ) (clean : Clean p u) where
   inner_clean = record { profile = late_passes p visible clean.profile; log = clean.log }
 
   -- the sets that are put
-  module _ (R rest : List ℕ) (e : R ≡ map (reach (bare p.k p.s p.moves) visible) (below p.s) ++ drop p.s rest) (l : p.s ≤ length rest) where
+  module _ (R rest : List ℕ) (e : R ≡ map (reach p visible) (below p.s) ++ drop p.s rest) (l : p.s ≤ length rest) where
     pub reach_held : (q : ℕ) → q < p.s → get_or R q 0 ≡ reach p visible q
     unfolding reach
-    reach_held q lt = ap (λ z. get_or z q 0) e ∙ front_at (reach (bare p.k p.s p.moves) visible) rest p.s l q lt
+    reach_held q lt = ap (λ z. get_or z q 0) e ∙ front_at (reach p visible) rest p.s l q lt
 
     pub finals_held : led_into p.s R p.finals ≡ finals_late p visible
     finals_held = ap (union (λ q. 2 ^ q)) (filter_agree (λ q. meets (get_or R q 0) p.finals) (λ q. meets (reach p visible q) p.finals) (below p.s)
         (λ q m. ap (λ z. meets z p.finals) (reach_held q (below_at p.s q m))))
 
-    pub moves_held : (L over : List ℕ) (z : ℕ) → z ≡ p.s * p.k → L ≡ map (late_move p.k p.s p.moves R) (below (p.s * p.k)) ++ over → take z L ≡ (late p visible).moves
+    pub moves_held : (L over : List ℕ) (z : ℕ) → z ≡ p.s * p.k → L ≡ map (late_move p R) (below (p.s * p.k)) ++ over → take z L ≡ (late p visible).moves
     moves_held L over z i h =
-        ap₂ take i h ∙ take_at (map (late_move p.k p.s p.moves R) (below (p.s * p.k))) over (p.s * p.k) (length_range (late_move p.k p.s p.moves R) (p.s * p.k) 0)
-        ∙ map_agree (late_move p.k p.s p.moves R) (λ j. leads_late p visible (j / p.k) (j % p.k)) (below (p.s * p.k))
+        ap₂ take i h ∙ take_at (map (late_move p R) (below (p.s * p.k))) over (p.s * p.k) (length_range (late_move p R) (p.s * p.k) 0)
+        ∙ map_agree (late_move p R) (λ j. leads_late p visible (j / p.k) (j % p.k)) (below (p.s * p.k))
         (λ j m. ap (λ S. forward_step p.k p.s p.moves S (j % p.k)) (reach_held (j / p.k) (state_of p.k p.s j good.relation.least (below_at (p.s * p.k) j m))))
 
     -- the profile that is made
-    pub inner_is : (F : ℕ) (L over : List ℕ) (z : ℕ) → F ≡ led_into p.s R p.finals → z ≡ p.s * p.k → L ≡ map (late_move p.k p.s p.moves R) (below (p.s * p.k)) ++ over
+    pub inner_is : (F : ℕ) (L over : List ℕ) (z : ℕ) → F ≡ led_into p.s R p.finals → z ≡ p.s * p.k → L ≡ map (late_move p R) (below (p.s * p.k)) ++ over
         → ◌≡◌ {A = Profile} (record { k = p.k; masks = p.masks; s = p.s; start = p.start; finals = F; moves = take z L }) (late p visible)
     inner_is F L over z f i h = ap₂ (λ x y. profile-with x y) (f ∙ finals_held) (moves_held L over z i h)
       where

@@ -3,7 +3,7 @@
 
 ghost use Rattle.std.specs.Prelude.{Ok, ◌≡◌, ◌≤◌, length};
 ghost use Rattle.std.proofs.Math.Option.{some};
-ghost use Rattle.profile.specs.Automata.{lent, automaton, profile_of};
+ghost use Rattle.profile.specs.Automata.{lent, automaton};
 ghost use Rattle.verdict.proofs.Promises.{told_prefixes};
 ghost use Rattle.views.specs.Views.{view as view_of};
 ghost use Rattle.cleared.specs.Cleared.{Clean, answer, order_left, table_left};
@@ -46,26 +46,25 @@ fn view_late(
 
 // The answer for a visible part.
 pub fn view_seen(
-    shape: Shape,
+    profile: &Profile,
     visible: u32,
-    masks: &[u16],
-    moves: &[u32],
     log: &[u8],
     order: &mut [u8],
     work: &mut [u32],
 ) -> Result<Judged, Refusal>
-    requires clean { Clean (profile_of shape masks.now moves.now) log.now }
+    requires clean { Clean (lent profile.now) log.now }
     requires log_in_bounds { length log.now ≤ length order.old }
-    ensures value { result ≡ answer (profile_of shape masks.now moves.now) (view_of (profile_of shape masks.now moves.now) visible) log.now (length order.old) (length work.old) }
-    ensures order_after { order.new ≡ order_left (profile_of shape masks.now moves.now) (view_of (profile_of shape masks.now moves.now) visible) log.now (length work.old) order.old }
-    ensures work_after { work.new ≡ table_left (profile_of shape masks.now moves.now) (view_of (profile_of shape masks.now moves.now) visible) log.now (length order.old) work.old }
+    ensures value { result ≡ answer (lent profile.now) (view_of (lent profile.now) visible) log.now (length order.old) (length work.old) }
+    ensures order_after { order.new ≡ order_left (lent profile.now) (view_of (lent profile.now) visible) log.now (length work.old) order.old }
+    ensures work_after { work.new ≡ table_left (lent profile.now) (view_of (lent profile.now) visible) log.now (length order.old) work.old }
 {
+    let shape = profile.shape;
     let k = shape.k;
     let s = shape.s;
     let mut reach = [0u32; MOST_STATES];
-    hidden::put_reach(moves, k, s, visible, &mut reach);
+    hidden::put_reach(profile, visible, &mut reach);
     let mut late = [0u32; MOST_MOVES];
-    hidden::put_moves(moves, k, s, &reach, &mut late);
+    hidden::put_moves(profile, &reach, &mut late);
     let finals = hidden::led_into(&reach, s, shape.finals);
     let inner = Shape {
         k: k,
@@ -77,7 +76,7 @@ pub fn view_seen(
     view_late(
         &Profile {
             shape: inner,
-            masks,
+            masks: profile.masks,
             moves: &late[0..end],
         },
         log,

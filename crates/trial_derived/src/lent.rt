@@ -1,5 +1,6 @@
 // The call on lent parts of guarded buffers: bytes are lent from 4 on, numbers and sets from 8 on. Where a buffer is too small for the part there is no call.
 use crate::cases::Case;
+use rules::Grammar;
 use trial::calls::{BYTES, NUMBERS, lent};
 
 pub fn grammar_in(
@@ -15,7 +16,13 @@ pub fn grammar_in(
     let order = lent(buffer, BYTES, case.room)?;
     let table = lent(numbers, NUMBERS, case.size)?;
     let names = lent(sets, NUMBERS, case.sets)?;
+    let grammar = Grammar {
+        k: case.k,
+        masks,
+        names: case.names,
+        rules,
+    };
     Some(grammar_calls::judge(
-        case.k, masks, case.names, rules, log, order, table, names, told,
+        &grammar, log, order, table, names, told,
     ))
 }

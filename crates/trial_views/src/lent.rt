@@ -1,5 +1,5 @@
 // The call on lent parts of guarded buffers, as those of the crate `trial`.
-use profile::Shape;
+use profile::{Profile, Shape};
 use trial::answers::{Answer, Refused, Told};
 use trial::calls::{BYTES, NUMBERS, lent};
 
@@ -37,6 +37,11 @@ pub fn view_in(
     let order = lent(buffer, BYTES, room)?;
     let table = lent(numbers, NUMBERS, size)?;
     let mut told = [99u64; 4];
-    let number = view_calls::view(shape, visible, masks, moves, log, order, table, &mut told);
+    let profile = Profile {
+        shape,
+        masks,
+        moves,
+    };
+    let number = view_calls::view(&profile, visible, log, order, table, &mut told);
     answer_of(number, told)
 }

@@ -1,31 +1,29 @@
 // A teacher's view: Paper 12. The letters that the mask has are copied from the log; all that is told follows from these.
 #![tactic(auto)]
 
-ghost use Rattle.profile.specs.Automata.{profile_of};
+ghost use Rattle.profile.specs.Automata.{lent};
 ghost use Rattle.view.specs.Viewing.{Viewed};
 
 use profile::limits::LONGEST;
-use profile::{Refusal, Shape};
+use profile::{Profile, Refusal};
 use verdict::Judged;
 
 // What a teacher who sees the letters of the mask is told of a log; refused by 2, 4, 6, 20, 7, 8, 9 and 10.
 pub fn view(
-    shape: Shape,
+    profile: &Profile,
     visible: u32,
-    masks: &[u16],
-    moves: &[u32],
     log: &[u8],
     order: &mut [u8],
     work: &mut [u32],
 ) -> Result<Judged, Refusal>
-    ensures { Viewed (profile_of shape masks.now moves.now) visible log.now order.old order.new work.old work.new result }
+    ensures { Viewed (lent profile.now) visible log.now order.old order.new work.old work.new result }
 {
-    visible::check_entry(shape, visible, masks, moves, log)?;
-    let k = shape.k;
+    visible::check_entry(profile, visible, log)?;
+    let k = profile.shape.k;
     let mut part = [0u8; LONGEST];
     let n = visible::put_seen(visible, k, log, &mut part);
     if order.len() < n {
         return Err(Refusal::ShortBuffer);
     }
-    seeing::view_seen(shape, visible, masks, moves, &part[0..n], order, work)
+    seeing::view_seen(profile, visible, &part[0..n], order, work)
 }

@@ -2,14 +2,14 @@
 #![tactic(auto)]
 
 ghost use Rattle.std.specs.Prelude.{◌≡◌, [], ◌∷◌, ◌+◌, ◌≤◌, ◌<◌, length, take};
-ghost use Rattle.profile.specs.Automata.{profile_of};
+ghost use Rattle.profile.specs.Automata.{lent};
 ghost use Rattle.profile.specs.Limits.{longest, most_letters};
 ghost use Rattle.profile.specs.Refusals.{bit_from, refused_by, lowest};
 ghost use Rattle.profile.specs.declared.Refusal.TheVariants.{ViewBit};
 ghost use Rattle.theory.proofs.Refusals.{GoodLog};
 ghost use Rattle.views.specs.Views.{entry_refusals, seen};
 
-use profile::{Profile, Refusal, Shape};
+use profile::{Profile, Refusal};
 
 // 20: the mask has a bit from k on.
 fn check_mask(k: usize, visible: u32) -> Result<(), Refusal>
@@ -23,21 +23,11 @@ fn check_mask(k: usize, visible: u32) -> Result<(), Refusal>
 }
 
 // The lowest of refusals 2, 4, 6, 20, 7 and 8 that applies, in this order.
-pub fn check_entry(
-    shape: Shape,
-    visible: u32,
-    masks: &[u16],
-    moves: &[u32],
-    log: &[u8],
-) -> Result<(), Refusal>
-    ensures { refused_by result ≡ lowest (entry_refusals (profile_of shape masks.now moves.now) visible log.now) }
+pub fn check_entry(profile: &Profile, visible: u32, log: &[u8]) -> Result<(), Refusal>
+    ensures { refused_by result ≡ lowest (entry_refusals (lent profile.now) visible log.now) }
 {
-    let k = shape.k;
-    checks::check_profile(&Profile {
-        shape,
-        masks,
-        moves,
-    })?;
+    let k = profile.shape.k;
+    checks::check_profile(profile)?;
     check_mask(k, visible)?;
     logcheck::check_log(k, log)
 }

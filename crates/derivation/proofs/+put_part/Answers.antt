@@ -6,14 +6,14 @@ bounds-order-at t c =
     let a = c.args in
     let q = c.requires.i_lt_j in
     let l = c.loop-at in
-    leaf_room a.k a.masks.now a.log.now a.table.now a.records c.requires.setting.0 a.rules.now a.i a.j a.name q.1 a.order.now q.2 l.n l.from l.to l.order l.invariant c.in-Leaf.at c.in-Leaf.a c.in-Leaf.ensures
+    leaf_room a.nested.now a.i a.j a.name q.1 a.order.now q.2 l.n l.from l.to l.order l.invariant c.in-Leaf.at c.in-Leaf.a c.in-Leaf.ensures
 
 pub returns-in-Leaf : goal.returns-in-Leaf
 returns-in-Leaf t c =
     let a = c.args in
     let q = c.requires.i_lt_j in
     let l = c.loop-at in
-    going_leaf a.k a.masks.now a.log.now a.table.now a.records c.requires.setting.0 a.rules.now a.i a.j a.name q.1 a.order.now q.2 l.n l.from l.to l.order l.invariant c.in-Leaf.at c.in-Leaf.a c.in-Leaf.ensures
+    going_leaf a.nested.now a.i a.j a.name q.1 a.order.now q.2 l.n l.from l.to l.order l.invariant c.in-Leaf.at c.in-Leaf.a c.in-Leaf.ensures
 
 pub loop-at-preserved-then-left : goal.loop-at-preserved-then-left
 loop-at-preserved-then-left t c =
@@ -21,7 +21,7 @@ loop-at-preserved-then-left t c =
     let q = c.requires.i_lt_j in
     let l = c.loop-at in
     let p = c.in-Parts in
-    going_left a.k a.masks.now a.log.now a.table.now a.records c.requires.setting.0 a.rules.now a.i a.j a.name q.1 a.order.now q.2 l.n l.from l.to l.order l.invariant p.parts p.left p.ensures _ c.put_part.ensures
+    going_left a.nested.now a.i a.j a.name q.1 a.order.now q.2 l.n l.from l.to l.order l.invariant p.parts p.left p.ensures _ c.put_part.ensures
 
 pub loop-at-preserved : goal.loop-at-preserved
 loop-at-preserved t c =
@@ -29,4 +29,4 @@ loop-at-preserved t c =
     let q = c.requires.i_lt_j in
     let l = c.loop-at in
     let p = c.in-Parts in
-    going_right a.k a.masks.now a.log.now a.table.now a.records c.requires.setting.0 a.rules.now a.i a.j a.name q.1 a.order.now q.2 l.n l.from l.to l.order l.invariant p.parts p.left p.ensures _ c.put_part-else-left.ensures
+    going_right a.nested.now a.i a.j a.name q.1 a.order.now q.2 l.n l.from l.to l.order l.invariant p.parts p.left p.ensures _ c.put_part-else-left.ensures

@@ -7,7 +7,7 @@ abbrev pub decreases-put_part : goal.decreases-put_part
 decreases-put_part l = l.j - l.i
 
 abbrev pub invariant-loop-at : goal.invariant-loop-at
-invariant-loop-at l = Going l.k l.masks l.rules l.log l.i l.j l.name l.fn.order l.n l.from l.to l.order
+invariant-loop-at l = Going l.nested l.i l.j l.name l.fn.order l.n l.from l.to l.order
 
 abbrev pub decreases-loop-at : goal.decreases-loop-at
 decreases-loop-at l = l.to - l.from

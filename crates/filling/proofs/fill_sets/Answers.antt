@@ -4,7 +4,7 @@ use native.Mathlib.Omega.{arith}
 use Rattle.filling.proofs.fill_sets.Goals as goal
 
 pub loop-j-init : goal.loop-j-init
-loop-j-init c = let a = c.args in known_start a.k a.masks.now a.rules.now a.log.now a.records a.sets.now
+loop-j-init c = let a = c.args in known_start a.nested.now a.sets.now
 
 pub returns : goal.returns
-returns c = let s = c in let l = c.loop-j in record { room = omega (arith, s.requires.records_in_bounds, l.auto.sets); right = λ a b lt hb. l.invariant a b lt (inl (omega arith)) }
+returns c = let l = c.loop-j in record { room = omega (arith, c.requires, l.auto.sets); right = λ a b lt hb. l.invariant a b lt (inl (omega arith)) }

@@ -3,4 +3,4 @@ use Rattle.pairs.specs.Pairs.{Known}
 use Rattle.filling.proofs.fill_sets.Given as goal
 
 abbrev pub invariant-loop-j : goal.invariant-loop-j
-invariant-loop-j l = Known l.k l.masks l.rules l.log l.records l.sets l.j l.j
+invariant-loop-j l = Known l.nested l.sets l.j l.j

@@ -16,12 +16,12 @@ pub returns-in_err-check_relation : goal.returns-in_err-check_relation
 returns-in_err-check_relation c =
     let a = c.args in
     let e = err_from_is_err_and c.from_residual.result c.from_residual.ensures.1 in
-    rw (e.1, e.2) (answer_relation a.k a.masks.now a.names a.rules.now a.log.now a.order.now a.work.now a.sets.now _ (sym c.check_relation.ensures ∙ ap refused_by c.in_err-check_relation.was))
+    rw (e.1, e.2) (answer_relation a.grammar.now.k a.grammar.now.masks.now a.grammar.now.names a.grammar.now.rules.now a.log.now a.order.now a.work.now a.sets.now _ (sym c.check_relation.ensures ∙ ap refused_by c.in_err-check_relation.was))
 
 pub returns-then-bad_rules : goal.returns-then-bad_rules
 returns-then-bad_rules c =
     let a = c.args in
-    answer_rules a.k a.masks.now a.names a.rules.now a.log.now a.order.now a.work.now a.sets.now (sym c.check_relation.ensures ∙ ap refused_by c.in_ok-check_relation.was) (sym c.bad_rules.ensures ∙ c.if-bad_rules.true)
+    answer_rules a.grammar.now.k a.grammar.now.masks.now a.grammar.now.names a.grammar.now.rules.now a.log.now a.order.now a.work.now a.sets.now (sym c.check_relation.ensures ∙ ap refused_by c.in_ok-check_relation.was) (sym c.bad_rules.ensures ∙ c.if-bad_rules.true)
 
 pub returns-in_err-check_log : goal.returns-in_err-check_log
 returns-in_err-check_log c =
@@ -29,7 +29,7 @@ returns-in_err-check_log c =
     let good = sym c.check_relation.ensures ∙ ap refused_by c.in_ok-check_relation.was in
     let right = sym c.bad_rules.ensures ∙ c.if-bad_rules.false in
     let e = err_from_is_err_and c.from_residual-in_err-check_log.result c.from_residual-in_err-check_log.ensures.1 in
-    rw (e.1, e.2) (answer_log a.k a.masks.now a.names a.rules.now a.log.now a.order.now a.work.now a.sets.now good right _ (sym c.check_log.ensures ∙ ap refused_by c.in_err-check_log.was))
+    rw (e.1, e.2) (answer_log a.grammar.now.k a.grammar.now.masks.now a.grammar.now.names a.grammar.now.rules.now a.log.now a.order.now a.work.now a.sets.now good right _ (sym c.check_log.ensures ∙ ap refused_by c.in_err-check_log.was))
 
 pub returns-then-order-log : goal.returns-then-order-log
 returns-then-order-log c =
@@ -37,12 +37,12 @@ returns-then-order-log c =
     let good = sym c.check_relation.ensures ∙ ap refused_by c.in_ok-check_relation.was in
     let right = sym c.bad_rules.ensures ∙ c.if-bad_rules.false in
     let log = sym c.check_log.ensures ∙ ap refused_by c.in_ok-check_log.was in
-    answer_short a.k a.masks.now a.names a.rules.now a.log.now a.order.now a.work.now a.sets.now good right log c.if-order-log.true
+    answer_short a.grammar.now.k a.grammar.now.masks.now a.grammar.now.names a.grammar.now.rules.now a.log.now a.order.now a.work.now a.sets.now good right log c.if-order-log.true
 
 pub overflow_mul-prefixes : goal.overflow_mul-prefixes
 overflow_mul-prefixes c =
     let a = c.args in
-    let u = subst (BuiltIs a.k a.masks.now a.log.now a.work.now _) c.in_ok-prefixes.was c.build.ensures in
+    let u = subst (BuiltIs a.grammar.now.k a.grammar.now.masks.now a.log.now a.work.now _) c.in_ok-prefixes.was c.build.ensures in
     let q = square_fits (length a.work.now) c.in_ok-prefixes.field-0.prefixes u.1 in fits_of (c.in_ok-prefixes.field-0.prefixes * c.in_ok-prefixes.field-0.prefixes) q
 
 pub returns-then-sets-prefixes : goal.returns-then-sets-prefixes
@@ -52,8 +52,8 @@ returns-then-sets-prefixes c =
     let right = sym c.bad_rules.ensures ∙ c.if-bad_rules.false in
     let log = sym c.check_log.ensures ∙ ap refused_by c.in_ok-check_log.was in
     let long = c.if-order-log.false in
-    let u = subst (BuiltIs a.k a.masks.now a.log.now a.work.now _) c.in_ok-prefixes.was c.build.ensures in
-    let e₂ = u.0.prefixes in answer_sets a.k a.masks.now a.names a.rules.now a.log.now a.order.now a.work.now a.sets.now good right log long (subst (λ n. n ≤ capacity layout (length a.work.now)) e₂ u.1) _ u.0 (subst (λ n. length a.sets.now < n * n) e₂ c.if-sets-prefixes.true)
+    let u = subst (BuiltIs a.grammar.now.k a.grammar.now.masks.now a.log.now a.work.now _) c.in_ok-prefixes.was c.build.ensures in
+    let e₂ = u.0.prefixes in answer_sets a.grammar.now.k a.grammar.now.masks.now a.grammar.now.names a.grammar.now.rules.now a.log.now a.order.now a.work.now a.sets.now good right log long (subst (λ n. n ≤ capacity layout (length a.work.now)) e₂ u.1) _ u.0 (subst (λ n. length a.sets.now < n * n) e₂ c.if-sets-prefixes.true)
 
 pub put_verdict-requires : goal.put_verdict-requires
 put_verdict-requires c =
@@ -62,8 +62,8 @@ put_verdict-requires c =
     let right = sym c.bad_rules.ensures ∙ c.if-bad_rules.false in
     let log = sym c.check_log.ensures ∙ ap refused_by c.in_ok-check_log.was in
     let long = c.if-order-log.false in
-    let u = subst (BuiltIs a.k a.masks.now a.log.now a.work.now _) c.in_ok-prefixes.was c.build.ensures in
-    (setting_of a.k a.masks.now a.log.now a.work.now _ c.in_ok-prefixes.field-0.prefixes c.in_ok-prefixes.field-0.looks good log u.0 u.1, c.if-sets-prefixes.false, long)
+    let u = subst (BuiltIs a.grammar.now.k a.grammar.now.masks.now a.log.now a.work.now _) c.in_ok-prefixes.was c.build.ensures in
+    (setting_of a.grammar.now.k a.grammar.now.masks.now a.log.now a.work.now _ c.in_ok-prefixes.field-0.prefixes c.in_ok-prefixes.field-0.looks good log u.0 u.1, c.if-sets-prefixes.false, long)
 
 pub returns-in_err-prefixes : goal.returns-in_err-prefixes
 returns-in_err-prefixes c =
@@ -72,9 +72,9 @@ returns-in_err-prefixes c =
     let right = sym c.bad_rules.ensures ∙ c.if-bad_rules.false in
     let log = sym c.check_log.ensures ∙ ap refused_by c.in_ok-check_log.was in
     let long = c.if-order-log.false in
-    let u = subst (BuiltIs a.k a.masks.now a.log.now a.work.now _) c.in_err-prefixes.was c.build.ensures in
+    let u = subst (BuiltIs a.grammar.now.k a.grammar.now.masks.now a.log.now a.work.now _) c.in_err-prefixes.was c.build.ensures in
     let e = err_from_is_err_and c.from_residual-in_err-prefixes.result c.from_residual-in_err-prefixes.ensures.1 in
-    rw (e.1, e.2) (subst (λ r. Promise a.k a.masks.now a.names a.rules.now a.log.now a.order.now a.order.now a.work.now c.build.new.work a.sets.now a.sets.now (Err r)) (sym u.0) (answer_full a.k a.masks.now a.names a.rules.now a.log.now a.order.now a.work.now a.sets.now good right log long c.build.new.work u.2 u.1))
+    rw (e.1, e.2) (subst (λ r. Promise a.grammar.now.k a.grammar.now.masks.now a.grammar.now.names a.grammar.now.rules.now a.log.now a.order.now a.order.now a.work.now c.build.new.work a.sets.now a.sets.now (Err r)) (sym u.0) (answer_full a.grammar.now.k a.grammar.now.masks.now a.grammar.now.names a.grammar.now.rules.now a.log.now a.order.now a.work.now a.sets.now good right log long c.build.new.work u.2 u.1))
 
 pub returns-then-put_verdict : goal.returns-then-put_verdict
 returns-then-put_verdict c =
@@ -83,10 +83,10 @@ returns-then-put_verdict c =
     let right = sym c.bad_rules.ensures ∙ c.if-bad_rules.false in
     let log = sym c.check_log.ensures ∙ ap refused_by c.in_ok-check_log.was in
     let long = c.if-order-log.false in
-    let u = subst (BuiltIs a.k a.masks.now a.log.now a.work.now _) c.in_ok-prefixes.was c.build.ensures in
+    let u = subst (BuiltIs a.grammar.now.k a.grammar.now.masks.now a.log.now a.work.now _) c.in_ok-prefixes.was c.build.ensures in
     let e₂ = u.0.prefixes in
-    answer_order a.k a.masks.now a.names a.rules.now a.log.now a.order.now a.work.now a.sets.now good right log long (subst (λ n. n ≤ capacity layout (length a.work.now)) e₂ u.1) (subst (λ n. n * n ≤ length a.sets.now) e₂ c.if-sets-prefixes.false) _ _ _ c.in_ok-prefixes.field-0.prefixes c.in_ok-prefixes.field-0.looks u.0
-    (subst (VerdictIs a.masks.now a.rules.now a.log.now a.order.now _) c.if-put_verdict.true c.put_verdict.ensures)
+    answer_order a.grammar.now.k a.grammar.now.masks.now a.grammar.now.names a.grammar.now.rules.now a.log.now a.order.now a.work.now a.sets.now good right log long (subst (λ n. n ≤ capacity layout (length a.work.now)) e₂ u.1) (subst (λ n. n * n ≤ length a.sets.now) e₂ c.if-sets-prefixes.false) _ _ _ c.in_ok-prefixes.field-0.prefixes c.in_ok-prefixes.field-0.looks u.0
+    (subst (VerdictIs a.grammar.now.masks.now a.grammar.now.rules.now a.log.now a.order.now _) c.if-put_verdict.true c.put_verdict.ensures)
 
 pub returns-else-put_verdict : goal.returns-else-put_verdict
 returns-else-put_verdict c =
@@ -95,10 +95,10 @@ returns-else-put_verdict c =
     let right = sym c.bad_rules.ensures ∙ c.if-bad_rules.false in
     let log = sym c.check_log.ensures ∙ ap refused_by c.in_ok-check_log.was in
     let long = c.if-order-log.false in
-    let u = subst (BuiltIs a.k a.masks.now a.log.now a.work.now _) c.in_ok-prefixes.was c.build.ensures in
+    let u = subst (BuiltIs a.grammar.now.k a.grammar.now.masks.now a.log.now a.work.now _) c.in_ok-prefixes.was c.build.ensures in
     let e₂ = u.0.prefixes in
-    answer_none a.k a.masks.now a.names a.rules.now a.log.now a.order.now a.work.now a.sets.now good right log long (subst (λ n. n ≤ capacity layout (length a.work.now)) e₂ u.1) (subst (λ n. n * n ≤ length a.sets.now) e₂ c.if-sets-prefixes.false) _ _ _ c.in_ok-prefixes.field-0.prefixes c.in_ok-prefixes.field-0.looks u.0
-    (subst (VerdictIs a.masks.now a.rules.now a.log.now a.order.now _) c.if-put_verdict.false c.put_verdict.ensures)
+    answer_none a.grammar.now.k a.grammar.now.masks.now a.grammar.now.names a.grammar.now.rules.now a.log.now a.order.now a.work.now a.sets.now good right log long (subst (λ n. n ≤ capacity layout (length a.work.now)) e₂ u.1) (subst (λ n. n * n ≤ length a.sets.now) e₂ c.if-sets-prefixes.false) _ _ _ c.in_ok-prefixes.field-0.prefixes c.in_ok-prefixes.field-0.looks u.0
+    (subst (VerdictIs a.grammar.now.masks.now a.grammar.now.rules.now a.log.now a.order.now _) c.if-put_verdict.false c.put_verdict.ensures)
 
 pub build-requires : goal.build-requires
 build-requires c =

@@ -9,34 +9,28 @@ use Rattle.grammar_judge.proofs.put_verdict.Goals as goal
 pub returns-then-records-lt2 : goal.returns-then-records-lt2
 returns-then-records-lt2 c =
     let a = c.args in
-    let none : VerdictIs a.masks.now a.rules.now a.log.now a.order.now a.order.now false =
-    (none_short a.k a.masks.now a.log.now a.table.now a.records c.requires.0 a.rules.now c.if-records-lt2.true, refl) in
+    let none : VerdictIs a.nested.now.grammar.masks.now a.nested.now.grammar.rules.now a.nested.now.log.now a.order.now a.order.now false =
+    (none_short a.nested.now c.if-records-lt2.true, refl) in
     none
-
-pub fill_sets-requires : goal.fill_sets-requires
-fill_sets-requires c = record {
-  setting = c.requires.0;
-  records_in_bounds = c.requires.1;
-}
 
 pub bounds-sets-records : goal.bounds-sets-records
 bounds-sets-records c =
     let a = c.args in
     let r = c.fill_sets.ensures.room in
-    row_inside a.records _ c.if-records-lt2.false r
+    row_inside a.nested.now.records _ c.if-records-lt2.false r
 
 pub returns : goal.returns
 returns c =
     let a = c.args in
-    order_told a.k a.masks.now a.log.now a.table.now a.records c.requires.0 a.rules.now _ _ c.put_part.ensures
+    order_told a.nested.now _ _ c.put_part.ensures
 
 pub returns-then-not-has : goal.returns-then-not-has
 returns-then-not-has c =
     let a = c.args in
-    (none_told a.k a.masks.now a.log.now a.table.now a.records c.requires.0 a.rules.now _ c.fill_sets.ensures c.if-records-lt2.false (sym c.has.ensures ∙ c.if-not-has.true), refl)
+    (none_told a.nested.now _ c.fill_sets.ensures c.if-records-lt2.false (sym c.has.ensures ∙ c.if-not-has.true), refl)
 
 pub put_part-requires-clause-i_lt_j : goal.put_part-requires-clause-i_lt_j
 put_part-requires-clause-i_lt_j c =
     let a = c.args in
     let m = c.if-records-lt2.false in
-    (omega (arith, m), omega (arith, m), c.requires.2, some_told a.k a.masks.now a.log.now a.table.now a.records c.requires.0 a.rules.now _ c.fill_sets.ensures m (sym c.has.ensures ∙ c.if-not-has.false))
+    (omega (arith, m), omega (arith, m), c.requires.1, some_told a.nested.now _ c.fill_sets.ensures m (sym c.has.ensures ∙ c.if-not-has.false))

@@ -4,8 +4,8 @@ use mathlib.Core.List.{◌++◌, map}
 use lib.ListN.{drop}
 use Rattle.profile.specs.Lists.{below}
 use Rattle.views.specs.Views.{unseen}
-use Rattle.hidden.specs.Hidden.{bare}
+use Rattle.profile.specs.Automata.{lent}
 use Rattle.hidden.proofs.put_unseen.Given as goal
 
 abbrev pub invariant-loop-q : goal.invariant-loop-q
-invariant-loop-q l = l.reach ≡ map (unseen (bare l.k l.s l.moves) l.visible) (below l.q) ++ drop l.q l.initial.reach
+invariant-loop-q l = l.reach ≡ map (unseen (lent l.profile) l.visible) (below l.q) ++ drop l.q l.initial.reach

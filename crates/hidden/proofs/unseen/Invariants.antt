@@ -7,4 +7,4 @@ use Rattle.profile.specs.Traces.{bit}
 use Rattle.hidden.proofs.unseen.Given as goal
 
 abbrev pub invariant-loop-a : goal.invariant-loop-a
-invariant-loop-a l = (l.out ≡ union (λ x. row l.k l.moves l.q x) (filter (λ x. not (bit l.visible x)) (below l.a)))
+invariant-loop-a l = (l.out ≡ union (λ x. row l.k l.profile.moves.now l.q x) (filter (λ x. not (bit l.visible x)) (below l.a)))

@@ -6,18 +6,16 @@ use native.Mathlib.Omega.{arith}
 use Rattle.pairs.proofs.cell.Goals as goal
 
 pub returns-in-Outside : goal.returns-in-Outside
-returns-in-Outside c =
-    let a = c.args in
-    cell_outside a.k a.masks.now a.log.now a.table.now a.records c.requires.setting a.rules.now a.i a.j (omega arith) c.requires.i_lt_j.1 c.in-Outside.ensures
+returns-in-Outside c = let a = c.args in cell_outside a.nested.now a.i a.j (omega arith) c.requires.1 c.in-Outside.ensures
 
 pub returns-in-Letter : goal.returns-in-Letter
 returns-in-Letter c =
     let a = c.args in
-    subst (Right a.k a.masks.now a.rules.now a.log.now a.i a.j) (sym c.lettered.ensures)
-    (cell_letter a.k a.masks.now a.log.now a.table.now a.records c.requires.setting a.rules.now a.i a.j c.in-Letter.a (omega arith) c.requires.i_lt_j.1 c.in-Letter.ensures)
+    subst (Right a.nested.now a.i a.j) (sym c.lettered.ensures)
+    (cell_letter a.nested.now a.i a.j c.in-Letter.a (omega arith) c.requires.1 c.in-Letter.ensures)
 
 pub returns-in-Apart : goal.returns-in-Apart
 returns-in-Apart c =
     let a = c.args in
-    let q = c.requires.i_lt_j in
-    cell_apart a.k a.masks.now a.log.now a.table.now a.records c.requires.setting a.rules.now a.i a.j a.sets.now c.joined.result q.0 q.1 c.in-Apart.ensures q.3 c.joined.ensures
+    let q = c.requires in
+    cell_apart a.nested.now a.i a.j a.sets.now c.joined.result q.0 q.1 c.in-Apart.ensures q.3 c.joined.ensures

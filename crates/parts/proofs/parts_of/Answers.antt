@@ -12,19 +12,19 @@ pub meeting-requires : goal.meeting-requires
 meeting-requires c =
     let a = c.args in
     let q = c.requires.i_lt_j in
-    let n = a.records in
+    let n = a.nested.now.records in
     let l = a.sets.now in
     let e₁ = row_is l c.place-row.result n a.i c.place-row.ensures.0 in
     let e₂ = row_is l c.place-column.result n a.j c.place-column.ensures.0 in
-    subst₂ (λ u v. (a.j ≤ length u) × (a.j ≤ length v) × ((m l r : ℕ) × (a.i + 1 ≤ m) × (m < a.j) × Meets a.rules.now u v a.n m l r)) (sym e₁) (sym e₂)
-    (omega (arith, row_long l n a.i (omega arith) q.3), omega (arith, row_long l n a.j (omega arith) q.3), c.requires.by_index)
+    subst₂ (λ u v. (a.j ≤ length u) × (a.j ≤ length v) × ((m l r : ℕ) × (a.i + 1 ≤ m) × (m < a.j) × Meets a.nested.now.grammar.rules.now u v a.n m l r)) (sym e₁) (sym e₂)
+    (omega (arith, row_long l n a.i (omega arith) q.2), omega (arith, row_long l n a.j (omega arith) q.2), c.requires.by_index)
 
 pub returns : goal.returns
 returns c =
     let a = c.args in
-    let n = a.records in
+    let n = a.nested.now.records in
     let l = a.sets.now in
     let r = c.meeting.result in
     let e₁ = row_is l c.place-row.result n a.i c.place-row.ensures.0 in
     let e₂ = row_is l c.place-column.result n a.j c.place-column.ensures.0 in
-    subst₂ (λ u v. (a.i + 1 ≤ r.at) × (r.at < a.j) × Meets a.rules.now u v a.n r.at r.first r.second) e₁ e₂ c.meeting.ensures
+    subst₂ (λ u v. (a.i + 1 ≤ r.at) × (r.at < a.j) × Meets a.nested.now.grammar.rules.now u v a.n r.at r.first r.second) e₁ e₂ c.meeting.ensures

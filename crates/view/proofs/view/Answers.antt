@@ -3,7 +3,7 @@ use mathlib.Core.Path.{◌≡◌, refl, sym, ◌∙◌, ap}
 use Prim.Native.Nat.{ℕ, ◌-◌}
 use native.Mathlib.Omega.{arith}
 use lib.ListN.{length, take}
-use Rattle.profile.specs.Automata.{profile_of}
+use Rattle.profile.specs.Automata.{lent}
 use Rattle.profile.specs.Refusals.{refused_by}
 use Rattle.std.proofs.lemmas.Result.{err_from_is_err_and}
 use Rattle.views.proofs.Refused.{seen_length}
@@ -14,28 +14,28 @@ use Rattle.view.proofs.view.Goals as goal
 pub returns-in_err-check_entry : goal.returns-in_err-check_entry
 returns-in_err-check_entry c =
     let a = c.args in
-    let p = profile_of a.shape a.masks.now a.moves.now in
+    let p = lent a.profile.now in
     let e = err_from_is_err_and c.from_residual.result c.from_residual.ensures.1 in
     rw (e.1, e.2) (told_entry p a.visible a.log.now a.order.now a.work.now (sym c.check_entry.ensures ∙ ap refused_by c.in_err-check_entry.was))
 
 pub put_seen-n-requires : goal.put_seen-n-requires
 put_seen-n-requires c =
     let a = c.args in
-    let p = profile_of a.shape a.masks.now a.moves.now in
+    let p = lent a.profile.now in
     let clean = sym c.check_entry.ensures ∙ ap refused_by c.in_ok-check_entry.was in
     (entry_few p a.visible a.log.now clean, refl, entry_good p a.visible a.log.now clean)
 
 pub returns-then-order-n : goal.returns-then-order-n
 returns-then-order-n c =
     let a = c.args in
-    let p = profile_of a.shape a.masks.now a.moves.now in
+    let p = lent a.profile.now in
     let clean = sym c.check_entry.ensures ∙ ap refused_by c.in_ok-check_entry.was in
     told_short p a.visible a.log.now a.order.now a.work.now clean (omega (arith, c.put_seen-n.ensures.0, c.if-order-n.true))
 
 pub slice_bounds-view_seen-end : goal.slice_bounds-view_seen-end
 slice_bounds-view_seen-end c =
     let a = c.args in
-    let p = profile_of a.shape a.masks.now a.moves.now in
+    let p = lent a.profile.now in
     let clean = sym c.check_entry.ensures ∙ ap refused_by c.in_ok-check_entry.was in
     let g = (entry_good p a.visible a.log.now clean).short in
     let l = seen_length a.visible a.log.now in
@@ -46,7 +46,7 @@ slice_bounds-view_seen-end c =
 pub returns : goal.returns
 returns c =
     let a = c.args in
-    let p = profile_of a.shape a.masks.now a.moves.now in
+    let p = lent a.profile.now in
     let clean = sym c.check_entry.ensures ∙ ap refused_by c.in_ok-check_entry.was in
     let s = c.put_seen-n in
     let z : ℕ = s.result - 0 in
@@ -58,7 +58,7 @@ returns c =
 pub view_seen-requires-clause-clean : goal.view_seen-requires-clause-clean
 view_seen-requires-clause-clean c =
     let a = c.args in
-    let p = profile_of a.shape a.masks.now a.moves.now in
+    let p = lent a.profile.now in
     let clean = sym c.check_entry.ensures ∙ ap refused_by c.in_ok-check_entry.was in
     let s = c.put_seen-n in
     let z : ℕ = s.result - 0 in
