@@ -1,18 +1,17 @@
 -- A rule that gives a name two names, the first of one set and the second of another.
 use mathlib.Core.Path.{◌≡◌, refl, sym, ◌∙◌, ap, subst}
-use mathlib.Core.Bool.{Bool, true, false, cond, ◌&&◌}
+use mathlib.Core.Bool.{Bool, cond, ◌&&◌}
 use mathlib.Core.List.{List}
-use Prim.Native.Nat.{ℕ, suc, ◌+◌}
-use native.Mathlib.Omega.{arith}
+use Prim.Native.Nat.{ℕ}
 use lib.Dec.{T, eqb, ltb, eqb→eq}
 use lib.ListN.{get_or, length}
 use Rattle.std.specs.Prelude.{None, Some, position}
 use Rattle.std.specs.List.{position_or_len}
 use Rattle.std.proofs.lemmas.Option.{none-some}
 use Rattle.std.proofs.lemmas.List.Quantifiers.{position-Some}
-use Rattle.std.proofs.lemmas.List.Recursion.{is_position_or_len}
-use Rattle.profile.specs.Lists.{Mem, any, first_place}
+use Rattle.profile.specs.Lists.{Mem, any}
 use Rattle.profile.specs.Traces.{bit}
+use Rattle.profile.proofs.Chains.{first_std}
 use Rattle.profile.proofs.Lists.{any_at, any_of, both, fst_of, is_true, mem_getd, snd_of}
 use Rattle.logcheck.proofs.Search.{any_first}
 use Rattle.grammars.specs.Grammars.{first_of, gives_two?, grammar_of, kind_of, name_of, second_of}
@@ -52,13 +51,8 @@ fits_of rules n x y l r t a b =
 -- a list with an element that passes has a first place where one does
 no_place : (p : ℕ → Bool) (l : List ℕ) → None ≡ position p l → T (any p l) → ⊥
 no_place p l e t =
-    let q : first_place p l ≡ position_or_len p l = is_position_or_len (first_place p) p refl (λ x xs. step (p x) (first_place p xs)) l in
-    let lt : T (ltb (position_or_len p l) (length l)) = subst (λ n. T (ltb n (length l))) q (subst T (any_first p l) t) in
+    let lt : T (ltb (position_or_len p l) (length l)) = subst (λ n. T (ltb n (length l))) (sym (first_std p l)) (subst T (any_first p l) t) in
     none-some (position_or_len p l) (e ∙ ap (λ b. cond b (Some (position_or_len p l)) None) (is_true (ltb (position_or_len p l) (length l)) lt))
-  where
-    step : (b : Bool) (n : ℕ) → elim b [ true ↦ 0 | false ↦ suc n ] ≡ cond b 0 (1 + n)
-    step true n = refl
-    step false n = omega arith
 
 -- where no place is found, no rule fits
 pub none_fits : (rules : List ℕ) (n x y l r : ℕ) → None ≡ position (fits? n x y) rules → T ((grammar_of rules).two n l r) → T (bit x l) → T (bit y r) → ⊥

@@ -60,11 +60,7 @@ fn fits(n: usize, x: u16, y: u16, z: u16) -> bool
 pub fn lettered(rules: &[u16], a: usize) -> u16
     ensures { result ≡ letter_set rules.now a }
 {
-    let mut out = 0u16;
-    for x in rules {
-        out = out | by_letter(a, *x);
-    }
-    out
+    rules.iter().fold(0, |out, x| out | by_letter(a, *x))
 }
 
 // Adds the set y to those of each name in the set x: each turn takes the lowest name out of those that are left.
@@ -85,11 +81,7 @@ pub fn closed(rules: &[u16], acc: &[u16]) -> u16
     requires { most_names ≤ length acc.now }
     ensures { result ≡ closed_set rules.now acc.now }
 {
-    let mut out = 0u16;
-    for x in rules {
-        out = out | by_names(acc, *x);
-    }
-    out
+    rules.iter().fold(0, |out, x| out | by_names(acc, *x))
 }
 
 // The place of the first rule that gives the name n two names, the first of x and the second of y.

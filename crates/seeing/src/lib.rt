@@ -61,6 +61,7 @@ pub fn view_seen(
     let shape = profile.shape;
     let k = shape.k;
     let s = shape.s;
+    // Kept: arrays with place for the most states and moves, of which the first are used, since there is no heap.
     let mut reach = [0u32; MOST_STATES];
     hidden::put_reach(profile, visible, &mut reach);
     let mut late = [0u32; MOST_MOVES];

@@ -20,6 +20,7 @@ pub fn view(
 {
     visible::check_entry(profile, visible, log)?;
     let k = profile.shape.k;
+    // Kept: an array with place for the longest log, of which the first n letters are used, since there is no heap.
     let mut part = [0u8; LONGEST];
     let n = visible::put_seen(visible, k, log, &mut part);
     if order.len() < n {

@@ -1,18 +1,15 @@
-use mathlib.Core.Path.{sym, ◌∙◌, ap₂}
-use lib.Bits.{bit_or}
+-- `rulesets::closed` meets its contract.
+use mathlib.Core.Path.{◌≡◌, refl, subst}
+use borrow.Author.Rules.{rules}
+use Rattle.std.proofs.lemmas.Fn.{fold_over, slice_gives, fronts}
+use Rattle.profile.specs.Automata.{union}
 use Rattle.rulesets.specs.Rulesets.{closed_by}
-use Rattle.rulesets.proofs.Loops.{union_more, union_whole}
-use native.Mathlib.Omega.{arith}
+use Rattle.rulesets.proofs.Loops.{union_more}
 use Rattle.rulesets.proofs.closed.Goals as goal
-
-pub loop-x-preserved : goal.loop-x-preserved
-loop-x-preserved c =
-    let l = c.loop-x in
-    let a = c.args in
-    ap₂ bit_or l.invariant c.by_names-out.ensures ∙ sym (union_more (closed_by a.acc.now) a.rules.now l.x-index (omega arith))
 
 pub returns : goal.returns
 returns c =
-    let l = c.loop-x in
-    let a = c.args in
-    l.invariant ∙ union_whole (closed_by a.acc.now) a.rules.now l.x-index (omega arith) (omega arith)
+    let f = closed_by c.args.acc.now in
+    subst (λ l. c.fold.result ≡ union f l) c.iter.ensures.rest
+    (fold_over fronts (λ y. y.now) _ (λ ys n. n ≡ union f ys) _ (λ ys n x b f' j k. let more = union_more f ys x.now n b j in search rules)
+    _ _ _ _ (slice_gives c.iter.result) refl c.fold.ensures.ran)
