@@ -10,14 +10,7 @@ use parts::{Step, next_step};
 
 // Writes an order of the events between the prefixes of the records i and j that can be derived from the name, at their places. It calls itself for the
 // smaller of two parts and goes on with the larger, so at most 12 calls are open.
-pub fn put_part(
-    nested: &Nested,
-    sets: &[u16],
-    name: usize,
-    i: usize,
-    j: usize,
-    order: &mut [u8],
-)
+pub fn put_part(nested: &Nested, sets: &[u16], name: usize, i: usize, j: usize, order: &mut [u8])
     requires known { AllKnown nested.now sets.now }
     requires i_lt_j { (i < j) × (j < nested.now.records) × (length nested.now.log.now ≤ length order.old) × Between nested.now i j name }
     ensures { Written nested.now i j name order.old order.new }

@@ -6,7 +6,7 @@ use native.Mathlib.Omega.{arith}
 use mir.Syntax.{w64}
 use mir.Val.{Fits}
 use lib.Dec.{T}
-use lib.ListN.{drop, length}
+use lib.ListN.{length}
 use Rattle.profile.specs.Traces.{bit, independent}
 use Rattle.profile.specs.Prefixes.{total}
 use Rattle.profile.specs.Tables.{count_field, layout}

@@ -1,2 +1,2 @@
--- Laws of the check of rules; the functions' proofs cite them.
+-- Laws of the check of a rule; the functions' proofs cite them.
 pub mod Tests

@@ -4,6 +4,7 @@
 ghost use Rattle.std.specs.Prelude.{◌≡◌};
 ghost use Rattle.std.specs.List.{list_any};
 ghost use Rattle.grammars.specs.Grammars.{bad_rules as rules_bad, first_of, kind_of, letter_of, name_of, rule_out_of_range, second_of};
+ghost use Rattle.rules.specs.Rules.{RuleIs};
 
 // The names and the rules of a grammar: so many at most.
 pub const MOST_NAMES: usize = 16;
@@ -19,8 +20,15 @@ pub struct Grammar<'a> {
     pub rules: &'a [u16],
 }
 
-// The digits of a rule.
-// Kept: the C interface hands a rule, and its kind, as a number of 16 bits.
+// What a rule gives its name: one letter, or two names; or it is of neither kind.
+#[derive(Clone, Copy)]
+pub enum Rule {
+    Letter(usize),
+    Names(usize, usize),
+    Neither,
+}
+
+// The digits of a rule, which C hands as a number of 16 bits.
 pub fn kind(x: u16) -> usize
     ensures { result ≡ kind_of x }
 {
@@ -51,16 +59,28 @@ pub fn letter(x: u16) -> usize
     (x % 256) as usize
 }
 
+// What a rule gives, by its digits.
+pub fn read(x: u16) -> Rule
+    ensures { RuleIs x result }
+{
+    match kind(x) {
+        0 => Rule::Letter(letter(x)),
+        1 => Rule::Names(first(x), second(x)),
+        _ => Rule::Neither,
+    }
+}
+
 // A rule uses a name or a letter out of range, or is of neither kind.
 fn bad_rule(k: usize, names: usize, x: u16) -> bool
     ensures { result ≡ rule_out_of_range k names x }
 {
-    let a = kind(x);
     let n = name(x);
-    let l = first(x);
-    let r = second(x);
-    let y = letter(x);
-    (names <= n) | (((a == 0) & (k <= y)) | (((a == 1) & ((names <= l) | (names <= r))) | (1 < a)))
+    let rule = read(x);
+    match rule {
+        Rule::Letter(a) => (names <= n) | (k <= a),
+        Rule::Names(l, r) => (names <= n) | ((names <= l) | (names <= r)),
+        Rule::Neither => true,
+    }
 }
 
 // Some rule is bad.

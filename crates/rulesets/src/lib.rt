@@ -7,7 +7,7 @@ ghost use Rattle.grammars.specs.Grammars.{most_names, name_of};
 ghost use Rattle.grammars.specs.Sets.{lettered as letter_set, lettered_by};
 ghost use Rattle.rulesets.specs.Rulesets.{Spread, closed as closed_set, closed_by, fits?};
 
-use rules::{first, kind, letter, name, second};
+use rules::{Rule, name, read};
 
 // The set of the rule's name, if the test holds.
 fn when(test: bool, x: u16) -> u16
@@ -21,9 +21,12 @@ fn when(test: bool, x: u16) -> u16
 fn by_letter(a: usize, x: u16) -> u16
     ensures { result ≡ lettered_by a x }
 {
-    let kind = kind(x);
-    let letter = letter(x);
-    when((kind == 0) & (letter == a), x)
+    let rule = read(x);
+    match rule {
+        Rule::Letter(b) => when(b == a, x),
+        Rule::Names(_, _) => 0,
+        Rule::Neither => 0,
+    }
 }
 
 // Name n is in the set.
@@ -39,21 +42,24 @@ fn by_names(acc: &[u16], x: u16) -> u16
     requires { most_names ≤ length acc.now }
     ensures { result ≡ closed_by acc.now x }
 {
-    let kind = kind(x);
-    let set = acc[first(x)];
-    let second = has(set, second(x));
-    when((kind == 1) & second, x)
+    let rule = read(x);
+    match rule {
+        Rule::Letter(_) => 0,
+        Rule::Names(l, r) => when(has(acc[l], r), x),
+        Rule::Neither => 0,
+    }
 }
 
 // The rule gives the name n two names, the first of x and the second of y.
 fn fits(n: usize, x: u16, y: u16, z: u16) -> bool
     ensures { result ≡ fits? n x y z }
 {
-    let kind = kind(z);
-    let name = name(z);
-    let first = has(x, first(z));
-    let second = has(y, second(z));
-    (kind == 1) & ((name == n) & (first & second))
+    let rule = read(z);
+    match rule {
+        Rule::Letter(_) => false,
+        Rule::Names(l, r) => (name(z) == n) & (has(x, l) & has(y, r)),
+        Rule::Neither => false,
+    }
 }
 
 // The names to which a rule gives the letter a.

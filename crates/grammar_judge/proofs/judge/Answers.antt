@@ -55,15 +55,16 @@ returns-then-sets-prefixes c =
     let u = subst (BuiltIs a.grammar.now.k a.grammar.now.masks.now a.log.now a.work.now _) c.in_ok-prefixes.was c.build.ensures in
     let e₂ = u.0.prefixes in answer_sets a.grammar.now.k a.grammar.now.masks.now a.grammar.now.names a.grammar.now.rules.now a.log.now a.order.now a.work.now a.sets.now good right log long (subst (λ n. n ≤ capacity layout (length a.work.now)) e₂ u.1) _ u.0 (subst (λ n. length a.sets.now < n * n) e₂ c.if-sets-prefixes.true)
 
-pub put_verdict-requires : goal.put_verdict-requires
-put_verdict-requires c =
+pub invariant_of-nested : goal.invariant_of-nested
+invariant_of-nested c =
     let a = c.args in
     let good = sym c.check_relation.ensures ∙ ap refused_by c.in_ok-check_relation.was in
-    let right = sym c.bad_rules.ensures ∙ c.if-bad_rules.false in
     let log = sym c.check_log.ensures ∙ ap refused_by c.in_ok-check_log.was in
-    let long = c.if-order-log.false in
     let u = subst (BuiltIs a.grammar.now.k a.grammar.now.masks.now a.log.now a.work.now _) c.in_ok-prefixes.was c.build.ensures in
-    (setting_of a.grammar.now.k a.grammar.now.masks.now a.log.now a.work.now _ c.in_ok-prefixes.field-0.prefixes c.in_ok-prefixes.field-0.looks good log u.0 u.1, c.if-sets-prefixes.false, long)
+    setting_of a.grammar.now.k a.grammar.now.masks.now a.log.now a.work.now _ c.in_ok-prefixes.field-0.prefixes c.in_ok-prefixes.field-0.looks good log u.0 u.1
+
+pub put_verdict-requires : goal.put_verdict-requires
+put_verdict-requires c = (c.if-sets-prefixes.false, c.if-order-log.false)
 
 pub returns-in_err-prefixes : goal.returns-in_err-prefixes
 returns-in_err-prefixes c =

@@ -1,5 +1,5 @@
 use mathlib.Core.Path.{refl, ◌∙◌}
-use Rattle.rules.proofs.Tests.{any_is}
+use Rattle.profile.proofs.Chains.{any_std}
 use lib.ListN.{length}
 use Rattle.grammars.specs.Grammars.{most_names, most_rules, rule_out_of_range}
 use borrow.Author.Tests.{lt-ltb, le-ltb}
@@ -19,4 +19,4 @@ pub returns : goal.returns
 returns c =
     let a = c.args in
     rw (le-ltb a.names 1 (omega arith), le-ltb most_names a.names (omega arith), le-ltb most_rules (length a.rules.now) (omega arith))
-    (c.some_bad.ensures ∙ any_is (rule_out_of_range a.k a.names) a.rules.now)
+    (c.some_bad.ensures ∙ any_std (rule_out_of_range a.k a.names) a.rules.now)

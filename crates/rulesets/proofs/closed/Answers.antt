@@ -9,7 +9,6 @@ use Rattle.rulesets.proofs.closed.Goals as goal
 
 pub returns : goal.returns
 returns c =
-    let f = closed_by c.args.acc.now in
-    subst (λ l. c.fold.result ≡ union f l) c.iter.ensures.rest
-    (fold_over fronts (λ y. y.now) _ (λ ys n. n ≡ union f ys) _ (λ ys n x b f' j k. let more = union_more f ys x.now n b j in search rules)
+    subst (λ l. c.fold.result ≡ union (closed_by c.args.acc.now) l) c.iter.ensures.rest
+    (fold_over fronts (λ y. y.now) _ (λ ys n. n ≡ union (closed_by c.args.acc.now) ys) _ (λ ys n x b f' j k. let more = union_more (closed_by c.args.acc.now) ys x.now n b j in search rules)
     _ _ _ _ (slice_gives c.iter.result) refl c.fold.ensures.ran)

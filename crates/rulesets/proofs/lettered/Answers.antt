@@ -9,7 +9,6 @@ use Rattle.rulesets.proofs.lettered.Goals as goal
 
 pub returns : goal.returns
 returns c =
-    let f = lettered_by c.args.a in
-    subst (λ l. c.fold.result ≡ union f l) c.iter.ensures.rest
-    (fold_over fronts (λ y. y.now) _ (λ ys n. n ≡ union f ys) _ (λ ys n x b f' j k. let more = union_more f ys x.now n b j in search rules)
+    subst (λ l. c.fold.result ≡ union (lettered_by c.args.a) l) c.iter.ensures.rest
+    (fold_over fronts (λ y. y.now) _ (λ ys n. n ≡ union (lettered_by c.args.a) ys) _ (λ ys n x b f' j k. let more = union_more (lettered_by c.args.a) ys x.now n b j in search rules)
     _ _ _ _ (slice_gives c.iter.result) refl c.fold.ensures.ran)

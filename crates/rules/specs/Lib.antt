@@ -1,0 +1,2 @@
+-- What a rule gives.
+pub mod Rules
