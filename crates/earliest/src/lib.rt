@@ -1,7 +1,7 @@
 // The verdict and the earliest accepted order, from the table of prefixes: document 01, "The judge".
 #![tactic(auto)]
 
-ghost use Rattle.std.specs.Prelude.{◌≡◌, true, ℕ, suc, ◌≤◌, ◌<◌, T, length};
+ghost use Rattle.std.specs.Prelude.{Bool, ◌≡◌, true, ℕ, suc, ◌≤◌, ◌<◌, T, length};
 ghost use Rattle.profile.specs.Limits.{most_letters, most_states};
 ghost use Rattle.profile.specs.Rules.{order_by};
 ghost use Rattle.profile.specs.Automata.{lent, forward_step};
@@ -14,11 +14,12 @@ ghost use Rattle.successors.specs.Successors.{Stands};
 ghost use Rattle.earliest.specs.Earliest.{Enclosed, Smallest, Some, Table, found?, led, record_count, with_order};
 
 use counts::Counts;
-use profile::{Profile, Shape};
+use profile::Profile;
 use records::RECORD;
 
 // Some order of the log is accepted: the backward set of the empty prefix, the first record, has the start state.
-pub fn has_order(table: &[u32], profile: &Profile, log: &[u8], termed: bool) -> bool
+pub fn has_order(table: &[u32], profile: &Profile, log: &[u8]) -> bool
+    ghost termed: { Bool }
     requires { Table (rules_of (lent profile.now) termed) log.now table.now }
     ensures { result ≡ found? (order_by (rules_of (lent profile.now) termed) log.now) }
 {
@@ -67,12 +68,19 @@ fn place_for(t: &[u32], at: usize, end: usize, near: usize, c: Counts) -> Sought
 // The states that letter x leads to, where record j has the counts c and one of them is in its backward set; else none.
 // Kept: that there are none is a set of states like another, the empty one, and no mark beside the sets.
 #[tactic(auto, using(crate::proofs::Standing::stands_whole))]
-fn led_to(t: &[u32], j: usize, c: Counts, states: u32, shape: Shape, moves: &[u32], x: usize) -> u32
-    requires { (shape.k ≤ most_letters) × (shape.s ≤ most_states) }
-    ensures { result ≡ led t.now (words c) (forward_step shape.k shape.s moves.now states x) j }
+fn led_to(t: &[u32], j: usize, c: Counts, states: u32, profile: &Profile, x: usize) -> u32
+    requires { (profile.now.shape.k ≤ most_letters) × (profile.now.shape.s ≤ most_states) }
+    ensures { result
+        ≡ led t.now (words c) (forward_step profile.now.shape.k profile.now.shape.s profile.now.moves.now states x) j }
 {
     if costcursors::stands_at(t, j, c) {
-        let reached = steps::step_forward(moves, shape.k, shape.s, states, x);
+        let reached = steps::step_forward(
+            profile.moves,
+            profile.shape.k,
+            profile.shape.s,
+            states,
+            x,
+        );
         if steps::meet(reached, records::last_at(t, j)) {
             return reached;
         }
@@ -81,18 +89,18 @@ fn led_to(t: &[u32], j: usize, c: Counts, states: u32, shape: Shape, moves: &[u3
 }
 
 // The smallest letter that can be taken next. The records of larger letters stand before those of smaller ones; `near` is how far behind `at` to look first.
-fn choose(t: &[u32], at: usize, near: usize, states: u32, shape: Shape, moves: &[u32]) -> Choice
-    requires stands { Stands t.now shape.k at × (shape.s ≤ most_states) }
-    requires some { Some (forward_step shape.k shape.s moves.now) t.now at states shape.k }
-    ensures { Smallest (forward_step shape.k shape.s moves.now) t.now at states shape.k result.letter result.next result.states }
+fn choose(t: &[u32], at: usize, near: usize, states: u32, profile: &Profile) -> Choice
+    requires stands { Stands t.now profile.now.shape.k at × (profile.now.shape.s ≤ most_states) }
+    requires some { Some (forward_step profile.now.shape.k profile.now.shape.s profile.now.moves.now) t.now at states profile.now.shape.k }
+    ensures { Smallest (forward_step profile.now.shape.k profile.now.shape.s profile.now.moves.now) t.now at states profile.now.shape.k result.letter result.next result.states }
 {
-    let k = shape.k;
+    let k = profile.shape.k;
     let c = records::counts_at(t, at);
     let mut end = records::records_in(t);
     for x in 0..k {
         let next = counts::one_more(c, x);
         let sought = place_for(t, at, end, near, next);
-        let reached = led_to(t, sought.place, next, states, shape, moves, x);
+        let reached = led_to(t, sought.place, next, states, profile, x);
         if reached != 0 {
             return Choice {
                 letter: x,
@@ -110,14 +118,8 @@ fn choose(t: &[u32], at: usize, near: usize, states: u32, shape: Shape, moves: &
 }
 
 // Writes the earliest accepted order.
-pub fn put_order(
-    table: &[u32],
-    records: usize,
-    profile: &Profile,
-    log: &[u8],
-    order: &mut [u8],
-    termed: bool,
-)
+pub fn put_order(table: &[u32], records: usize, profile: &Profile, log: &[u8], order: &mut [u8])
+    ghost termed: { Bool }
     requires table { Table (rules_of (lent profile.now) termed) log.now table.now }
     requires records_value { records ≡ record_count (rules_of (lent profile.now) termed) log.now }
     requires log_value { found? (order_by (rules_of (lent profile.now) termed) log.now) ≡ true }
@@ -130,14 +132,7 @@ pub fn put_order(
     let mut at = 0;
     let mut near = 0;
     for i in 0..log.len() {
-        let choice = choose(
-            &table[0..used],
-            at,
-            near,
-            states,
-            profile.shape,
-            profile.moves,
-        );
+        let choice = choose(&table[0..used], at, near, states, profile);
         let letter = choice.letter;
         order[i] = letter as u8;
         states = choice.states;

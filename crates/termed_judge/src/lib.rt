@@ -57,7 +57,7 @@ fn judge_coded(
     ensures { Answered (rules_of (lent profile.now) true) codes.now order.old order.new work.old work.new result }
 {
     let Filled { prefixes, looks } = fill_coded(work, profile, log, codes)?;
-    if verdict::put_verdict(work, prefixes, profile, codes, order, true) {
+    if verdict::put_verdict(work, prefixes, profile, codes, order) {
         Ok(Judged::Order { prefixes, looks })
     } else {
         Ok(Judged::NoOrder { prefixes, looks })

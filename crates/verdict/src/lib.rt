@@ -1,7 +1,7 @@
 // The judge: document 01, "The judge".
 #![tactic(auto)]
 
-ghost use Rattle.std.specs.Prelude.{◌≡◌, [], ◌∷◌, ◌++◌, true, ◌≤◌, length};
+ghost use Rattle.std.specs.Prelude.{Bool, ◌≡◌, [], ◌∷◌, ◌++◌, true, ◌≤◌, length};
 ghost use Rattle.std.proofs.Math.Option.{some};
 ghost use Rattle.profile.specs.Automata.{lent};
 ghost use Rattle.profile.specs.Rules.{order_by};
@@ -43,18 +43,18 @@ pub fn put_verdict(
     profile: &Profile,
     log: &[u8],
     order: &mut [u8],
-    termed: bool,
 ) -> bool
+    ghost termed: { Bool }
     requires table { Table (rules_of (lent profile.now) termed) log.now table.now }
     requires records_value { records ≡ record_count (rules_of (lent profile.now) termed) log.now }
     requires log_in_bounds { length log.now ≤ length order.old }
     ensures value { result ≡ found? (order_by (rules_of (lent profile.now) termed) log.now) }
     ensures order_after { order.new ≡ with_order (order_by (rules_of (lent profile.now) termed) log.now) order.old }
 {
-    if !earliest::has_order(table, profile, log, termed) {
+    if !earliest::has_order(table, profile, log) {
         return false;
     }
-    earliest::put_order(table, records, profile, log, order, termed);
+    earliest::put_order(table, records, profile, log, order);
     true
 }
 
@@ -71,7 +71,7 @@ pub fn judge(
         return Err(refusal_of_short(profile, log));
     }
     let Filled { prefixes, looks } = table::build(profile, log, work)?;
-    if put_verdict(work, prefixes, profile, log, order, false) {
+    if put_verdict(work, prefixes, profile, log, order) {
         Ok(Judged::Order { prefixes, looks })
     } else {
         Ok(Judged::NoOrder { prefixes, looks })

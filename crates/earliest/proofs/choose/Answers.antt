@@ -15,8 +15,8 @@ counts_at-c-requires c = omega (arith, c.requires.stands.0.inside)
 pub loop-x-init : goal.loop-x-init
 loop-x-init c =
     let a = c.args in
-    let step = forward_step a.shape.k a.shape.s a.moves.now in
-    (bounded_first step a.t.now a.at a.states a.shape.k c.requires.stands.0 c.records_in-end.result c.records_in-end.ensures, λ y r l k. absurd (omega arith))
+    let step = forward_step a.profile.now.shape.k a.profile.now.shape.s a.profile.now.moves.now in
+    (bounded_first step a.t.now a.at a.states a.profile.now.shape.k c.requires.stands.0 c.records_in-end.result c.records_in-end.ensures, λ y r l k. absurd (omega arith))
 
 pub place_for-sought-requires : goal.place_for-sought-requires
 place_for-sought-requires c =
@@ -34,10 +34,10 @@ returns-then-reached-ne0 c =
     let q = c.requires.stands.0 in
     let l = c.loop-x in
     let r = c.place_for-sought.ensures in
-    let step = forward_step a.shape.k a.shape.s a.moves.now in
+    let step = forward_step a.profile.now.shape.k a.profile.now.shape.s a.profile.now.moves.now in
     let own = c.one_more-next.ensures ∙ ap (λ v. add_count layout v l.x) c.counts_at-c.ensures in
     let inside : c.place_for-sought.result.end ≤ records_in a.t.now = omega (arith, r.at_lt_place.2, (l.invariant.0 l.x (omega arith) c.loop-x-test.true).inside) in
-    let k = taken_here step a.t.now a.at a.states a.shape.k q l.x c.led_to-reached.result c.place_for-sought.result.place c.place_for-sought.result.end (words c.one_more-next.result)
+    let k = taken_here step a.t.now a.at a.states a.profile.now.shape.k q l.x c.led_to-reached.result c.place_for-sought.result.place c.place_for-sought.result.end (words c.one_more-next.result)
     c.loop-x-test.true own r.at_lt_place.1 inside (r.between q.ordered) (r.i_value q.ordered) c.led_to-reached.ensures c.if-reached-ne0.true in
     record { below = c.loop-x-test.true; takes = k.0; behind = r.at_lt_place.0; states = k.1; first = l.invariant.1 }
 
@@ -47,12 +47,12 @@ loop-x-preserved c =
     let q = c.requires.stands.0 in
     let l = c.loop-x in
     let r = c.place_for-sought.ensures in
-    let step = forward_step a.shape.k a.shape.s a.moves.now in
+    let step = forward_step a.profile.now.shape.k a.profile.now.shape.s a.profile.now.moves.now in
     let own = c.one_more-next.ensures ∙ ap (λ v. add_count layout v l.x) c.counts_at-c.ensures in
     let inside : c.place_for-sought.result.end ≤ records_in a.t.now = omega (arith, r.at_lt_place.2, (l.invariant.0 l.x (omega arith) c.loop-x-test.true).inside) in (
-      bounded_next step a.t.now a.at a.states a.shape.k q l.x c.led_to-reached.result c.place_for-sought.result.place c.place_for-sought.result.end (words c.one_more-next.result)
+      bounded_next step a.t.now a.at a.states a.profile.now.shape.k q l.x c.led_to-reached.result c.place_for-sought.result.place c.place_for-sought.result.end (words c.one_more-next.result)
           c.loop-x-test.true own r.at_lt_place.1 inside (r.between q.ordered) (r.i_value q.ordered) c.led_to-reached.ensures,
-      passed_next step a.t.now a.at a.states a.shape.k q l.x c.led_to-reached.result c.place_for-sought.result.place c.place_for-sought.result.end (words c.one_more-next.result)
+      passed_next step a.t.now a.at a.states a.profile.now.shape.k q l.x c.led_to-reached.result c.place_for-sought.result.place c.place_for-sought.result.end (words c.one_more-next.result)
           c.loop-x-test.true own r.at_lt_place.1 inside (r.between q.ordered) (r.i_value q.ordered) c.led_to-reached.ensures l.invariant.1 c.if-reached-ne0.false,
     )
 

@@ -6,4 +6,4 @@ use Rattle.earliest.proofs.choose.Given as goal
 
 abbrev pub invariant-loop-x : goal.invariant-loop-x
 invariant-loop-x l =
-    Bounded (forward_step l.shape.k l.shape.s l.moves) l.t l.at l.states l.shape.k l.x l.end × Passed (forward_step l.shape.k l.shape.s l.moves) l.t l.at l.states l.shape.k l.x
+    Bounded (forward_step l.profile.shape.k l.profile.shape.s l.profile.moves.now) l.t l.at l.states l.profile.shape.k l.x l.end × Passed (forward_step l.profile.shape.k l.profile.shape.s l.profile.moves.now) l.t l.at l.states l.profile.shape.k l.x

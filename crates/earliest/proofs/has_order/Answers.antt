@@ -7,9 +7,9 @@ use Rattle.earliest.proofs.Extraction.{found_first, start_set}
 use Rattle.earliest.proofs.has_order.Goals as goal
 
 pub last_at-backward-requires : goal.last_at-backward-requires
-last_at-backward-requires c = omega (arith, (first_record c.requires).0)
+last_at-backward-requires g c = omega (arith, (first_record c.requires).0)
 
 pub returns : goal.returns
-returns c =
+returns g c =
     let tab = c.requires in
     c.meet.ensures ∙ ap₂ meets (start_set tab) c.last_at-backward.ensures ∙ sym (found_first tab)

@@ -6,5 +6,5 @@ use Rattle.earliest.proofs.Extraction.{Written}
 use Rattle.earliest.proofs.put_order.Given as goal
 
 abbrev pub invariant-loop-i : goal.invariant-loop-i
-invariant-loop-i l =
-    (tab : Table (rules_of (lent l.profile) l.termed) l.log l.table) × Written tab l.initial.order l.i l.order l.states l.at
+invariant-loop-i g l =
+    (tab : Table (rules_of (lent l.profile) g.termed) l.log l.table) × Written tab l.initial.order l.i l.order l.states l.at

@@ -14,11 +14,7 @@ put_verdict-requires c =
     let b = c.fill_coded in
     let p = rules_of (lent a.profile.now) true in
     let h = subst (Fills p a.codes.now a.work.now b.new.table) c.in_ok-prefixes.was b.ensures in
-    record {
-      table = ready p a.codes.now a.order.now a.work.now b.new.table _ h c.requires.coded_call.profile c.requires.coded_call.events b.auto.table;
-      records_value = h.table.0;
-      log_in_bounds = c.requires.codes_in_bounds;
-    }
+    (ready p a.codes.now a.order.now a.work.now b.new.table _ h c.requires.coded_call.profile c.requires.coded_call.events b.auto.table, (h.table.0, c.requires.codes_in_bounds))
 
 pub returns-in_err-prefixes : goal.returns-in_err-prefixes
 returns-in_err-prefixes c =

@@ -1,5 +1,4 @@
 -- `verdict::judge` meets its contract: 9 is told before building, and what is told of the order and the table follows from the table's promise.
-use borrow.Author.Rules.{rules}
 use mathlib.Core.Path.{sym, ◌∙◌, subst}
 use Rattle.profile.specs.Automata.{lent}
 use Rattle.std.proofs.lemmas.Result.{err_from_is_err_and}
@@ -45,8 +44,5 @@ put_verdict-requires c =
     let a = c.args in
     let b = c.build in
     let t = b.new.table in
-    let h = subst (Built.Promise (lent a.profile.now) a.log.now a.work.now t) c.in_ok-prefixes.was b.ensures in record {
-      table = ready (lent a.profile.now) a.log.now a.order.now a.work.now c.if-order-log.false t _ h b.auto.table;
-      records_value = h.table.0;
-      log_in_bounds = c.if-order-log.false;
-    }
+    let h = subst (Built.Promise (lent a.profile.now) a.log.now a.work.now t) c.in_ok-prefixes.was b.ensures in
+    (ready (lent a.profile.now) a.log.now a.order.now a.work.now c.if-order-log.false t _ h b.auto.table, (h.table.0, c.if-order-log.false))

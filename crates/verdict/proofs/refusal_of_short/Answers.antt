@@ -1,5 +1,4 @@
 -- `verdict::refusal_of_short` meets its contract.
-use borrow.Author.Rules.{rules}
 use mathlib.Core.Path.{sym, ◌∙◌, ap}
 use Rattle.profile.specs.Automata.{lent}
 use Rattle.profile.specs.Refusals.{refused_by}
