@@ -6,7 +6,6 @@ ghost use Rattle.closestanswer.specs.Answers.{Promise};
 
 use closestanswer::Closest;
 use profile::{Profile, Refusal};
-use table::Filled;
 
 // The order closest to what was recorded, with a budget of pairs of a prefix and a state; refused as the judge refuses, then by 17.
 pub fn closest(
@@ -22,8 +21,6 @@ pub fn closest(
     if order.len() < log.len() {
         return Err(verdict::refusal_of_short(profile, log));
     }
-    let Filled { prefixes, looks } = table::build(profile, log, work)?;
-    closestfilled::answer(
-        work, prefixes, looks, profile, log, log, budget, order, costs, false,
-    )
+    let filled = table::build(profile, log, work)?;
+    closestfilled::answer(work, filled, profile, log, log, budget, order, costs)
 }

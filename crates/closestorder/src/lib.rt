@@ -1,7 +1,7 @@
 // The order closest to what was recorded, its swaps and the floor, from the records of all prefixes: document 02, Paper 10.
 #![tactic(auto)]
 
-ghost use Rattle.std.specs.Prelude.{◌≡◌, true, ◌*◌, ◌≤◌, length, take};
+ghost use Rattle.std.specs.Prelude.{Bool, ◌≡◌, true, ◌*◌, ◌≤◌, length, take};
 ghost use Rattle.profile.specs.Automata.{lent};
 ghost use Rattle.profile.specs.Rules.{order_by};
 ghost use Rattle.terms.specs.Coded.{rules_of};
@@ -30,8 +30,8 @@ fn put_judges(
     codes: &[u8],
     placed: &Places,
     order: &mut [u8],
-    termed: bool,
 ) -> u32
+    ghost termed: { Bool }
     requires held { Held (rules_of (lent profile.now) termed) codes.now log.now t.now }
     requires placed { Placed profile.now.shape.k log.now placed.now.starts.now placed.now.places.now }
     requires codes_value { found? (order_by (rules_of (lent profile.now) termed) codes.now) ≡ true }
@@ -40,7 +40,7 @@ fn put_judges(
     ensures order_after { order.new ≡ with_order (order_by (rules_of (lent profile.now) termed) codes.now) order.old }
 {
     let records = records::records_in(t);
-    earliest::put_order(t, records, profile, codes, order, termed);
+    earliest::put_order(t, records, profile, codes, order);
     costwalk::swaps_of(t, profile.shape.k, log, placed, order)
 }
 
@@ -72,8 +72,8 @@ fn put_placed(
     budget: u64,
     order: &mut [u8],
     costs: &mut [u32],
-    termed: bool,
 ) -> Found
+    ghost termed: { Bool }
     requires held { Held (rules_of (lent profile.now) termed) codes.now log.now t.now }
     requires placed { Placed profile.now.shape.k log.now placed.now.starts.now placed.now.places.now }
     requires codes_value { found? (order_by (rules_of (lent profile.now) termed) codes.now) ≡ true }
@@ -86,7 +86,7 @@ fn put_placed(
     let fewest = costcells::least_in(costs, all - s, s, profile.shape.finals);
     if budget < costcells::pairs(costs, all) as u64 {
         let floor = costcells::floor(costs, all, fewest, budget);
-        let swaps = put_judges(t, profile, log, codes, placed, order, termed);
+        let swaps = put_judges(t, profile, log, codes, placed, order);
         return Found { swaps, floor };
     }
     put_best(t, profile, log, placed, fewest, order, costs);
@@ -106,8 +106,8 @@ pub fn put_order(
     budget: u64,
     order: &mut [u8],
     costs: &mut [u32],
-    termed: bool,
 ) -> Found
+    ghost termed: { Bool }
     requires held { Held (rules_of (lent profile.now) termed) codes.now log.now t.now }
     requires codes_value { found? (order_by (rules_of (lent profile.now) termed) codes.now) ≡ true }
     requires log_in_bounds { (length log.now ≤ length order.old) × (records_in t.now * profile.now.shape.s ≤ length costs.old) }
@@ -129,6 +129,5 @@ pub fn put_order(
         budget,
         order,
         costs,
-        termed,
     )
 }

@@ -11,7 +11,6 @@ ghost use Rattle.termed_closest.specs.CodedAnswers.{Answered};
 use closestanswer::Closest;
 use profile::limits::LONGEST;
 use profile::{Calendar, Profile, Refusal};
-use table::Filled;
 
 // The closest order of events that are codes, where nothing but 10 and 17 can refuse; the log has their letters.
 fn closest_coded(
@@ -27,10 +26,8 @@ fn closest_coded(
     requires log_in_bounds { length log.now ≤ length order.old }
     ensures { Answered (rules_of (lent profile.now) true) codes.now budget order.old order.new work.old work.new costs.old costs.new result }
 {
-    let Filled { prefixes, looks } = termed_judge::fill_coded(work, profile, log, codes)?;
-    closestfilled::answer(
-        work, prefixes, looks, profile, log, codes, budget, order, costs, true,
-    )
+    let filled = termed_judge::fill_coded(work, profile, log, codes)?;
+    closestfilled::answer(work, filled, profile, log, codes, budget, order, costs)
 }
 
 // The order closest to what was recorded, of a log with a day for each event and with terms, with a budget of pairs of a prefix and a state; refused as the

@@ -19,19 +19,14 @@ answer-requires c =
     let a = c.args in
     let b = c.build in
     let t = b.new.table in
-    let h = subst (Built.Promise (lent a.profile.now) a.log.now a.work.now t) c.in_ok-prefixes.was b.ensures in
-    record {
-      table = ready (lent a.profile.now) a.log.now a.order.now a.work.now c.if-order-log.false t _ h b.auto.table;
-      prefixes_value = h.table.0;
-      codes_value = map-id a.log.now;
-      log_in_bounds = c.if-order-log.false;
-    }
+    let h = subst (Built.Promise (lent a.profile.now) a.log.now a.work.now t) c.in_ok-filled.was b.ensures in
+    (ready (lent a.profile.now) a.log.now a.order.now a.work.now c.if-order-log.false t _ h b.auto.table, (h.table.0, (map-id a.log.now, c.if-order-log.false)))
 
-pub returns-in_err-prefixes : goal.returns-in_err-prefixes
-returns-in_err-prefixes c =
+pub returns-in_err-filled : goal.returns-in_err-filled
+returns-in_err-filled c =
     let a = c.args in
     let t = c.build.new.table in
-    let h = subst (Built.Promise (lent a.profile.now) a.log.now a.work.now t) c.in_err-prefixes.was c.build.ensures in
+    let h = subst (Built.Promise (lent a.profile.now) a.log.now a.work.now t) c.in_err-filled.was c.build.ensures in
     let e = err_from_is_err_and c.from_residual.result c.from_residual.ensures.1 in
     rw (e.1, e.2) (told_refused (lent a.profile.now) a.log.now a.budget a.order.now a.work.now a.costs.now c.if-order-log.false t _ h)
 
@@ -40,6 +35,6 @@ returns c =
     let a = c.args in
     let b = c.build in
     let t = b.new.table in
-    let h = subst (Built.Promise (lent a.profile.now) a.log.now a.work.now t) c.in_ok-prefixes.was b.ensures in
+    let h = subst (Built.Promise (lent a.profile.now) a.log.now a.work.now t) c.in_ok-filled.was b.ensures in
     let o = c.answer in
     told_answer (lent a.profile.now) a.log.now a.budget a.order.now a.work.now a.costs.now c.if-order-log.false t _ h o.new.order o.new.costs o.result o.ensures

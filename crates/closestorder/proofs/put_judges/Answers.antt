@@ -7,21 +7,16 @@ use Rattle.closestorder.proofs.Closing.{arranged, as_long, as_table, count_recor
 use Rattle.closestorder.proofs.put_judges.Goals as goal
 
 pub put_order-requires : goal.put_order-requires
-put_order-requires c =
-    let h = c.requires.held in
-    record {
-      table = as_table h;
-      records_value = c.records_in-records.ensures ∙ count_records h;
-      log_value = c.requires.codes_value;
-      log_in_bounds = omega (arith, as_long h, c.requires.log_in_bounds);
-    }
+put_order-requires g c =
+    let h = c.requires.0 in
+    (as_table h, (c.records_in-records.ensures ∙ count_records h, (c.requires.1.1.0, omega (arith, as_long h, c.requires.1.1.1))))
 
 pub swaps_of-requires : goal.swaps_of-requires
-swaps_of-requires c =
+swaps_of-requires g c =
     let a = c.args in
-    let h = c.requires.held in
+    let h = c.requires.0 in
     let o = c.put_order in record {
-      bound = some_record (lent h c.requires.placed);
-      placed = c.requires.placed;
-      arranged = arranged h c.requires.codes_value c.requires.placed a.order.now o.new.order (omega (arith, o.auto.order, c.requires.log_in_bounds)) o.ensures;
+      bound = some_record (lent h c.requires.1.0);
+      placed = c.requires.1.0;
+      arranged = arranged h c.requires.1.1.0 c.requires.1.0 a.order.now o.new.order (omega (arith, o.auto.order, c.requires.1.1.1)) o.ensures;
     }

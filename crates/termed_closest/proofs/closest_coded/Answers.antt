@@ -16,20 +16,15 @@ answer-requires c =
     let a = s.args in
     let b = c.fill_coded in
     let p = rules_of (lent a.profile.now) true in
-    let h = subst (Fills p a.codes.now a.work.now b.new.table) c.in_ok-prefixes.was b.ensures in
-    record {
-      table = ready p a.codes.now a.order.now a.work.now b.new.table _ h s.requires.coded_call.profile s.requires.coded_call.events b.auto.table;
-      prefixes_value = h.table.0;
-      codes_value = sym s.requires.coded_call.letters;
-      log_in_bounds = s.requires.log_in_bounds;
-    }
+    let h = subst (Fills p a.codes.now a.work.now b.new.table) c.in_ok-filled.was b.ensures in
+    (ready p a.codes.now a.order.now a.work.now b.new.table _ h s.requires.coded_call.profile s.requires.coded_call.events b.auto.table, (h.table.0, (sym s.requires.coded_call.letters, s.requires.log_in_bounds)))
 
-pub returns-in_err-prefixes : goal.returns-in_err-prefixes
-returns-in_err-prefixes c =
+pub returns-in_err-filled : goal.returns-in_err-filled
+returns-in_err-filled c =
     let a = c.args in
     let b = c.fill_coded in
     let p = rules_of (lent a.profile.now) true in
-    let h = subst (Fills p a.codes.now a.work.now b.new.table) c.in_err-prefixes.was b.ensures in
+    let h = subst (Fills p a.codes.now a.work.now b.new.table) c.in_err-filled.was b.ensures in
     let e = err_from_is_err_and c.from_residual.result c.from_residual.ensures.1 in
     rw (e.1, e.2) (told_refused p a.codes.now a.budget a.order.now a.work.now b.new.table a.costs.now _ h)
 
@@ -38,6 +33,6 @@ returns c =
     let a = c.args in
     let b = c.fill_coded in
     let p = rules_of (lent a.profile.now) true in
-    let h = subst (Fills p a.codes.now a.work.now b.new.table) c.in_ok-prefixes.was b.ensures in
+    let h = subst (Fills p a.codes.now a.work.now b.new.table) c.in_ok-filled.was b.ensures in
     let o = c.answer in
     told_answer p a.codes.now a.budget a.order.now a.work.now b.new.table a.costs.now _ h o.new.order o.new.costs o.result o.ensures
