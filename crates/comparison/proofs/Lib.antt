@@ -1,3 +1,4 @@
--- Laws about the answers, and about the steps of the loops.
+-- Laws about the answers, about pairs of letters, and about `eq` of two iterators.
 pub mod Projections
+pub mod Equals
 pub mod Answers

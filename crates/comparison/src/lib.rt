@@ -1,8 +1,8 @@
 // Comparison of two logs: document 01, "Comparison".
 #![tactic(auto)]
 
-ghost use Rattle.std.specs.Prelude.{◌≡◌, ◌||◌, ◌+◌, ◌-◌, eqb, drop};
-ghost use Rattle.profile.specs.Lists.{all, equal?, first_place, range};
+ghost use Rattle.std.specs.Prelude.{◌≡◌, ◌||◌, ◌-◌, eqb};
+ghost use Rattle.profile.specs.Lists.{all, equal?, range};
 ghost use Rattle.profile.specs.Orders.{project, same?};
 ghost use Rattle.profile.specs.Traces.{independent};
 ghost use Rattle.comparison.specs.Comparison.{comparison, pair_agrees?};
@@ -23,35 +23,12 @@ fn is_kept(a: u8, x: usize, y: usize) -> bool
     a as usize == x || a as usize == y
 }
 
-// The first place from `from` on with the letter x or y; the log's end where there is none.
-// Kept: not an Option, as `agree` would test two of them, and the log's end is a place from which nothing is left, which its invariant says anyway.
-fn next_kept(log: &[u8], from: usize, x: usize, y: usize) -> usize
-    ensures { result ≡ from + first_place (λ a. eqb a x || eqb a y) (drop from log.now) }
-{
-    let rest = &log[from.min(log.len())..];
-    let skipped = rest.iter().position(|a| is_kept(*a, x, y));
-    from + skipped.unwrap_or(rest.len())
-}
-
 // The two logs are equal where only the letters x and y are kept.
 fn agree(first: &[u8], second: &[u8], x: usize, y: usize) -> bool
     ensures { result ≡ equal? (project x y first.now) (project x y second.now) }
 {
-    let mut i = next_kept(first, 0, x, y);
-    let mut j = next_kept(second, 0, x, y);
-    while i < first.len() {
-        if second.len() <= j {
-            return false;
-        }
-        let a = first[i];
-        let b = second[j];
-        if a != b {
-            return false;
-        }
-        i = next_kept(first, i + 1, x, y);
-        j = next_kept(second, j + 1, x, y);
-    }
-    second.len() <= j
+    let kept = first.iter().filter(|a| is_kept(**a, x, y));
+    kept.eq(second.iter().filter(|a| is_kept(**a, x, y)))
 }
 
 // Letters x and y are exchanged both ways, or the two logs agree on them.

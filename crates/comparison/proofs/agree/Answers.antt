@@ -1,37 +1,22 @@
-use Rattle.comparison.proofs.Projections.{compares_end, compares_other, compares_short, compares_start, compares_step, kept?}
-use mathlib.Core.Path.{sym}
-use native.Mathlib.Omega.{arith}
+-- `comparison::agree` meets its contract: what the two filters give is compared.
+use mathlib.Core.Path.{refl, ◌∙◌, ap₂}
+use Prim.Native.Nat.{ℕ}
+use Rattle.std.specs.Borrow.{Bor}
+use Rattle.std.proofs.Common.{rules, tests}
+use Rattle.std.proofs.lemmas.Iterator.{YieldsList-from_slice}
+use Rattle.std.proofs.lemmas.Iterator.Consumers.{YieldsList-from_filter}
+use Rattle.profile.specs.Lists.{equal?}
+use Rattle.comparison.proofs.Equals.{eq_from_yields_List, filter_std}
+use Rattle.comparison.proofs.Projections.{kept?}
 use Rattle.comparison.proofs.agree.Goals as goal
-
-pub loop-i-init : goal.loop-i-init
-loop-i-init c =
-    let a = c.args in
-    compares_start (kept? a.x a.y) a.first.now a.second.now c.next_kept-i.result c.next_kept-j.result c.next_kept-i.ensures c.next_kept-j.ensures
-
-pub returns-then-second-j : goal.returns-then-second-j
-returns-then-second-j c =
-    let a = c.args in
-    let l = c.loop-i in
-    sym (compares_short (kept? a.x a.y) a.first.now a.second.now l.i l.j l.invariant (omega arith) (omega arith))
-
-pub returns-then-a-b : goal.returns-then-a-b
-returns-then-a-b c =
-    let a = c.args in
-    let l = c.loop-i in
-    sym (compares_other (kept? a.x a.y) a.first.now a.second.now l.i l.j l.invariant (omega arith) (omega arith) c.if-a-b.true)
-
-pub loop-i-smaller : goal.loop-i-smaller
-loop-i-smaller c = omega (arith, c.next_kept-i-in-loop-i.ensures)
-
-pub loop-i-preserved : goal.loop-i-preserved
-loop-i-preserved c =
-    let a = c.args in
-    let l = c.loop-i in
-    compares_step (kept? a.x a.y) a.first.now a.second.now l.i l.j l.invariant (omega arith)
-    c.next_kept-i-in-loop-i.result c.next_kept-j-in-loop-i.result (omega arith) c.if-a-b.false c.next_kept-i-in-loop-i.ensures c.next_kept-j-in-loop-i.ensures
 
 pub returns : goal.returns
 returns c =
     let a = c.args in
-    let l = c.loop-i in
-    sym (compares_end (kept? a.x a.y) a.first.now a.second.now l.i l.j l.invariant (omega arith))
+    let p = kept? a.x a.y in
+    let v = a.first.now in
+    let w = a.second.now in
+    eq_from_yields_List _ _ (λ (y : Bor ℕ). y.now) _ (λ (m n : Bor ℕ). refl) c.filter.result c.eq.result c.eq.ensures.ran
+    (YieldsList-from_filter _ p (YieldsList-from_slice v cc) c.filter-kept.ensures.closure (λ x b q k. search (rules, tests)))
+    (YieldsList-from_filter _ p (YieldsList-from_slice w cc) c.filter.ensures.closure (λ x b q k. search (rules, tests)))
+    ∙ ap₂ equal? (filter_std p v) (filter_std p w)
