@@ -26,7 +26,8 @@ use Rattle.terms.specs.Coded.{event_letter, may_of}
 use Rattle.parents.proofs.Complements.{bits_below, complement_bit}
 use Rattle.parents.proofs.Parents.{hits_less, hits_removable, inherited as handed_on, passed_before}
 use Rattle.cursors.proofs.Levels.{level_whole}
-use Rattle.letters.specs.Letters.{Hands}
+use Rattle.letters.specs.Letters.{Hands, letters_by, neither, tested_by}
+use Rattle.letters.proofs.Handing.{handed_tested}
 use Rattle.merge.specs.Merge.{givers, inherited, other_letters, passing}
 use Rattle.records.specs.Records.{last_at}
 use Rattle.records.proofs.Drafts.{last_of_draft}
@@ -148,6 +149,18 @@ module _ {p : Rules} {w : List ℕ} {m room : ℕ} {found : List ℕ → List �
     where
       same : found (packed layout e) ≡ filter add (below k)
       same = r.finds e prefix
+
+  -- so, without terms, what is handed on and what passes the test by places are the letters that can be added
+  pub handed_letters : (starts places : List ℕ) → found (packed layout e) ≡ letters_by (independent masks) k (length w) starts places (packed layout e)
+      → ((a b : ℕ) → T (independent masks (p.letter a) (p.letter b)) → T (p.may a b))
+      → bit_or I (tested_by (independent masks) k (length w) starts places (packed layout e) (neither k I P)) ≡ addable_set p w e
+  handed_letters starts places by free =
+      handed_tested (independent masks) k (length w) starts places (packed layout e) r.profile.relation.most I P
+      (bits_below 32 I (λ q b. let most = r.profile.relation.most in omega (arith, (given_at q b).0)))
+      (bits_below 32 P (λ q b. let u = union_at (λ x. get_or masks x 0) (filter (bit G) (below k)) q b in
+          let most = r.profile.relation.most in omega (arith, (r.profile.relation.inside u.0 q u.2).1)))
+      (subst (λ l. Hands false l I P) by (hands false (λ z. free)))
+      ∙ ap (union (λ x. 2 ^ x)) (sym by ∙ r.finds e prefix)
 
   -- the letters whose cursors give it are those of which it can have one less
   pub handed_removable : G ≡ removable_set p w e
