@@ -1,19 +1,18 @@
 -- Laws of the cells of a cost table, for the loops over them.
 use mathlib.Core.Path.{◌≡◌, refl, sym, ◌∙◌, ap}
-use mathlib.Core.Bool.{Bool, true, false, cond, not}
+use mathlib.Core.Bool.{Bool, true, false, cond}
 use mathlib.Core.Logic.{◌⊎◌, inl, inr, ⊎_elim}
-use mathlib.Core.List.{List, [], ◌∷◌, ◌++◌}
+use mathlib.Core.List.{List, [], ◌∷◌}
 use mathlib.Core.Option.{Option, none, some, none-ne-some}
 use Prim.Native.Nat.{ℕ, zero, suc, ◌+◌, ◌-◌, ◌≤◌, ◌<◌, ◌^◌}
 use native.Mathlib.Omega.{arith}
 use lib.Bits.{bit_and}
 use lib.Count.{count_trailing_zeros}
 use lib.Dec.{T, not_T, leb, leb→le, le→leb, ltb, ltb→lt, lt→ltb}
-use lib.ListN.{length, get_or, take, set}
-use lib.Seq.{take-suc}
+use lib.ListN.{length, get_or}
 use Rattle.profile.specs.Lists.{filter}
 use Rattle.profile.specs.Traces.{bit}
-use Rattle.profile.proofs.Lists.{filter_agree, filter_last_no, filter_last_yes, filter_no, filter_yes, lt_or_le}
+use Rattle.profile.proofs.Lists.{filter_agree, filter_no, filter_yes, lt_or_le}
 use Rattle.profile.proofs.Sets.{t_eq, bit_below, not_in_none}
 use Rattle.theory.proofs.SetLoops.{rest_first, rest_in, rest_other}
 use Rattle.std.specs.List.{count_by, filter as passing}
@@ -54,9 +53,6 @@ Scanned t row S rest n =
     ((q : ℕ) → T (bit S q) → (n ≤ cost_in t (row + q)) ⊎ T (bit rest q))
     × ((q : ℕ) → T (bit rest q) → T (bit S q))
     × ((n ≡ none_cost) ⊎ ((q : ℕ) × T (bit S q) × (n ≡ cost_in t (row + q))))
-
-pub scan_start : (t : List ℕ) (row S : ℕ) → Scanned t row S S none_cost
-scan_start t row S = (λ q h. inr h, λ q h. h, inl refl)
 
 -- the next state has the cost v; m is the smaller of v and the least so far
 pub scan_more : (t : List ℕ) (row S n v m x : ℕ) → 0 < n → n < 2 ^ 32 → v ≡ cost_in t (row + count_trailing_zeros 32 n) → m ≤ x → m ≤ v → (m ≡ x) ⊎ (m ≡ v)

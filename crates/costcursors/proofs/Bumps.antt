@@ -6,7 +6,7 @@ use native.Mathlib.Omega.{arith}
 use lib.ListN.{length}
 use lib.Seq.{ext_get_or}
 use Rattle.profile.specs.Orders.{Earlier, NoLater, agrees, ends, smaller}
-use Rattle.profile.specs.Prefixes.{at, more, ranked, total}
+use Rattle.profile.specs.Prefixes.{at, ranked, total}
 use Rattle.theory.proofs.Levels.{at_bump, bump}
 
 pub total_bump : (c : List ℕ) (x : ℕ) → x < length c → total (bump c x) ≡ suc (total c)

@@ -1,14 +1,14 @@
 -- A cursor that moves forth or back to where the records divide that stand before given counts from those that do not.
-use mathlib.Core.Path.{◌≡◌, sym, ◌∙◌, ap, subst}
-use mathlib.Core.Bool.{Bool, true, false, not, ◌&&◌}
+use mathlib.Core.Path.{◌≡◌, subst}
+use mathlib.Core.Bool.{Bool, true, false, not}
 use mathlib.Core.Logic.{⊎_elim}
 use mathlib.Core.List.{List}
-use Prim.Native.Nat.{ℕ, suc, ◌≤◌, ◌<◌}
+use Prim.Native.Nat.{ℕ, suc, ◌≤◌}
 use native.Mathlib.Omega.{arith}
-use lib.Dec.{T, not_T, ltb, ltb→lt, lt→ltb}
-use Rattle.profile.proofs.Lists.{is_false, is_true, lt_or_le}
+use lib.Dec.{T}
+use Rattle.profile.proofs.Lists.{lt_or_le}
 use Rattle.records.specs.Records.{counts_at, records_in}
-use Rattle.search.specs.Search.{Ordered, has?, stands_before?}
+use Rattle.search.specs.Search.{Ordered, stands_before?}
 use Rattle.search.proofs.Halves.{between_down, between_up}
 use Rattle.costcursors.specs.Cursors.{High, Low, Splits}
 

@@ -23,6 +23,7 @@ pub fn forth(t: &[u32], from: usize, c: Counts) -> usize
     n
 }
 
+// Kept beside `forth`: they go over other records, make the opposite test and tell another number at each stop, so that one function would be handed all of it.
 // The first of the records in a row before record `from` that do not stand before the counts c; no record from `from` on does.
 pub fn back(t: &[u32], from: usize, c: Counts) -> usize
     requires { (from ≤ records_in t.now) × High t.now (words c) from }

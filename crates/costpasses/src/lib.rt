@@ -18,35 +18,40 @@ ghost use Rattle.costtable.proofs.Stepping.{StandsAll};
 
 use costrows::Arrow;
 use counts::Counts;
-use profile::limits::{COUNT_NUMBERS, MOST_LETTERS, Place};
+use profile::limits::{COUNT_NUMBERS, MOST_LETTERS};
 use profile::{Places, Profile};
 
 // A pass over the records, in their order or back.
 trait Pass {
-    // Where a letter's cursor may stand in the records, for the counts that it seeks.
-    ghost stands: { List ℕ → List ℕ → ℕ → Type 0 };
+    // The cursor that seeks the counts c may stand at record j of t.
+    ghost stands: { (t c : List ℕ) (j : ℕ) → Type 0 };
 
-    // The costs before and after a letter led between two rows.
-    ghost leads: { List ℕ → List ℕ → ℕ → ℕ → ℕ → ℕ → List ℕ → ℕ → ℕ → ℕ → Type 0 };
+    // Letter x, which costs `more`, led between two rows, for the first n states.
+    ghost leads: { (before after : List ℕ) (from to k s : ℕ) (moves : List ℕ) (x more n : ℕ) → Type 0 };
 
-    // The costs before the pass and when it comes to a record and a letter.
-    ghost finds: { Shape → List ℕ → List ℕ → List ℕ → List ℕ → List ℕ → ℕ → ℕ → Type 0 };
+    // `before` became `costs` in a pass that has come to letter x of record j.
+    ghost finds: { (h : Shape) (moves log t before costs : List ℕ) (j x : ℕ) → Type 0 };
 
     // Moves a cursor to the first record that does not stand before the counts c.
     fn seek(t: &[u32], from: usize, c: Counts) -> usize
         requires { (from ≤ records_in t.now) × stands t.now (words c) from }
         ensures { Ordered t.now → Splits t.now (words c) result };
 
-    // A letter leads between two rows.
+    // One letter leads between two rows.
     fn lead(costs: &mut [u32], profile: &Profile, arrow: Arrow)
         requires { Rows costs.old arrow.from arrow.to profile.now.shape.k profile.now.shape.s profile.now.moves.now arrow.letter }
         ensures { leads costs.old costs.new arrow.from arrow.to profile.now.shape.k profile.now.shape.s profile.now.moves.now arrow.letter arrow.more profile.now.shape.s };
 
+    // A cursor may stand where the records divide.
     ghost stops: { (t c : List ℕ) (j : ℕ) → Splits t c j → stands t c j };
 
-    ghost led: { (h : Shape) (moves log t : List ℕ) → Laid h moves log t → (u v v' : List ℕ) (j x r : ℕ) → Next h moves log t j x r → leads v v' (j * h.s) (r * h.s) h.k h.s moves x (cost_after h moves log t j x) h.s → finds h moves log t u v j x → finds h moves log t u v' j (suc x) };
+    // A letter is done that led between a record and the next,
+    ghost led: { (h : Shape) (moves log t : List ℕ) → Laid h moves log t → (u v v' : List ℕ) (j x r : ℕ) → Next h moves log t j x r
+        → leads v v' (j * h.s) (r * h.s) h.k h.s moves x (cost_after h moves log t j x) h.s → finds h moves log t u v j x → finds h moves log t u v' j (suc x) };
 
-    ghost none: { (h : Shape) (moves log t : List ℕ) → Laid h moves log t → (u v : List ℕ) (j x : ℕ) → ((r : ℕ) → Next h moves log t j x r → ⊥) → finds h moves log t u v j x → finds h moves log t u v j (suc x) };
+    // and one for which there is no next.
+    ghost none: { (h : Shape) (moves log t : List ℕ) → Laid h moves log t → (u v : List ℕ) (j x : ℕ) → ((r : ℕ) → Next h moves log t j x r → ⊥)
+        → finds h moves log t u v j x → finds h moves log t u v j (suc x) };
 }
 
 // In the order of the records: the costs to each prefix.
@@ -142,7 +147,7 @@ fn lead<P: Pass>(
     r
 }
 
-// Every letter of record j leads; each letter's cursor stands right for record j.
+// Every letter of record j leads; before and after, each letter's cursor may stand where it does for record j.
 fn lead_all<P: Pass>(
     t: &[u32],
     j: usize,
@@ -185,6 +190,8 @@ pub fn fill_there(t: &[u32], profile: &Profile, log: &[u8], placed: &Places, cos
     }
 }
 
+// Kept beside `fill_there`: what is cleared and lowered first, where the cursors begin and which record comes next are all that a pass says beside `lead_all`, and
+// as methods of a `Pass`, with their laws, they would be more text than the two.
 // The fewest swaps from each prefix and state to an accepted end; t has the records of all prefixes.
 pub fn fill_rest(t: &[u32], profile: &Profile, log: &[u8], placed: &Places, costs: &mut [u32])
     requires { Given profile.now.shape profile.now.moves.now t.now log.now placed.now.starts.now placed.now.places.now costs.old }

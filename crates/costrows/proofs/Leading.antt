@@ -31,15 +31,6 @@ min_one : (v x y : ℕ) → y ≡ min v x → (y ≡ x) ⊎ (y ≡ v)
 min_one v x y e = ⊎_elim (λ l. inr (omega (arith, e, l))) (λ l. inl (omega (arith, e, l))) (lt_or_le v x)
 
 module _ (t : List ℕ) (from to k s : ℕ) (moves : List ℕ) (x more : ℕ) (rows : Rows t from to k s moves x) where
-  pub led_none : LedOn t t from to k s moves x more 0
-  led_none = record {
-    as_long = refl;
-    no_more = λ j. omega arith;
-    outside = λ j h. refl;
-    led = λ q r h b. absurd (omega (arith, h));
-    by = λ j. inl refl;
-  }
-
   -- the cell of state n in the row `from` is as it was
   pub still : (u : List ℕ) (n : ℕ) → n < s → LedOn t u from to k s moves x more n → cost_in u (from + n) ≡ cost_in t (from + n)
   still u n l h = h.outside (from + n) (⊎_elim (λ a. inl (omega (arith, a, l))) (λ a. inr (omega (arith, a))) rows.apart)
@@ -86,15 +77,6 @@ module _ (t : List ℕ) (from to k s : ℕ) (moves : List ℕ) (x more : ℕ) (r
       keep j s = ⊎_elim (λ o. inl (s ∙ o)) (λ o. inr (o.0, o.1, omega (arith, o.2), o.3, o.4, s ∙ o.5)) (h.by j)
 
   -- ---- back
-
-  pub back_none : LedBack t t from to k s moves x more 0
-  back_none = record {
-    as_long = refl;
-    no_more = λ j. omega arith;
-    outside = λ j h. refl;
-    led = λ q r h b. absurd (omega (arith, h));
-    by = λ j. inl refl;
-  }
 
   -- the cells of the row `to` are as they were
   pub back_still : (u : List ℕ) (n r : ℕ) → r < s → LedBack t u from to k s moves x more n → cost_in u (to + r) ≡ cost_in t (to + r)

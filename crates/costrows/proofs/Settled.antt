@@ -10,7 +10,7 @@ use native.Mathlib.Omega.{arith}
 use lib.Dec.{T}
 use lib.ListN.{length}
 use Rattle.profile.specs.Automata.{Automaton}
-use Rattle.profile.specs.Prefixes.{IsPrefix, less, marked, more, unmarked}
+use Rattle.profile.specs.Prefixes.{IsPrefix, more, unmarked}
 use Rattle.profile.specs.Traces.{bit}
 use Rattle.profile.proofs.Traces.{Pick, pick_length}
 use Rattle.theory.proofs.Automata.{Lawful}

@@ -1,7 +1,7 @@
 -- The costs from each record and state to the end while they are found, from the last record back, letter by letter.
 use mathlib.Core.Path.{◌≡◌, refl, sym, ◌∙◌, ap, subst}
 use mathlib.Core.Bool.{Bool, true, false, not, cond}
-use mathlib.Core.Logic.{◌⊎◌, inl, inr, ⊎_elim}
+use mathlib.Core.Logic.{inl, inr, ⊎_elim}
 use mathlib.Core.List.{List}
 use Prim.Native.Nat.{ℕ, suc, ◌+◌, ◌-◌, ◌*◌, ◌≤◌, ◌<◌, min}
 use native.Mathlib.Omega.{arith}
@@ -14,12 +14,12 @@ use Rattle.profile.proofs.Lists.{both, lt_or_le, snd_of, test}
 use Rattle.records.specs.Records.{records_in}
 use Rattle.costcells.specs.Cells.{Cleared, Lowered, cost_in, in_row?, none_cost}
 use Rattle.costrows.specs.Rows.{LedBack, with_step}
-use Rattle.costtable.proofs.Ways.{Laid, Next, WayOut, cleared_in, cleared_out, cost_after, cost_of, ends, goes_back, row_ends, row_same}
+use Rattle.costtable.proofs.Ways.{Costed, Done, Laid, Next, WayOut, cleared_in, cleared_out, cost_after, cost_of, costed_step, done_more, ends, goes_back, row_ends, row_same, same_next}
 
 module _ (h : Shape) (moves log t : List ℕ) where
   -- letter y of record i comes after record j, or before letter x of that record
   abbrev pub After : ℕ → ℕ → ℕ → ℕ → Type 0
-  After i y j x = (j < i) ⊎ ((i ≡ j) × (y < x))
+  After = Done (λ i j. j < i)
 
   -- `before` became `costs`: the records after record j are right, and the letters of record j before letter x have led back
   pub record Backward (before costs : List ℕ) (j x : ℕ) : Type 0 where
@@ -28,8 +28,7 @@ module _ (h : Shape) (moves log t : List ℕ) where
     pub finish : (i q : ℕ) → suc i ≡ records_in t → T (bit h.finals q) → cost_of h moves log t costs i q ≡ 0
     pub led : (i y r q q' : ℕ) → Next h moves log t i y r → After i y j x → q < h.s → T (bit (row h.k moves q y) q')
         → cost_of h moves log t costs i q ≤ with_step (cost_of h moves log t costs r q') (cost_after h moves log t i y)
-    pub by : (i q : ℕ) → j ≤ i → i < records_in t → q < h.s
-        → (cost_of h moves log t costs i q ≡ none_cost) ⊎ ((n : ℕ) × WayOut h moves log t i q n × (n ≤ cost_of h moves log t costs i q))
+    pub by : (i q : ℕ) → j ≤ i → i < records_in t → q < h.s → Costed (WayOut h moves log t i q) (cost_of h moves log t costs i q)
 
   module _ (laid : Laid h moves log t) where
     -- the last record
@@ -88,9 +87,7 @@ module _ (h : Shape) (moves log t : List ℕ) where
           omega (arith, stays i q less, stays r q' (omega (arith, less, laid.later i y r n)), o.led i y r q q' n a qs m))
           (λ z. absurd (omega (arith, z.1))) b;
       by = λ i q le il qs. ⊎_elim
-          (λ less.
-          let e = stays i q less in
-          ⊎_elim (λ z. inl (e ∙ z)) (λ z. inr (z.0, z.1, omega (arith, z.2, e))) (o.by i q less il qs))
+          (λ less. subst (Costed (WayOut h moves log t i q)) (sym (stays i q less)) (o.by i q less il qs))
           (λ ge.
           let s : i ≡ j = omega (arith, le, ge) in
           inl (ap (λ a. cost_in v' (a * h.s + q)) s ∙ cleared_in v v' (j * h.s) h.s c (j * h.s + q) (omega arith) (omega (arith, qs)))) (lt_or_le j i);
@@ -107,17 +104,10 @@ module _ (h : Shape) (moves log t : List ℕ) where
       behind = λ i le. l.outside i (inr (omega (arith, le, row_ends j (records_in t) h.s next.before))) ∙ o.behind i le;
       finish = λ i q e b. stays i q (omega (arith, e, up, next.inside)) ∙ o.finish i q e b;
       led = λ i y r₂ q q' n b qs m. ⊎_elim
-          (λ less. omega (arith, stays i q less, stays r₂ q' (omega (arith, less, laid.later i y r₂ n)), o.led i y r₂ q q' n (inl less) qs m))
-          (λ z. ⊎_elim
-          (λ less. omega (
-            arith,
-            l.no_more (i * h.s + q),
-            stays r₂ q' (omega (arith, z.0, laid.later i y r₂ n)),
-            o.led i y r₂ q q' n (inr (z.0, less)) qs m,
-          ))
-          (λ ge. now i y r₂ q q' z.0 (omega (arith, ge, z.1)) n qs m) (lt_or_le y x)) b;
+          (λ d. old i y r₂ q q' n d qs m)
+          (λ z. now i y r₂ q q' z.0 z.1 n qs m) (done_more (λ i j. j < i) i y j x b);
       by = λ i q le lt qs. ⊎_elim
-          (λ e. keep i q le lt qs e)
+          (λ e. subst (Costed (WayOut h moves log t i q)) (sym e) (o.by i q le lt qs))
           (λ w. ⊎_elim (λ e. inl e) (λ z. new i q qs z.0 z.1 z.2 z.3 z.4 z.5) w) (l.by (i * h.s + q));
     }
       where
@@ -128,38 +118,33 @@ module _ (h : Shape) (moves log t : List ℕ) where
         stays : (i q : ℕ) → j < i → cost_in v' (i * h.s + q) ≡ cost_in v (i * h.s + q)
         stays i q less = l.outside (i * h.s + q) (inr (omega (arith, row_ends j i h.s less)))
 
+        old : (i y r₂ q q' : ℕ) → Next h moves log t i y r₂ → After i y j x → q < h.s → T (bit (row h.k moves q y) q')
+            → cost_in v' (i * h.s + q) ≤ with_step (cost_in v' (r₂ * h.s + q')) (cost_after h moves log t i y)
+        old i y r₂ q q' n b lt m =
+            let le : j ≤ i = ⊎_elim (λ less. omega (arith, less)) (λ z. omega (arith, z.0)) b in
+            omega (arith, l.no_more (i * h.s + q), stays r₂ q' (omega (arith, le, laid.later i y r₂ n)), o.led i y r₂ q q' n b lt m)
+
         now : (i y r₂ q q' : ℕ) → i ≡ j → y ≡ x → Next h moves log t i y r₂ → q < h.s → T (bit (row h.k moves q y) q')
             → cost_in v' (i * h.s + q) ≤ with_step (cost_in v' (r₂ * h.s + q')) (cost_after h moves log t i y)
         now i y r₂ q q' ei ey n lt m =
-            let n' = subst (λ a. Next h moves log t a x r₂) ei (subst (λ b. Next h moves log t i b r₂) ey n) in
             let m' = subst (λ b. T (bit (row h.k moves q b) q')) ey m in
-            let same = laid.one j x r r₂ next n' in
-            let c : cost_after h moves log t i y ≡ cost_after h moves log t j x = ap (λ b. cost_after h moves log t i b) ey ∙ ap (λ a. cost_after h moves log t a x) ei in
+            let same = same_next h moves log t laid ei ey next n in
             omega (
               arith,
-              ap (λ a. cost_in v' (a * h.s + q')) same,
+              ap (λ a. cost_in v' (a * h.s + q')) same.0,
               l.led q q' lt m',
               stays r q' up,
               ap (λ a. cost_in v' (a * h.s + q)) ei,
-              c,
+              same.1,
             )
 
-        keep : (i q : ℕ) → j ≤ i → i < records_in t → q < h.s → cost_in v' (i * h.s + q) ≡ cost_in v (i * h.s + q)
-            → (cost_in v' (i * h.s + q) ≡ none_cost) ⊎ ((n : ℕ) × WayOut h moves log t i q n × (n ≤ cost_in v' (i * h.s + q)))
-        keep i q le lt qs e = ⊎_elim (λ z. inl (e ∙ z)) (λ z. inr (z.0, z.1, omega (arith, z.2, e))) (o.by i q le lt qs)
-
         new : (i q : ℕ) → q < h.s → (q₀ r₀ : ℕ) → q₀ < h.s → T (bit (row h.k moves q₀ x) r₀) → i * h.s + q ≡ j * h.s + q₀
-            → cost_in v' (i * h.s + q) ≡ with_step (cost_in v (r * h.s + r₀)) (cost_after h moves log t j x)
-            → (cost_in v' (i * h.s + q) ≡ none_cost) ⊎ ((n : ℕ) × WayOut h moves log t i q n × (n ≤ cost_in v' (i * h.s + q)))
-        new i q qs q₀ r₀ lt m e c = ⊎_elim
-            (λ z. inl (omega (arith, c, z)))
-            (λ z.
+            → cost_in v' (i * h.s + q) ≡ with_step (cost_in v (r * h.s + r₀)) (cost_after h moves log t j x) → Costed (WayOut h moves log t i q) (cost_in v' (i * h.s + q))
+        new i q qs q₀ r₀ lt m e c =
             let same = row_same i j q q₀ h.s qs lt e in
-            let n = z.0 + cost_after h moves log t j x in
-            let way : WayOut h moves log t i q n =
-            subst (λ a. WayOut h moves log t a q n) (sym same.0) (subst (λ b. WayOut h moves log t j b n) (sym same.1) (goes_back z.1 next lt m)) in
-            ⊎_elim (λ less. inr (n, way, omega (arith, c, z.2, less))) (λ ge. inl (omega (arith, c, ge)))
-            (lt_or_le (cost_in v (r * h.s + r₀) + cost_after h moves log t j x) none_cost))
+            costed_step (WayOut h moves log t r r₀) (WayOut h moves log t i q) (cost_in v' (i * h.s + q)) (cost_in v (r * h.s + r₀)) (cost_after h moves log t j x) c
+            (λ n way. subst (λ a. WayOut h moves log t a q (n + cost_after h moves log t j x)) (sym same.0)
+            (subst (λ b. WayOut h moves log t j b (n + cost_after h moves log t j x)) (sym same.1) (goes_back way next lt m)))
             (o.by r r₀ (omega (arith, up)) next.inside (laid.state q₀ x r₀ lt next.letter m))
 
     -- letter x leads nowhere
@@ -169,11 +154,7 @@ module _ (h : Shape) (moves log t : List ℕ) where
       behind = o.behind;
       finish = o.finish;
       led = λ i y r q q' n b lt m. ⊎_elim
-          (λ less. o.led i y r q q' n (inl less) lt m)
-          (λ z. ⊎_elim
-          (λ less. o.led i y r q q' n (inr (z.0, less)) lt m)
-          (λ ge.
-          let e : y ≡ x = omega (arith, ge, z.1) in
-          absurd (none r (subst (λ a. Next h moves log t a x r) z.0 (subst (λ b. Next h moves log t i b r) e n)))) (lt_or_le y x)) b;
+          (λ d. o.led i y r q q' n d lt m)
+          (λ z. absurd (none r (subst (λ a. Next h moves log t a x r) z.0 (subst (λ b. Next h moves log t i b r) z.1 n)))) (done_more (λ i j. j < i) i y j x b);
       by = o.by;
     }

@@ -1,16 +1,16 @@
 -- Where all letters of all records have led on, or back, the costs are those of the pairs.
 use mathlib.Core.Path.{◌≡◌, refl, sym, ◌∙◌, ap, subst}
-use mathlib.Core.Bool.{Bool, true, false, cond, ◌&&◌, not}
+use mathlib.Core.Bool.{Bool, cond, ◌&&◌}
 use mathlib.Core.Logic.{◌⊎◌, inl, inr, ⊎_elim}
 use mathlib.Core.List.Memᴰ
 use mathlib.Core.List.{List, [], ◌∷◌, map}
-use mathlib.Core.Option.{none, some}
+use mathlib.Core.Option.{some}
 use Prim.Native.Nat.{ℕ, zero, suc, ◌+◌, ◌*◌, ◌^◌, ◌≤◌, ◌<◌}
 use native.Mathlib.Omega.{arith}
 use lib.Dec.{T, not_T, ltb, ltb→lt, lt→ltb}
 use lib.ListN.{length, get_or}
 use Rattle.profile.specs.Automata.{Automaton, automaton, profile_of, row}
-use Rattle.profile.specs.Lists.{Mem, below, equal?, first_place}
+use Rattle.profile.specs.Lists.{below, equal?, first_place}
 use Rattle.profile.specs.Prefixes.{IsPrefix, at, by_total, more, unmarked}
 use Rattle.profile.specs.Traces.{bit}
 use Rattle.profile.specs.declared.Shape.{Shape}
@@ -27,7 +27,7 @@ use Rattle.swaps.specs.Swaps.{step_cost}
 use Rattle.swaps.proofs.Bounds.{pair_small, rest_small}
 use Rattle.swaps.proofs.Pairs.{pair_next, pair_none}
 use Rattle.swaps.proofs.Rests.{rest_all, rest_next}
-use Rattle.costcells.specs.Cells.{cell, cost_in, none_cost}
+use Rattle.costcells.specs.Cells.{cost_in, none_cost}
 use Rattle.costrows.specs.Rows.{with_step}
 use Rattle.costrows.proofs.Settled.{settled_rest, settled_there}
 use Rattle.costtable.specs.Costs.{Filled, Lent}

@@ -11,7 +11,7 @@ use lib.Dec.{T, ltb, lt→ltb}
 use lib.ListN.{length, get_or, length-append, length-map, length-set, get_or-eq_default}
 use lib.Seq.{ext_get_or, get_or-append-add}
 use Rattle.profile.specs.Automata.{profile_of, row}
-use Rattle.profile.specs.Lists.{all, below, flat_map, range}
+use Rattle.profile.specs.Lists.{below, flat_map, range}
 use Rattle.profile.specs.Prefixes.{IsPrefix, at, by_total, count, level, more, total, unmarked}
 use Rattle.profile.specs.Tables.{count_field, layout, packed}
 use Rattle.profile.specs.Traces.{letters_below}

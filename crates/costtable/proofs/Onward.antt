@@ -1,6 +1,6 @@
 -- The costs to each record and state while they are found, record by record and letter by letter.
 use mathlib.Core.Path.{◌≡◌, sym, ◌∙◌, ap, subst}
-use mathlib.Core.Logic.{◌⊎◌, inl, inr, ⊎_elim, ◌≢◌}
+use mathlib.Core.Logic.{inl, inr, ⊎_elim, ◌≢◌}
 use mathlib.Core.List.{List}
 use Prim.Native.Nat.{ℕ, suc, ◌+◌, ◌*◌, ◌≤◌, ◌<◌, min}
 use native.Mathlib.Omega.{arith}
@@ -15,12 +15,12 @@ use Rattle.profile.proofs.Lists.{lt_or_le}
 use Rattle.records.specs.Records.{records_in}
 use Rattle.costcells.specs.Cells.{Cleared, cost_in, none_cost}
 use Rattle.costrows.specs.Rows.{LedOn, with_step}
-use Rattle.costtable.proofs.Ways.{Laid, Next, Way, begins, cleared_in, cleared_out, cost_after, cost_of, goes_on, row_ends, row_same, same_or_not}
+use Rattle.costtable.proofs.Ways.{Costed, Done, Laid, Next, Way, begins, cleared_in, cleared_out, cost_after, cost_of, costed_step, done_more, goes_on, row_ends, row_same, same_next, same_or_not}
 
 module _ (h : Shape) (moves log t : List ℕ) where
   -- letter y of record i comes before letter x of record j
   abbrev pub Before : ℕ → ℕ → ℕ → ℕ → Type 0
-  Before i y j x = (i < j) ⊎ ((i ≡ j) × (y < x))
+  Before = Done (λ i j. i < j)
 
   -- `before` became `costs`: the letters before letter x of record j have led on
   pub record Onward (before costs : List ℕ) (j x : ℕ) : Type 0 where
@@ -29,8 +29,7 @@ module _ (h : Shape) (moves log t : List ℕ) where
     pub start : cost_of h moves log t costs 0 h.start ≡ 0
     pub led : (i y r q q' : ℕ) → Next h moves log t i y r → Before i y j x → q < h.s → T (bit (row h.k moves q y) q')
         → cost_of h moves log t costs r q' ≤ with_step (cost_of h moves log t costs i q) (cost_after h moves log t i y)
-    pub by : (i q : ℕ) → i < records_in t → q < h.s
-        → (cost_of h moves log t costs i q ≡ none_cost) ⊎ ((n : ℕ) × Way h moves log t i q n × (n ≤ cost_of h moves log t costs i q))
+    pub by : (i q : ℕ) → i < records_in t → q < h.s → Costed (Way h moves log t i q) (cost_of h moves log t costs i q)
 
   module _ (laid : Laid h moves log t) where
     -- all is none but the start
@@ -71,12 +70,10 @@ module _ (h : Shape) (moves log t : List ℕ) where
       as_long = l.as_long ∙ o.as_long;
       behind = λ i le. l.outside i (inr (omega (arith, le, row_ends r (records_in t) h.s next.inside))) ∙ o.behind i le;
       start = omega (arith, l.no_more (0 * h.s + h.start), o.start);
-      led = λ i y r₂ q q' n b lt m. ⊎_elim
-          (λ less. old i y r₂ q q' n (inl less) (omega (arith, less)) lt m)
-          (λ z. ⊎_elim
-          (λ less. old i y r₂ q q' n (inr (z.0, less)) (omega (arith, z.0)) lt m)
-          (λ ge. now i y r₂ q q' z.0 (omega (arith, ge, z.1)) n lt m) (lt_or_le y x)) b;
-      by = λ i q lt qs. ⊎_elim (λ e. keep i q lt qs e) (λ z. new i q qs z.0 z.1 z.2 z.3 z.4 z.5) (l.by (i * h.s + q));
+      led = λ i y r₂ q q' n b lt m. ⊎_elim (λ d. old i y r₂ q q' n d lt m) (λ z. now i y r₂ q q' z.0 z.1 n lt m) (done_more (λ i j. i < j) i y j x b);
+      by = λ i q lt qs. ⊎_elim
+          (λ e. subst (Costed (Way h moves log t i q)) (sym e) (o.by i q lt qs))
+          (λ z. new i q qs z.0 z.1 z.2 z.3 z.4 z.5) (l.by (i * h.s + q));
     }
       where
         cells : List ℕ → ℕ → ℕ → ℕ
@@ -89,42 +86,33 @@ module _ (h : Shape) (moves log t : List ℕ) where
         stays : (i q : ℕ) → i ≤ j → q < h.s → cost_in v' (i * h.s + q) ≡ cost_in v (i * h.s + q)
         stays i q le lt = l.outside (i * h.s + q) (inl (omega (arith, lt, row_ends i r h.s (omega (arith, le, up)))))
 
-        old : (i y r₂ q q' : ℕ) → Next h moves log t i y r₂ → Before i y j x → i ≤ j → q < h.s → T (bit (row h.k moves q y) q')
+        old : (i y r₂ q q' : ℕ) → Next h moves log t i y r₂ → Before i y j x → q < h.s → T (bit (row h.k moves q y) q')
             → cost_in v' (r₂ * h.s + q') ≤ with_step (cost_in v' (i * h.s + q)) (cost_after h moves log t i y)
-        old i y r₂ q q' n b le lt m = omega (arith, l.no_more (r₂ * h.s + q'), o.led i y r₂ q q' n b lt m, stays i q le lt)
+        old i y r₂ q q' n b lt m =
+            let le : i ≤ j = ⊎_elim (λ less. omega (arith, less)) (λ z. omega (arith, z.0)) b in
+            omega (arith, l.no_more (r₂ * h.s + q'), o.led i y r₂ q q' n b lt m, stays i q le lt)
 
         now : (i y r₂ q q' : ℕ) → i ≡ j → y ≡ x → Next h moves log t i y r₂ → q < h.s → T (bit (row h.k moves q y) q')
             → cost_in v' (r₂ * h.s + q') ≤ with_step (cost_in v' (i * h.s + q)) (cost_after h moves log t i y)
         now i y r₂ q q' ei ey n lt m =
-            let n' = subst (λ a. Next h moves log t a x r₂) ei (subst (λ b. Next h moves log t i b r₂) ey n) in
             let m' = subst (λ b. T (bit (row h.k moves q b) q')) ey m in
-            let same = laid.one j x r r₂ next n' in
-            let c : cost_after h moves log t i y ≡ cost_after h moves log t j x = ap (λ b. cost_after h moves log t i b) ey ∙ ap (λ a. cost_after h moves log t a x) ei in
+            let same = same_next h moves log t laid ei ey next n in
             omega (
               arith,
-              ap (λ a. cost_in v' (a * h.s + q')) same,
+              ap (λ a. cost_in v' (a * h.s + q')) same.0,
               l.led q q' lt m',
               stays j q (omega arith) lt,
               ap (λ a. cost_in v' (a * h.s + q)) ei,
-              c,
+              same.1,
             )
 
-        keep : (i q : ℕ) → i < records_in t → q < h.s → cost_in v' (i * h.s + q) ≡ cost_in v (i * h.s + q)
-            → (cost_in v' (i * h.s + q) ≡ none_cost) ⊎ ((n : ℕ) × Way h moves log t i q n × (n ≤ cost_in v' (i * h.s + q)))
-        keep i q lt qs e = ⊎_elim (λ z. inl (e ∙ z)) (λ z. inr (z.0, z.1, omega (arith, z.2, e))) (o.by i q lt qs)
-
         new : (i q : ℕ) → q < h.s → (q₀ r₀ : ℕ) → q₀ < h.s → T (bit (row h.k moves q₀ x) r₀) → i * h.s + q ≡ r * h.s + r₀
-            → cost_in v' (i * h.s + q) ≡ with_step (cost_in v (j * h.s + q₀)) (cost_after h moves log t j x)
-            → (cost_in v' (i * h.s + q) ≡ none_cost) ⊎ ((n : ℕ) × Way h moves log t i q n × (n ≤ cost_in v' (i * h.s + q)))
-        new i q qs q₀ r₀ lt m e c = ⊎_elim
-            (λ z. inl (omega (arith, c, z)))
-            (λ z.
+            → cost_in v' (i * h.s + q) ≡ with_step (cost_in v (j * h.s + q₀)) (cost_after h moves log t j x) → Costed (Way h moves log t i q) (cost_in v' (i * h.s + q))
+        new i q qs q₀ r₀ lt m e c =
             let same = row_same i r q r₀ h.s qs (laid.state q₀ x r₀ lt next.letter m) e in
-            let n = z.0 + cost_after h moves log t j x in
-            let way : Way h moves log t i q n =
-            subst (λ a. Way h moves log t a q n) (sym same.0) (subst (λ b. Way h moves log t r b n) (sym same.1) (goes_on z.1 next lt m)) in
-            ⊎_elim (λ less. inr (n, way, omega (arith, c, z.2, less))) (λ ge. inl (omega (arith, c, ge)))
-            (lt_or_le (cost_in v (j * h.s + q₀) + cost_after h moves log t j x) none_cost))
+            costed_step (Way h moves log t j q₀) (Way h moves log t i q) (cost_in v' (i * h.s + q)) (cost_in v (j * h.s + q₀)) (cost_after h moves log t j x) c
+            (λ n way. subst (λ a. Way h moves log t a q (n + cost_after h moves log t j x)) (sym same.0)
+            (subst (λ b. Way h moves log t r b (n + cost_after h moves log t j x)) (sym same.1) (goes_on way next lt m)))
             (o.by j q₀ next.before lt)
 
     -- letter x leads nowhere
@@ -134,12 +122,8 @@ module _ (h : Shape) (moves log t : List ℕ) where
       behind = o.behind;
       start = o.start;
       led = λ i y r q q' n b lt m. ⊎_elim
-          (λ less. o.led i y r q q' n (inl less) lt m)
-          (λ z. ⊎_elim
-          (λ less. o.led i y r q q' n (inr (z.0, less)) lt m)
-          (λ ge.
-          let e : y ≡ x = omega (arith, ge, z.1) in
-          absurd (none r (subst (λ a. Next h moves log t a x r) z.0 (subst (λ b. Next h moves log t i b r) e n)))) (lt_or_le y x)) b;
+          (λ d. o.led i y r q q' n d lt m)
+          (λ z. absurd (none r (subst (λ a. Next h moves log t a x r) z.0 (subst (λ b. Next h moves log t i b r) z.1 n)))) (done_more (λ i j. i < j) i y j x b);
       by = o.by;
     }
 

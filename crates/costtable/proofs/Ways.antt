@@ -1,6 +1,6 @@
 -- Ways through the records of a table, letter by letter, and what they cost; the table's rows in a table of costs.
 use mathlib.Core.Path.{◌≡◌, refl, sym, ◌∙◌, ap, subst}
-use mathlib.Core.Bool.{Bool, true, false, not, cond, ◌&&◌}
+use mathlib.Core.Bool.{Bool, true, false, cond, ◌&&◌}
 use mathlib.Core.Logic.{◌⊎◌, inl, inr, ⊎_elim, ◌≢◌}
 use mathlib.Core.List.{List}
 use Prim.Native.Nat.{ℕ, suc, ◌+◌, ◌*◌, ◌/◌, ◌≤◌, ◌<◌}
@@ -12,11 +12,12 @@ use Rattle.profile.specs.Automata.{row}
 use Rattle.profile.specs.Tables.{count_field, layout}
 use Rattle.profile.specs.Traces.{bit}
 use Rattle.profile.specs.declared.Shape.{Shape}
-use Rattle.profile.proofs.Lists.{both, fst_of, snd_of, test}
+use Rattle.profile.proofs.Lists.{both, fst_of, lt_or_le, snd_of, test}
 use Rattle.counts.specs.Counts.{add_count}
 use Rattle.records.specs.Records.{counts_at, records_in}
 use Rattle.swaps.specs.Swaps.{step_cost}
 use Rattle.costcells.specs.Cells.{Cleared, cost_in, none_cost}
+use Rattle.costrows.specs.Rows.{with_step}
 
 -- ---- rows of s cells, one behind the other
 
@@ -50,6 +51,28 @@ module _ (t t' : List ℕ) (at n : ℕ) (c : Cleared t t' at n) where
       other : (b : Bool) → (T b → ⊥) → cond b none_cost (cost_in t j) ≡ cost_in t j
       other true h = absurd (h tt)
       other false h = refl
+
+-- ---- what a pass over the records finds
+
+-- letter y of record i is done when the pass comes to letter x of record j; `earlier` is the order of its records
+abbrev pub Done : (ℕ → ℕ → Type 0) → ℕ → ℕ → ℕ → ℕ → Type 0
+Done earlier i y j x = earlier i j ⊎ ((i ≡ j) × (y < x))
+
+-- with letter x nothing else is done
+pub done_more : (earlier : ℕ → ℕ → Type 0) (i y j x : ℕ) → Done earlier i y j (suc x) → Done earlier i y j x ⊎ ((i ≡ j) × (y ≡ x))
+done_more earlier i y j x b = ⊎_elim
+    (λ e. inl (inl e))
+    (λ z. ⊎_elim (λ lt. inl (inr (z.0, lt))) (λ ge. inr (z.0, omega (arith, ge, z.1))) (lt_or_le y x)) b
+
+-- a cell has no cost, or at least that of a way
+abbrev pub Costed : (ℕ → Type 0) → ℕ → Type 0
+Costed way v = (v ≡ none_cost) ⊎ ((n : ℕ) × way n × (n ≤ v))
+
+-- the cell of ways that are one letter longer
+pub costed_step : (way way' : ℕ → Type 0) (u v more : ℕ) → u ≡ with_step v more → ((n : ℕ) → way n → way' (n + more)) → Costed way v → Costed way' u
+costed_step way way' u v more e longer c = ⊎_elim
+    (λ z. inl (omega (arith, e, z)))
+    (λ z. ⊎_elim (λ less. inr (z.0 + more, longer z.0 z.1, omega (arith, e, z.2, less))) (λ ge. inl (omega (arith, e, ge))) (lt_or_le (v + more) none_cost)) c
 
 -- ---- ways; t has the records of the prefixes of the log
 
@@ -87,3 +110,10 @@ module _ (h : Shape) (moves log t : List ℕ) where
     pub start : h.start < h.s
     pub finals : (q : ℕ) → T (bit h.finals q) → q < h.s
     pub some : 0 < records_in t
+
+  -- a letter leads from a record to one other, at one cost
+  pub same_next : Laid → {i y j x r r₂ : ℕ} → i ≡ j → y ≡ x → Next j x r → Next i y r₂ → (r₂ ≡ r) × (cost_after i y ≡ cost_after j x)
+  same_next laid {i} {y} {j} {x} {r} {r₂} ei ey next n = (
+    laid.one j x r r₂ next (subst (λ a. Next a x r₂) ei (subst (λ b. Next i b r₂) ey n)),
+    ap (λ b. cost_after i b) ey ∙ ap (λ a. cost_after a x) ei,
+  )

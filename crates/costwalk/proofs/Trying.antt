@@ -31,7 +31,6 @@ use Rattle.costcells.specs.Cells.{cell, cost_in}
 use Rattle.costrows.specs.Rows.{with_step}
 use Rattle.costreadings.proofs.Readings.{fits_at, fits_of}
 use Rattle.costwalk.specs.Walk.{Chooses, Ends, Standing, Tested, Tries}
-use Rattle.costwalk.specs.declared.Choice.{Choice}
 use Rattle.swaps.proofs.Letters.{step_letters}
 use Rattle.successors.proofs.More.{more_at, more_none, prefix_of}
 use Rattle.costwalk.proofs.Rows.{fields, recorded, whole_counts}

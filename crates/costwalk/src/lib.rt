@@ -13,7 +13,7 @@ ghost use Rattle.orderswaps.specs.Arranged.{Arranged};
 ghost use Rattle.costwalk.specs.Walk.{Chooses, Known, Leads, Puts, Stands, Tested, Tries};
 
 use counts::Counts;
-use profile::limits::{COUNT_NUMBERS, Place};
+use profile::limits::COUNT_NUMBERS;
 use profile::{Places, Profile};
 
 // The counts of the last record: those of the whole log.
@@ -39,24 +39,16 @@ struct Choice {
     cost: usize,
 }
 
-// Letter x, which costs `more`, leads from the states of a set to one at a cost that fits, in the row of record r.
-fn fits(
-    costs: &[u32],
-    r: usize,
-    states: u32,
-    left: u32,
-    profile: &Profile,
-    x: usize,
-    more: usize,
-) -> bool
+// Letter x, which costs `more`, leads from the states of what is taken to one at a cost that fits, in the row of record r.
+fn fits(costs: &[u32], r: usize, taken: Taken, profile: &Profile, x: usize, more: usize) -> bool
     requires k_le_most_letters { (profile.now.shape.k ≤ most_letters) × (profile.now.shape.s ≤ most_states) × (r * profile.now.shape.s + profile.now.shape.s ≤ length costs.now) }
-    requires x_bound { forward_step profile.now.shape.k profile.now.shape.s profile.now.moves.now states x < 2 ^ profile.now.shape.s }
-    ensures { Tested costs.now (r * profile.now.shape.s) (forward_step profile.now.shape.k profile.now.shape.s profile.now.moves.now states x) more left result }
+    requires x_bound { forward_step profile.now.shape.k profile.now.shape.s profile.now.moves.now taken.states x < 2 ^ profile.now.shape.s }
+    ensures { Tested costs.now (r * profile.now.shape.s) (forward_step profile.now.shape.k profile.now.shape.s profile.now.moves.now taken.states x) more taken.left result }
 {
     let s = profile.shape.s;
-    let reached = steps::step_forward(profile.moves, profile.shape.k, s, states, x);
+    let reached = steps::step_forward(profile.moves, profile.shape.k, s, taken.states, x);
     let least = costcells::least_in(costs, r * s, s, reached);
-    costcells::plus(least, more) <= left
+    costcells::plus(least, more) <= taken.left
 }
 
 // What letter x costs, if it can be taken next and an accepted end is then reached for what is left.
@@ -79,9 +71,7 @@ fn try_letter(
         let n = counts::numbers(c);
         let whole = last_counts(t);
         let more = stepcost::step_cost(log, &n, &whole, profile.shape.k, placed, x);
-        let states = taken.states;
-        let left = taken.left;
-        if fits(costs, r, states, left, profile, x, more) {
+        if fits(costs, r, taken, profile, x, more) {
             return Some(more);
         }
     }
@@ -143,6 +133,7 @@ pub fn put_closest(
         states: 1u32 << profile.shape.start,
         left: fewest,
     };
+    // Kept: what is told of an order that is written half speaks of its first i letters.
     for i in 0..log.len() {
         let choice = choose(t, taken, profile, log, placed, costs);
         let x = choice.letter;

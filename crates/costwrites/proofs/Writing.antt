@@ -1,18 +1,18 @@
 -- Laws of cells that are lowered and cleared, for the loops over them.
 use mathlib.Core.Path.{◌≡◌, refl, sym, ◌∙◌, ap, ap₂, subst}
-use mathlib.Core.Bool.{Bool, true, false, not, ◌&&◌, cond}
+use mathlib.Core.Bool.{Bool, true, false, cond}
 use mathlib.Core.Logic.{◌⊎◌, inl, inr, ⊎_elim, ◌≢◌}
 use mathlib.Core.List.{List}
 use Prim.Native.Nat.{ℕ, ◌+◌, ◌-◌, ◌<◌, ◌^◌, min}
 use native.Mathlib.Omega.{arith}
 use lib.Bits.{bit_and}
 use lib.Count.{count_trailing_zeros}
-use lib.Dec.{T, T_not, not_T, eqb, eqb→eq, eqb_refl, leb, leb→le, le→leb, ltb, ltb→lt, lt→ltb}
+use lib.Dec.{T, T_not, eqb, eqb→eq, eqb_refl, leb, leb→le, le→leb}
 use lib.ListN.{length, set}
 use lib.Seq.{get_or-set_other, get_or-set_same}
 use Rattle.profile.specs.Traces.{bit}
-use Rattle.profile.proofs.Lists.{both, fst_of, lt_or_le, snd_of, test}
-use Rattle.profile.proofs.Sets.{t_eq, not_in_none}
+use Rattle.profile.proofs.Lists.{both, fst_of, snd_of, test}
+use Rattle.profile.proofs.Sets.{t_eq}
 use Rattle.theory.proofs.SetLoops.{rest_first, rest_in, rest_other}
 use Rattle.costcells.specs.Cells.{cost_in, in_row?, none_cost}
 
@@ -21,10 +21,6 @@ use Rattle.costcells.specs.Cells.{cost_in, in_row?, none_cost}
 cond_yes : (b : Bool) (x y : ℕ) → T b → cond b x y ≡ x
 cond_yes true x y t = refl
 cond_yes false x y t = absurd t
-
-cond_no : (b : Bool) (x y : ℕ) → T (not b) → cond b x y ≡ y
-cond_no true x y t = absurd t
-cond_no false x y t = refl
 
 cond_both : (b : Bool) (x y : ℕ) → x ≡ y → cond b x y ≡ y
 cond_both true x y e = e
@@ -70,7 +66,3 @@ lower_more t u row n v p h l s j =
     (ap (λ z. cost_in z j) s ∙ ap (cost_in (set t (row + q) x)) e ∙ get_or-set_same t (row + q) x none_cost l ∙ sym (ap (λ i. min v (cost_in t i)) e)))
     (λ ne. lower_other t u row n v q j p h refl ne (ap (λ z. cost_in z j) s ∙ get_or-set_other t (row + q) j x none_cost ne))
     (same_or_not j (row + q))
-
-pub lower_none : (t : List ℕ) (row v j : ℕ) → cond (in_row? row 0 j) (min v (cost_in t j)) (cost_in t j) ≡ cost_in t j
-lower_none t row v j = cond_no (in_row? row 0 j) (min v (cost_in t j)) (cost_in t j)
-    (not_T (in_row? row 0 j) (λ k. not_in_none (j - row) (snd_of (leb row j) (bit 0 (j - row)) k)))

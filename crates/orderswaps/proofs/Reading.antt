@@ -1,15 +1,15 @@
 -- An order read letter by letter: counts, packed, and costs.
 use mathlib.Core.Path.{◌≡◌, refl, sym, ◌∙◌, ap, subst}
 use mathlib.Core.Bool.{Bool, false}
-use mathlib.Core.Logic.{◌⊎◌, ⊎_elim, ◌≢◌}
+use mathlib.Core.Logic.{⊎_elim, ◌≢◌}
 use mathlib.Core.List.{List, [], ◌∷◌, ◌++◌, map}
 use Prim.Native.Nat.{ℕ, zero, suc, ◌+◌, ◌^◌, ◌≤◌, ◌<◌, min}
 use native.Mathlib.Omega.{arith}
 use lib.Dec.{T, eqb, ltb, ltb→lt, lt→ltb}
-use lib.ListN.{length, get_or, take, set, length-set}
+use lib.ListN.{length, get_or, take, length-set}
 use lib.Seq.{ext_get_or, get_or-set_other, get_or-set_same, take-suc}
 use Rattle.profile.specs.Lists.{all, below, first_place}
-use Rattle.profile.specs.Prefixes.{at, count, less, more, one, unmarked}
+use Rattle.profile.specs.Prefixes.{at, count, less, one, unmarked}
 use Rattle.profile.specs.Tables.{count_field, layout, packed}
 use Rattle.profile.specs.Traces.{letters_below}
 use Rattle.profile.proofs.Lists.{both, fst_of, lt_or_le, snd_of}

@@ -7,7 +7,7 @@ ghost use Rattle.stepcost.specs.StepCosts.{Placed};
 ghost use Rattle.orderswaps.specs.Arranged.{Arranged};
 
 use profile::Places;
-use profile::limits::{COUNT_NUMBERS, Place};
+use profile::limits::COUNT_NUMBERS;
 
 // The swaps of an order of the log, whose counts are `whole`.
 pub fn swaps(
@@ -23,8 +23,8 @@ pub fn swaps(
 {
     let mut c = counts::none_counted();
     let mut sum = 0u32;
-    for i in 0..log.len() {
-        let x = order[i] as usize;
+    for letter in &order[..log.len()] {
+        let x = *letter as usize;
         let m = counts::numbers(c);
         let more = stepcost::step_cost(log, &m, whole, k, placed, x);
         sum = costcells::plus(sum, more);

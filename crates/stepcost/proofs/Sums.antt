@@ -1,13 +1,12 @@
 -- The cost of a step, letter by letter: of each letter, how many events stand before the place and are not yet taken.
 use mathlib.Core.Path.{◌≡◌, refl, sym, ◌∙◌, ap, subst}
-use mathlib.Core.Bool.{Bool, true, false, not}
+use mathlib.Core.Bool.{Bool, false, not}
 use mathlib.Core.Logic.{◌⊎◌, inl, inr, ⊎_elim}
 use mathlib.Core.List.{List, [], ◌∷◌, ◌++◌}
 use Prim.Native.Nat.{ℕ, zero, suc, ◌+◌, ◌-◌, ◌*◌, ◌≤◌, ◌<◌}
 use native.Mathlib.Omega.{arith}
 use lib.Dec.{T, T_not, eqb, eqb→eq, eqb_refl, ltb, ltb→lt}
 use lib.ListN.{length, get_or, take}
-use Rattle.profile.specs.Lists.{below}
 use Rattle.profile.specs.Prefixes.{count, less, one, unmarked}
 use Rattle.profile.specs.Tables.{count_field, layout}
 use Rattle.profile.specs.Traces.{letters_below}

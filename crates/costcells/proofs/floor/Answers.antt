@@ -1,21 +1,11 @@
-use borrow.Author.Rules.{rules}
 use native.Mathlib.Omega.{arith}
-use Prim.Native.Nat.{ℕ, ◌+◌, ◌-◌, ◌/◌, ◌≤◌, ◌<◌}
-use mathlib.Core.Path.{◌≡◌, refl, sym, ◌∙◌, subst}
-use mathlib.Core.Logic.{◌⊎◌, inl, inr, ⊎_elim}
+use Prim.Native.Nat.{◌+◌, ◌-◌, ◌/◌, ◌≤◌, ◌<◌}
+use mathlib.Core.Path.{◌≡◌, sym, ◌∙◌, subst}
+use mathlib.Core.Logic.{inl, inr, ⊎_elim}
 use lib.ListN.{take}
 use Rattle.costcells.specs.Cells.{at_most}
 use Rattle.costcells.proofs.Cells.{at_most_le, floor_found}
 use Rattle.costcells.proofs.floor.Goals as goal
-
-pub loop-low-init : goal.loop-low-init
-loop-low-init c = (omega arith, omega arith, λ u h. absurd (omega (arith, h)), inl refl)
-
-pub loop-low-preserved-then-budget-at_most : goal.loop-low-preserved-then-budget-at_most
-loop-low-preserved-then-budget-at_most c =
-    let a = c.args in
-    let l = c.loop-low in
-    (omega arith, omega arith, l.invariant.2, inr (subst (λ m. a.budget < m) c.at_most.ensures c.if-budget-at_most.true))
 
 pub loop-low-preserved : goal.loop-low-preserved
 loop-low-preserved c =

@@ -1,12 +1,9 @@
 -- `costcells::floor` meets its contract. The loop's invariant: below `low` no number has more than the budget at most as large; `high` is `fewest` or has. The measure is what lies between.
-use borrow.Author.Rules.{rules}
-use native.Mathlib.Omega.{arith}
-use Prim.Native.Nat.{ℕ, ◌+◌, ◌-◌, ◌/◌, ◌≤◌, ◌<◌}
-use mathlib.Core.Path.{◌≡◌, refl, sym, ◌∙◌, subst}
-use mathlib.Core.Logic.{◌⊎◌, inl, inr, ⊎_elim}
+use Prim.Native.Nat.{ℕ, ◌-◌, ◌≤◌, ◌<◌}
+use mathlib.Core.Path.{◌≡◌}
+use mathlib.Core.Logic.{◌⊎◌}
 use lib.ListN.{take}
 use Rattle.costcells.specs.Cells.{at_most}
-use Rattle.costcells.proofs.Cells.{at_most_le, floor_found}
 use Rattle.costcells.proofs.floor.Given as goal
 
 abbrev pub invariant-loop-low : goal.invariant-loop-low

@@ -1,33 +1,12 @@
 use borrow.Author.Rules.{rules}
 use native.Mathlib.Omega.{arith}
-use Rattle.costcells.proofs.Cells.{Scanned, inside, low_state, scan_end, scan_more, scan_start}
-use Prim.Native.Nat.{◌+◌, ◌-◌, ◌<◌, ◌^◌}
-use mathlib.Core.Path.{◌≡◌, refl, ◌∙◌, subst}
-use mathlib.Core.Logic.{◌⊎◌, inl, inr}
+use Rattle.costcells.proofs.Cells.{Scanned, inside, low_state, scan_end, scan_more}
+use Prim.Native.Nat.{◌+◌, ◌-◌}
+use mathlib.Core.Path.{◌≡◌, refl, subst}
 use Rattle.costcells.specs.Cells.{cost_in, none_cost}
-use lib.Count.{trailing_le, count_trailing_zeros}
+use lib.Count.{count_trailing_zeros}
 use lib.Bits.{and_le_r}
 use Rattle.costcells.proofs.least_in.Goals as goal
-
-pub loop-rest-init : goal.loop-rest-init
-loop-rest-init c = (omega arith, omega arith, scan_start c.args.costs.now c.args.row c.args.states)
-
-pub overflow_cast-q : goal.overflow_cast-q
-overflow_cast-q c = omega (arith, trailing_le 32 c.loop-rest.rest)
-
-pub overflow_add-v : goal.overflow_add-v
-overflow_add-v c =
-    let a = c.args in
-    let l = c.loop-rest in
-    let q = low_state a.s l.rest (omega arith) (omega arith) (omega arith) in
-    omega (arith, q)
-
-pub offset_bounds-costs-row : goal.offset_bounds-costs-row
-offset_bounds-costs-row c =
-    let a = c.args in
-    let l = c.loop-rest in
-    let q = low_state a.s l.rest (omega arith) (omega arith) (omega arith) in
-    omega (arith, q)
 
 pub bounds-costs-row : goal.bounds-costs-row
 bounds-costs-row c =
@@ -35,9 +14,6 @@ bounds-costs-row c =
     let l = c.loop-rest in
     let q = low_state a.s l.rest (omega arith) (omega arith) (omega arith) in
     omega (arith, q)
-
-pub loop-rest-smaller : goal.loop-rest-smaller
-loop-rest-smaller c = let n = c.loop-rest.rest in omega (arith, and_le_r n (n - 1))
 
 pub returns : goal.returns
 returns c =

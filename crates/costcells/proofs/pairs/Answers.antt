@@ -1,9 +1,7 @@
 -- `costcells::pairs` meets its contract. All costs below none are counted.
-use borrow.Author.Rules.{rules}
 use mathlib.Core.Path.{◌∙◌}
 use lib.ListN.{take}
 use Rattle.costcells.proofs.Cells.{pairs_number}
-use borrow.Author.Rules.{rules}
 use Rattle.costcells.proofs.pairs.Goals as goal
 
 pub returns : goal.returns

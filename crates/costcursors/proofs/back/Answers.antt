@@ -1,16 +1,10 @@
-use borrow.Author.Rules.{rules}
 use native.Mathlib.Omega.{arith}
-use Prim.Native.Nat.{◌+◌, ◌-◌, ◌≤◌}
-use mathlib.Core.Path.{◌≡◌, refl, sym, ◌∙◌, ap}
+use Prim.Native.Nat.{◌+◌, ◌-◌}
+use mathlib.Core.Path.{◌≡◌, sym, ◌∙◌, ap}
 use Rattle.counts.specs.Counts.{words}
-use Rattle.records.specs.Records.{counts_at, records_in}
 use Rattle.search.specs.Search.{stands_before?}
-use Rattle.costcursors.proofs.Cursors.{back_end, back_more, back_stop}
-use Rattle.costcursors.specs.Cursors.{High}
+use Rattle.costcursors.proofs.Cursors.{back_more, back_stop}
 use Rattle.costcursors.proofs.back.Goals as goal
-
-pub loop-j-init : goal.loop-j-init
-loop-j-init c = c.requires.1
 
 pub returns-then-stands_before : goal.returns-then-stands_before
 returns-then-stands_before c = let a = c.args in
@@ -22,9 +16,3 @@ pub loop-j-preserved : goal.loop-j-preserved
 loop-j-preserved c = let a = c.args in
     let l = c.loop-j in
     back_more a.t.now (words a.c) l.j (l.j - 1) (omega arith) l.invariant (rw (sym (c.stands_before.ensures ∙ ap (λ v. stands_before? v (words a.c)) c.counts_at.ensures) ∙ c.if-stands_before.false) tt)
-
-pub returns : goal.returns
-returns c = let a = c.args in
-    let l = c.loop-j in
-    let e : l.j ≡ 0 = omega arith in
-    λ o. back_end a.t.now (words a.c) 0 refl (rw e at l.invariant)

@@ -1,25 +1,13 @@
-use borrow.Author.Rules.{rules}
 use native.Mathlib.Omega.{arith}
-use Prim.Native.Nat.{◌+◌, ◌-◌, ◌≤◌}
+use Prim.Native.Nat.{◌+◌}
 use native.Mathlib.Numerals.{add-one}
-use mathlib.Core.Path.{◌≡◌, sym, ◌∙◌, ap}
+use mathlib.Core.Path.{sym, ◌∙◌, ap}
 use mathlib.Core.Bool.{not}
 use Rattle.counts.specs.Counts.{words}
-use Rattle.records.specs.Records.{counts_at, records_in}
+use Rattle.records.specs.Records.{counts_at}
 use Rattle.search.specs.Search.{stands_before?}
-use Rattle.costcursors.proofs.Cursors.{forth_end, forth_more, forth_stop, not_false}
-use Rattle.costcursors.specs.Cursors.{Low}
+use Rattle.costcursors.proofs.Cursors.{forth_more, forth_stop, not_false}
 use Rattle.costcursors.proofs.forth.Goals as goal
-
-pub loop-j-init : goal.loop-j-init
-loop-j-init c = (c.records_in-n.ensures, c.requires.1)
-
-pub returns : goal.returns
-returns c = let a = c.args in
-    let l = c.loop-j in
-    let n = c.records_in-n.result in
-    let e : l.j ≡ n = omega arith in
-    λ o. forth_end a.t.now (words a.c) n c.records_in-n.ensures (rw e at l.invariant.1)
 
 pub returns-then-not-stands_before : goal.returns-then-not-stands_before
 returns-then-not-stands_before c = let a = c.args in

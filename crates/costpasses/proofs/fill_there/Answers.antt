@@ -1,10 +1,8 @@
-use borrow.Author.Rules.{rules}
 use native.Mathlib.Omega.{arith}
 use native.Mathlib.Numerals.{add-one}
-use mathlib.Core.Path.{◌≡◌, refl, sym, ◌∙◌, ap, subst}
-use mathlib.Core.List.{List}
-use Prim.Native.Nat.{ℕ, ◌-◌, ◌*◌, ◌≤◌, ◌<◌}
-use lib.ListN.{length, get_or, get_or-replicate, replicate}
+use mathlib.Core.Path.{refl, sym, ◌∙◌, ap, subst}
+use Prim.Native.Nat.{◌-◌, ◌*◌, ◌<◌}
+use lib.ListN.{get_or-replicate, replicate}
 use Rattle.profile.specs.Limits.{most_letters}
 use Rattle.records.specs.Records.{counts_at, records_in}
 use Rattle.costcells.specs.Cells.{Cleared}

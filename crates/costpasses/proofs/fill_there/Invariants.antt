@@ -1,18 +1,13 @@
 -- `costpasses::fill_there` meets its contract. The loop's invariant: the letters of the records before j have led on, and each cursor stands right.
-use borrow.Author.Rules.{rules}
-use native.Mathlib.Omega.{arith}
-use native.Mathlib.Numerals.{add-one}
-use mathlib.Core.Path.{◌≡◌, refl, sym, ◌∙◌, ap, subst}
+use mathlib.Core.Path.{◌≡◌}
 use mathlib.Core.List.{List}
-use Prim.Native.Nat.{ℕ, ◌-◌, ◌*◌, ◌≤◌, ◌<◌}
-use lib.ListN.{length, get_or, get_or-replicate, replicate}
+use Prim.Native.Nat.{ℕ, ◌-◌, ◌<◌}
+use lib.ListN.{length}
 use Rattle.profile.specs.Limits.{most_letters}
 use Rattle.records.specs.Records.{counts_at, records_in}
-use Rattle.costcells.specs.Cells.{Cleared}
 use Rattle.costcursors.specs.Cursors.{Low}
-use Rattle.costtable.proofs.Filling.{onward_fills}
-use Rattle.costtable.proofs.Onward.{Onward, onward_record, onward_start}
-use Rattle.costtable.proofs.Stepping.{StandsAll, given_as_long, given_laid, low_record, low_start, row_fits}
+use Rattle.costtable.proofs.Onward.{Onward}
+use Rattle.costtable.proofs.Stepping.{StandsAll}
 use Rattle.costpasses.proofs.fill_there.Given as goal
 
 abbrev pub invariant-loop-j : goal.invariant-loop-j

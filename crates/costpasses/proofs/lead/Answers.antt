@@ -1,5 +1,4 @@
 -- `costpasses::lead` meets its contract. Where the cursor stops stands the record with one more of the letter, or there is none.
-use borrow.Author.Rules.{rules}
 use native.Mathlib.Omega.{arith}
 use mathlib.Core.Path.{◌≡◌, sym, ◌∙◌, ap, subst}
 use Prim.Native.Nat.{◌*◌}

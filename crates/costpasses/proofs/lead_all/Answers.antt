@@ -1,11 +1,8 @@
-use borrow.Author.Rules.{rules}
 use native.Mathlib.Omega.{arith}
 use native.Mathlib.Numerals.{add-one}
-use mathlib.Core.Path.{◌≡◌, refl, sym, ◌∙◌, ap, subst}
-use mathlib.Core.List.{List}
-use Prim.Native.Nat.{ℕ, ◌-◌, ◌≤◌, ◌<◌}
+use mathlib.Core.Path.{◌≡◌, refl, sym, ◌∙◌, subst}
+use Prim.Native.Nat.{◌<◌}
 use lib.ListN.{length, length-set}
-use Rattle.profile.specs.Limits.{most_letters}
 use Rattle.profile.specs.Tables.{layout}
 use Rattle.counts.specs.Counts.{add_count}
 use Rattle.records.specs.Records.{counts_at}

@@ -1,12 +1,5 @@
 -- `costrows::lead_back` meets its contract. The loop's invariant: the states below q have their cost.
-use borrow.Author.Rules.{rules}
-use native.Mathlib.Omega.{arith}
-use Prim.Native.Nat.{◌-◌, ◌≤◌, ◌<◌, ◌^◌}
-use native.Mathlib.Numerals.{add-one}
-use mathlib.Core.Path.{◌≡◌, sym, subst}
-use Rattle.costcells.specs.Cells.{Least}
 use Rattle.costrows.specs.Rows.{LedBack}
-use Rattle.costrows.proofs.Leading.{back_more, back_none}
 use Rattle.costrows.proofs.lead_back.Given as goal
 
 abbrev pub invariant-loop-q : goal.invariant-loop-q

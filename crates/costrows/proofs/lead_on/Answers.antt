@@ -1,27 +1,13 @@
-use borrow.Author.Rules.{rules}
 use native.Mathlib.Omega.{arith}
-use Prim.Native.Nat.{◌+◌, ◌-◌, ◌≤◌, ◌<◌, ◌^◌}
+use Prim.Native.Nat.{◌+◌, ◌<◌}
 use native.Mathlib.Numerals.{add-one}
-use mathlib.Core.Path.{◌≡◌, sym, ◌∙◌, ap, subst}
+use mathlib.Core.Path.{sym, ◌∙◌, ap, subst}
 use lib.ListN.{length}
 use Rattle.costcells.specs.Cells.{Lowered, none_cost}
 use Rattle.costcells.proofs.Cells.{inside}
 use Rattle.costrows.specs.Rows.{LedOn, with_step}
-use Rattle.costrows.proofs.Leading.{led_more, led_none}
+use Rattle.costrows.proofs.Leading.{led_more}
 use Rattle.costrows.proofs.lead_on.Goals as goal
-
-pub lower_all-requires : goal.lower_all-requires
-lower_all-requires c =
-    let b = c in
-    let l = c.loop-q in
-    let h = b.requires in
-    (h.states, omega (arith, h.second, l.invariant.as_long), subst (λ n. n < 2 ^ b.args.profile.now.shape.s) (sym c.leads_from-states.ensures) (h.small l.q (omega arith)))
-
-pub loop-q-init : goal.loop-q-init
-loop-q-init c =
-    let b = c in
-    let a = b.args in
-    led_none a.costs.now a.arrow.from a.arrow.to a.profile.now.shape.k a.profile.now.shape.s a.profile.now.moves.now a.arrow.letter a.arrow.more b.requires
 
 pub loop-q-preserved : goal.loop-q-preserved
 loop-q-preserved c =
@@ -34,10 +20,3 @@ loop-q-preserved c =
     (led_more a.costs.now a.arrow.from a.arrow.to a.profile.now.shape.k a.profile.now.shape.s a.profile.now.moves.now a.arrow.letter a.arrow.more b.requires l.costs c.lower_all.new.costs l.q
     c.plus-v.result (omega arith) (c.plus-v.ensures ∙ ap (λ i. with_step i a.arrow.more) e) l.invariant
     (subst (λ S. Lowered l.costs c.lower_all.new.costs a.arrow.to S c.plus-v.result) c.leads_from-states.ensures c.lower_all.ensures))
-
-pub returns : goal.returns
-returns c =
-    let a = c.args in
-    let l = c.loop-q in
-    let e : l.q ≡ a.profile.now.shape.s = omega arith in
-    subst (λ n. LedOn a.costs.now l.costs a.arrow.from a.arrow.to a.profile.now.shape.k a.profile.now.shape.s a.profile.now.moves.now a.arrow.letter a.arrow.more n) e l.invariant

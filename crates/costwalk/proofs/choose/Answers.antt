@@ -1,10 +1,8 @@
-use borrow.Author.Rules.{rules}
 use mathlib.Core.Path.{subst}
-use Prim.Native.Nat.{◌-◌, ◌≤◌}
 use native.Mathlib.Omega.{arith}
 use Rattle.counts.specs.Counts.{words}
 use Rattle.costwalk.specs.Walk.{Tries}
-use Rattle.costwalk.proofs.Trying.{Passed, chosen_of, passed_more, passed_none}
+use Rattle.costwalk.proofs.Trying.{chosen_of, passed_more, passed_none}
 use Rattle.costwalk.proofs.choose.Goals as goal
 
 pub loop-x-init : goal.loop-x-init

@@ -1,5 +1,4 @@
 -- `costwalk::fits` meets its contract.
-use borrow.Author.Rules.{rules}
 use mathlib.Core.Path.{ap, subst}
 use Prim.Native.Nat.{◌*◌}
 use lib.Dec.{leb}
@@ -12,5 +11,5 @@ returns c =
     let a = c.args in record {
       cost = c.least_in-least.result;
       least = subst (λ S. Least a.costs.now (a.r * a.profile.now.shape.s) S c.least_in-least.result) f.ensures c.least_in-least.ensures;
-      told = ap (λ n. leb n a.left) c.plus.ensures;
+      told = ap (λ n. leb n a.taken.left) c.plus.ensures;
     }

@@ -1,5 +1,4 @@
 -- `costwalk::last_counts` meets its contract.
-use borrow.Author.Rules.{rules}
 use mathlib.Core.Path.{◌∙◌, ap}
 use Prim.Native.Nat.{◌-◌}
 use Rattle.records.specs.Records.{counts_at}

@@ -1,11 +1,8 @@
 -- `costwalk::put_closest` meets its contract. The loop's invariant: i letters are written and taken (`Walks`).
-use borrow.Author.Rules.{rules}
-use mathlib.Core.Path.{◌≡◌, refl, ◌∙◌, subst}
-use Prim.Native.Nat.{◌-◌, ◌≤◌}
-use native.Mathlib.Omega.{arith}
-use lib.ListN.{length, length-set}
+use mathlib.Core.Path.{◌≡◌}
+use lib.ListN.{length}
 use Rattle.counts.specs.Counts.{words}
-use Rattle.costwalk.proofs.Walking.{Walks, walks_all, walks_below, walks_lead, walks_next, walks_none}
+use Rattle.costwalk.proofs.Walking.{Walks}
 use Rattle.costwalk.proofs.put_closest.Given as goal
 
 abbrev pub invariant-loop-i : goal.invariant-loop-i

@@ -1,5 +1,4 @@
 -- `costwalk::swaps_of` meets its contract.
-use borrow.Author.Rules.{rules}
 use mathlib.Core.Path.{sym, subst}
 use Rattle.orderswaps.specs.Arranged.{Arranged}
 use Rattle.costwalk.proofs.swaps_of.Goals as goal

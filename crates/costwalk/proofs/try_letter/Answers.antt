@@ -1,5 +1,4 @@
 -- `costwalk::try_letter` meets its contract.
-use borrow.Author.Rules.{rules}
 use mathlib.Core.Path.{sym, ◌∙◌, ap, subst}
 use Prim.Native.Nat.{◌*◌}
 use Rattle.profile.specs.Automata.{automaton, profile_of}

@@ -1,15 +1,9 @@
 -- `costwrites::lower_all` meets its contract. The loop's invariant: with the states that are left lowered, the row is as promised. The measure is the states that are left.
-use borrow.Author.Rules.{rules}
-use native.Mathlib.Omega.{arith}
-use Rattle.costcells.proofs.Cells.{low_state}
-use Rattle.costwrites.proofs.Writing.{lower_more, lower_none}
-use Prim.Native.Nat.{ℕ, ◌+◌, ◌-◌, ◌<◌, ◌^◌, min}
-use mathlib.Core.Path.{◌≡◌, refl, sym, ◌∙◌, ap}
+use Prim.Native.Nat.{ℕ, ◌<◌, ◌^◌, min}
+use mathlib.Core.Path.{◌≡◌}
 use mathlib.Core.Bool.{cond}
-use lib.ListN.{length, length-set}
+use lib.ListN.{length}
 use Rattle.costcells.specs.Cells.{cost_in, in_row?}
-use lib.Count.{trailing_le, count_trailing_zeros}
-use lib.Bits.{and_le_r}
 use Rattle.costwrites.proofs.lower_all.Given as goal
 
 abbrev pub invariant-loop-rest : goal.invariant-loop-rest

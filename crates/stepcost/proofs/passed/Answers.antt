@@ -1,7 +1,5 @@
-use borrow.Author.Rules.{rules}
 use native.Mathlib.Omega.{arith}
 use Prim.Native.Nat.{◌+◌, ◌-◌, ◌/◌, ◌≤◌}
-use lib.ListN.{take}
 use Rattle.profile.specs.Prefixes.{count}
 use Rattle.stepcost.proofs.Sums.{before_of, few_of, not_before_of, placed_at, take_le}
 use Rattle.stepcost.proofs.passed.Goals as goal

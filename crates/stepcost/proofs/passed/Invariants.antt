@@ -1,10 +1,7 @@
 -- `stepcost::passed` meets its contract. The loop's invariant: no event from `from` on and before `low` is behind the place, none from `high` on is before it. The measure is what lies between.
-use borrow.Author.Rules.{rules}
-use native.Mathlib.Omega.{arith}
-use Prim.Native.Nat.{◌+◌, ◌-◌, ◌/◌, ◌≤◌}
+use Prim.Native.Nat.{◌-◌, ◌≤◌}
 use lib.ListN.{take}
 use Rattle.profile.specs.Prefixes.{count}
-use Rattle.stepcost.proofs.Sums.{before_of, few_of, not_before_of, placed_at, take_le}
 use Rattle.stepcost.proofs.passed.Given as goal
 
 abbrev pub invariant-loop-low : goal.invariant-loop-low

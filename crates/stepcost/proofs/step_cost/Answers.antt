@@ -1,4 +1,3 @@
-use borrow.Author.Rules.{rules}
 use native.Mathlib.Omega.{arith}
 use Prim.Native.Nat.{◌+◌, ◌-◌, ◌≤◌, ◌<◌}
 use lib.ListN.{length, get_or, take}
@@ -6,19 +5,8 @@ use native.Mathlib.Numerals.{add-one}
 use mathlib.Core.Path.{◌≡◌, sym, ◌∙◌, ap, ap₂, subst}
 use Rattle.profile.specs.Prefixes.{count}
 use Rattle.profile.specs.Tables.{count_field, layout}
-use Rattle.places.specs.Places.{places_of}
 use Rattle.stepcost.proofs.Sums.{few_of, left_all, left_below, left_more, left_none, left_small, lt_le, place_inside, placed_at, take_le}
 use Rattle.stepcost.proofs.step_cost.Goals as goal
-
-pub count_of-requires : goal.count_of-requires
-count_of-requires c = let b = c in omega (arith, b.requires.within.letter, b.requires.placed.letters)
-
-pub overflow_cast-count_of : goal.overflow_cast-count_of
-overflow_cast-count_of c =
-    let b = c in
-    let a = b.args in
-    let e : c.count_of.result < count (λ a. a) a.log.now a.x = subst (λ n. n < count (λ a. a) a.log.now a.x) (sym c.count_of.ensures) b.requires.within.left in
-    omega (arith, e, few_of a.log.now a.x, b.requires.placed.few)
 
 pub loop-y-init : goal.loop-y-init
 loop-y-init c =
@@ -29,12 +17,6 @@ loop-y-init c =
           ∙ placed_at a.k a.log.now a.placed.now.starts.now a.placed.now.places.now a.x n b.requires.placed b.requires.within.letter (lt_le n (count (λ a. a) a.log.now a.x) b.requires.within.left),
       sym (left_none a.log.now a.c.now c.next_place-own.result),
     )
-
-pub count_of-from-requires : goal.count_of-from-requires
-count_of-from-requires c = let b = c in omega (arith, b.requires.placed.letters)
-
-pub count_of-to-requires : goal.count_of-to-requires
-count_of-to-requires c = let b = c in omega (arith, b.requires.placed.letters)
 
 pub overflow_add-cost : goal.overflow_add-cost
 overflow_add-cost c =

@@ -6,9 +6,6 @@ use Rattle.search.specs.Search.{stands_before?}
 use Rattle.search.proofs.Halves.{Between, between_down, between_up}
 use Rattle.successors.proofs.place_between.Goals as goal
 
-pub loop-low-init : goal.loop-low-init
-loop-low-init c = (omega arith, omega arith, omega arith, λ o. c.requires.between)
-
 pub loop-low-preserved-then-stands_before : goal.loop-low-preserved-then-stands_before
 loop-low-preserved-then-stands_before c =
     let a = c.args in
