@@ -61,7 +61,7 @@ invariant_of-nested c =
     let good = sym c.check_relation.ensures ∙ ap refused_by c.in_ok-check_relation.was in
     let log = sym c.check_log.ensures ∙ ap refused_by c.in_ok-check_log.was in
     let u = subst (BuiltIs a.grammar.now.k a.grammar.now.masks.now a.log.now a.work.now _) c.in_ok-prefixes.was c.build.ensures in
-    setting_of a.grammar.now.k a.grammar.now.masks.now a.log.now a.work.now _ c.in_ok-prefixes.field-0.prefixes c.in_ok-prefixes.field-0.looks good log u.0 u.1
+    record { setting = setting_of a.grammar.now.k a.grammar.now.masks.now a.log.now a.work.now _ c.in_ok-prefixes.field-0.prefixes c.in_ok-prefixes.field-0.looks good log u.0 u.1 }
 
 pub put_verdict-requires : goal.put_verdict-requires
 put_verdict-requires c = (c.if-sets-prefixes.false, c.if-order-log.false)
