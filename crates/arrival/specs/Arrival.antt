@@ -3,7 +3,11 @@ use Rattle.std.specs.Prelude.{◌≡◌, Bool, ◌||◌, List, [], ◌∷◌, �
 use Rattle.profile.specs.Lists.{all, below, filter}
 use Rattle.profile.specs.Automata.{Automaton}
 use Rattle.profile.specs.Prefixes.{at, count, forward}
-use Rattle.profile.specs.Tables.{Layout, packed, record_length}
+use Rattle.profile.specs.Tables.{Layout, layout, packed, record_length}
+
+-- a table of numbers has place for n records
+abbrev pub HasRoom : List ℕ → ℕ → Type 0
+HasRoom t n = record_length layout * n ≤ length t
 
 -- counts with one more of letter a
 abbrev pub with_one : List ℕ → ℕ → List ℕ

@@ -1,17 +1,11 @@
 -- The calls of a running judge as numbers: Paper 7. The record crosses as two numbers, P and the number of events taken.
-use Rattle.std.specs.Prelude.{◌≡◌, Result, Ok, Err, List, [], ◌∷◌, ℕ, get_or}
+use Rattle.std.specs.Prelude.{◌≡◌, Result, Ok, Err, List, ℕ}
 use Rattle.profile.specs.Automata.{Profile}
 use Rattle.profile.specs.declared.Refusal.{Refusal}
+pub use Rattle.running.specs.Running.{held_numbers, held_of}
 use Rattle.running.specs.Running.{QuestionPromise, StartPromise, StepPromise, question_code, question_told, started_code, started_told, step_code, step_told}
 use Rattle.running.specs.declared.Running.{Running}
 use Rattle.running.specs.declared.Told.{Told}
-
--- a record as two numbers, and the record of two numbers
-abbrev pub held_numbers : Running → List ℕ
-held_numbers r = r.prefixes ∷ r.taken ∷ []
-
-abbrev pub held_of : List ℕ → Running
-held_of l = record { prefixes = get_or l 0 0; taken = get_or l 1 0 }
 
 -- the record after a start, which stays where it is refused
 abbrev pub started_held : List ℕ → Result Running Refusal → List ℕ

@@ -6,6 +6,7 @@ ghost use Rattle.profile.specs.Automata.{lent};
 ghost use Rattle.calls.specs.Calls.{Asking, Starting, Stepping};
 
 use profile::Profile;
+use refusals::refuse;
 use running::Running;
 
 // A start: tells the place.
@@ -13,14 +14,9 @@ pub fn start(profile: &Profile, held: &mut [u64; 2], table: &mut [u32], told: &m
     ensures { Starting (lent profile.now) held.old held.new table.old table.new result told.new }
 {
     match running::start(profile, table) {
-        Err(r) => {
-            *told = [refusals::place(r) as u64];
-            refusals::number(r)
-        }
+        Err(r) => refuse(r, told),
         Ok(begun) => {
-            let prefixes = begun.prefixes as u64;
-            let taken = begun.taken as u64;
-            *held = [prefixes, taken];
+            *held = begun.into();
             *told = [0];
             0
         }
@@ -37,19 +33,10 @@ pub fn event(
 ) -> u32
     ensures { Stepping (lent profile.now) letter held.old held.new table.old table.new result told.new }
 {
-    let before = Running {
-        prefixes: held[0] as usize,
-        taken: held[1] as usize,
-    };
-    let stepped = taking::step(before, profile, letter, table);
-    let prefixes = stepped.held.prefixes as u64;
-    let taken = stepped.held.taken as u64;
-    *held = [prefixes, taken];
+    let stepped = taking::step(Running::from(*held), profile, letter, table);
+    *held = stepped.held.into();
     match stepped.answer {
-        Err(r) => {
-            *told = [refusals::place(r) as u64];
-            refusals::number(r)
-        }
+        Err(r) => refuse(r, told),
         Ok(()) => {
             *told = [0];
             0
@@ -61,15 +48,8 @@ pub fn event(
 pub fn question(profile: &Profile, held: &[u64; 2], table: &[u32], told: &mut [u64; 4]) -> u32
     ensures { Asking (lent profile.now) held.now table.now result told.new }
 {
-    let asked = Running {
-        prefixes: held[0] as usize,
-        taken: held[1] as usize,
-    };
-    match running::question(asked, profile, table) {
-        Err(r) => {
-            *told = [refusals::place(r) as u64, 0, 0, 0];
-            refusals::number(r)
-        }
+    match running::question(Running::from(*held), profile, table) {
+        Err(unasked) => refuse(unasked, told),
         Ok(answer) => {
             let verdict = answer.verdict as u64;
             let prefixes = answer.prefixes as u64;

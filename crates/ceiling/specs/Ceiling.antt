@@ -1,7 +1,7 @@
 -- Document 02, Paper 11: the answer of a call for a ceiling.
 use Rattle.std.specs.Prelude.{Result, Ok, Err, List, [], ◌∷◌, ℕ}
 use Rattle.std.proofs.Math.Option.{Option, none, some}
-use Rattle.profile.specs.Refusals.{refusal_number, refusal_place}
+use Rattle.profile.specs.Answers.{answer_code, answer_told}
 use Rattle.profile.specs.declared.Refusal.{Refusal}
 use Rattle.ceilings.specs.Ceilings.{bound_refusal, ceiling_of}
 
@@ -21,5 +21,4 @@ told_ceiling (Err r) = none
 
 -- the paper's number and values of an answer: the refusal's number and place, and 0; or 0, 0 and the ceiling
 abbrev pub bounded_values : Result ℕ Refusal → List ℕ
-bounded_values (Ok n) = 0 ∷ 0 ∷ n ∷ []
-bounded_values (Err r) = refusal_number r ∷ refusal_place r ∷ 0 ∷ []
+bounded_values b = answer_code b ∷ answer_told 1 (λ n. n ∷ []) b

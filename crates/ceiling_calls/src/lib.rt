@@ -4,16 +4,14 @@
 ghost use Rattle.std.specs.Prelude.{◌≡◌};
 ghost use Rattle.ceiling_calls.specs.CeilingCalls.{Bounding};
 
+use refusals::refuse;
+
 // A ceiling: returns the refusal's number, or 0; tells the place and the ceiling.
 pub fn tell(k: usize, masks: &[u16], log: &[u8], groups: &[u16], told: &mut [u64; 2]) -> u32
     ensures { Bounding k masks.now log.now groups.now result told.new }
 {
-    let bounded = ceiling::bound(k, masks, log, groups);
-    match bounded {
-        Err(r) => {
-            *told = [refusals::place(r) as u64, 0];
-            refusals::number(r)
-        }
+    match ceiling::bound(k, masks, log, groups) {
+        Err(r) => refuse(r, told),
         Ok(n) => {
             let value = n as u64;
             *told = [0, value];

@@ -1,7 +1,7 @@
 -- The calls for the closest order as numbers: Paper 10.
-use Rattle.std.specs.Prelude.{Result, Ok, Err, ◌≡◌, List, [], ◌∷◌, ℕ}
+use Rattle.std.specs.Prelude.{Result, ◌≡◌, List, [], ◌∷◌, ℕ}
 use Rattle.profile.specs.Automata.{Profile}
-use Rattle.profile.specs.Refusals.{refusal_number, refusal_place}
+use Rattle.profile.specs.Answers.{answer_code, answer_told}
 use Rattle.profile.specs.declared.Refusal.{Refusal}
 use Rattle.closestanswer.specs.Answers.{Promise}
 use Rattle.closestanswer.specs.declared.Closest.{Closest}
@@ -10,14 +10,14 @@ use Rattle.closestterms.specs.Dated as dated
 
 -- the refusal's number, or 0; place, verdict, P, looks, swaps, floor. With verdict 0 there are no swaps and no floor, and 0 is told in their places
 abbrev pub closest_code : Result Closest Refusal → ℕ
-closest_code (Err r) = refusal_number r
-closest_code (Ok (NoOrder P n)) = 0
-closest_code (Ok (Order P n c f)) = 0
+closest_code = answer_code
+
+abbrev pub closest_numbers : Closest → List ℕ
+closest_numbers (NoOrder P n) = 0 ∷ P ∷ n ∷ 0 ∷ 0 ∷ []
+closest_numbers (Order P n c f) = 1 ∷ P ∷ n ∷ c ∷ f ∷ []
 
 abbrev pub closest_told : Result Closest Refusal → List ℕ
-closest_told (Err r) = refusal_place r ∷ 0 ∷ 0 ∷ 0 ∷ 0 ∷ 0 ∷ []
-closest_told (Ok (NoOrder P n)) = 0 ∷ 0 ∷ P ∷ n ∷ 0 ∷ 0 ∷ []
-closest_told (Ok (Order P n c f)) = 0 ∷ 1 ∷ P ∷ n ∷ c ∷ f ∷ []
+closest_told = answer_told 5 closest_numbers
 
 -- the promise of the call, of an answer given as numbers
 pub record Closing (p : Profile) (w : List ℕ) (B : ℕ) (order order' table table' costs costs' : List ℕ) (code : ℕ) (told : List ℕ) : Type 0 where

@@ -24,6 +24,7 @@ compared_values (Ok false) = 0 ∷ []
 compared_values (Err r) = refusal_number r.refusal ∷ refusal_place r.refusal ∷ r.log ∷ []
 
 -- the numbers of an answer: the refusal's number, or 0; place, the refused log's number, 1 for yes
+-- Kept: not `answer_code` and `answer_told`, since the refusal comes with the log's number, which is told too
 abbrev pub compared_code : Result Bool RefusedLog → ℕ
 compared_code (Ok b) = 0
 compared_code (Err r) = refusal_number r.refusal

@@ -7,7 +7,8 @@ use Rattle.profile.specs.declared.Refusal.{Refusal}
 use Rattle.profile.specs.declared.Refusal.TheVariants.{BadText, DeepText, LongText, OutOfRange, ShortBuffer}
 use Rattle.profile.specs.declared.Shape.{Shape}
 use Rattle.profile.specs.Lists.{below}
-use Rattle.profile.specs.Refusals.{lowest, refusal_number, refusal_place}
+use Rattle.profile.specs.Refusals.{lowest}
+use Rattle.profile.specs.Answers.{answer_code, answer_told}
 use Rattle.expressions.specs.Expressions.{Expr, size}
 use Rattle.expressions.specs.Positions.{finals_of, moves_of}
 use Rattle.expressions.specs.Texts.{Typed, expression}
@@ -54,12 +55,10 @@ make_refusal k u n = lowest (make_refusals k u n)
 
 -- the numbers of an answer: the refusal's number, or 0; place, s, start, final set
 abbrev pub made_code : Result Shape Refusal → ℕ
-made_code (Err x) = refusal_number x
-made_code (Ok h) = 0
+made_code = answer_code
 
 abbrev pub made_told : Result Shape Refusal → List ℕ
-made_told (Err x) = refusal_place x ∷ 0 ∷ 0 ∷ 0 ∷ []
-made_told (Ok h) = 0 ∷ h.s ∷ h.start ∷ h.finals ∷ []
+made_told = answer_told 3 (λ h. h.s ∷ h.start ∷ h.finals ∷ [])
 
 -- "the profile made": its numbers; its moves stand in the first s × k numbers of the buffer, "the rest of a longer move buffer stays"
 abbrev pub shape_of : ℕ → Expr → Shape

@@ -4,7 +4,8 @@ use Rattle.std.proofs.Math.Option.{Option, none, some}
 use Rattle.profile.specs.Limits.{most_letters, most_states}
 use Rattle.profile.specs.Lists.{flat_map}
 use Rattle.profile.specs.Automata.{Profile, profile_of}
-use Rattle.profile.specs.Refusals.{log_refusals, longest, lowest, profile_refusals, refusal_number, refusal_place, short_buffer}
+use Rattle.profile.specs.Refusals.{log_refusals, longest, lowest, profile_refusals, short_buffer}
+use Rattle.profile.specs.Answers.{answer_code, answer_told}
 use Rattle.profile.specs.declared.Shape.{Shape}
 use Rattle.profile.specs.declared.Refusal.{Refusal}
 use Rattle.profile.specs.declared.Refusal.TheVariants.{ShortBuffer}
@@ -53,12 +54,10 @@ writing (some r) n = Err r
 
 -- its numbers: the refusal's number, or 0; place, the file's length
 abbrev pub writing_code : Result ℕ Refusal → ℕ
-writing_code (Err r) = refusal_number r
-writing_code (Ok n) = 0
+writing_code = answer_code
 
 abbrev pub writing_told : Result ℕ Refusal → List ℕ
-writing_told (Err r) = refusal_place r ∷ 0 ∷ []
-writing_told (Ok n) = 0 ∷ n ∷ []
+writing_told = answer_told 1 (λ n. n ∷ [])
 
 -- what the writer promises: its answer, and the lent buffer afterwards
 abbrev pub Writes : Profile → List ℕ → List ℕ → List ℕ → Result ℕ Refusal → Type 0

@@ -5,7 +5,8 @@ use Rattle.profile.specs.Limits.{finals_byte, length_byte, length_high_byte, let
 use Rattle.profile.specs.Lists.{below}
 use Rattle.profile.specs.Automata.{Profile, profile_of}
 use Rattle.profile.specs.Tables.{pack}
-use Rattle.profile.specs.Refusals.{log_refusals, lowest, mask_bit, profile_out_of_range, refusal_number, refusal_place, short_buffer, state_bit}
+use Rattle.profile.specs.Refusals.{log_refusals, lowest, mask_bit, profile_out_of_range, short_buffer, state_bit}
+use Rattle.profile.specs.Answers.{answer_code, answer_told}
 use Rattle.profile.specs.declared.Shape.{Shape}
 use Rattle.profile.specs.declared.Refusal.{Refusal}
 use Rattle.profile.specs.declared.Refusal.TheVariants.{Distance, MaskBit, OutOfRange, ShortBuffer, ShortFile, StateBit}
@@ -111,12 +112,10 @@ reading (some r) h n = Err r
 
 -- its numbers: the refusal's number, or 0; place, k, s, start, final set, n
 abbrev pub reading_code : Result (Shape × ℕ) Refusal → ℕ
-reading_code (Err r) = refusal_number r
-reading_code (Ok (h, n)) = 0
+reading_code = answer_code
 
 abbrev pub reading_told : Result (Shape × ℕ) Refusal → List ℕ
-reading_told (Err r) = refusal_place r ∷ 0 ∷ 0 ∷ 0 ∷ 0 ∷ 0 ∷ []
-reading_told (Ok (h, n)) = 0 ∷ h.k ∷ h.s ∷ h.start ∷ h.finals ∷ n ∷ []
+reading_told = answer_told 5 (λ (h, n). h.k ∷ h.s ∷ h.start ∷ h.finals ∷ n ∷ [])
 
 -- "a lent … buffer": l from its start, "further elements unchanged"; refused, it is as before
 abbrev pub filled : Option Refusal → List ℕ → List ℕ → List ℕ
@@ -138,12 +137,10 @@ log_location f = located (lowest (file_refusals f)) (section f log_byte) (log_le
 
 -- its numbers: the refusal's number, or 0; place, the section's first place, its length
 abbrev pub located_code : Result (ℕ × ℕ) Refusal → ℕ
-located_code (Err r) = refusal_number r
-located_code (Ok (i, n)) = 0
+located_code = answer_code
 
 abbrev pub located_told : Result (ℕ × ℕ) Refusal → List ℕ
-located_told (Err r) = refusal_place r ∷ 0 ∷ 0 ∷ []
-located_told (Ok (i, n)) = 0 ∷ i ∷ n ∷ []
+located_told = answer_told 2 (λ (i, n). i ∷ n ∷ [])
 
 -- "handed back as that part of the file"; "A file refused by 1 to 8 hands back an empty part"
 abbrev pub log_part_of : List ℕ → List ℕ

@@ -5,6 +5,7 @@ use Rattle.profile.specs.declared.Refusal.{Refusal}
 use Rattle.profile.specs.Lists.{below}
 use Rattle.profile.specs.Orders.{first_order}
 use Rattle.profile.specs.Refusals.{first_order_refusal, log_refusals, lowest, refusal_number, refusal_place, relation_refusals}
+use Rattle.profile.specs.Answers.{answer_code, answer_told}
 use Rattle.profile.specs.Traces.{independent}
 use Rattle.places.specs.Places.{place_start, place_table}
 
@@ -20,12 +21,10 @@ ordered_values (Err r) = refusal_number r ∷ refusal_place r ∷ []
 
 -- the numbers of an answer: the refusal's number, or 0; place
 abbrev pub ordered_code : Result Unit Refusal → ℕ
-ordered_code (Ok a) = 0
-ordered_code (Err r) = refusal_number r
+ordered_code = answer_code
 
 abbrev pub ordered_told : Result Unit Refusal → List ℕ
-ordered_told (Ok a) = 0 ∷ []
-ordered_told (Err r) = refusal_place r ∷ []
+ordered_told = answer_told 0 (λ _. [])
 
 -- "First order", where the order buffer has n places
 abbrev pub ordering : ℕ → List ℕ → List ℕ → ℕ → Result Unit Refusal

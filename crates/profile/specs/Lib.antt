@@ -8,4 +8,5 @@ pub mod Tables
 pub mod Orders
 pub mod Rules
 pub mod Refusals
+pub mod Answers
 pub mod Source

@@ -1,11 +1,12 @@
 -- Paper 7, "Verdict while the class is lending": the record of a running judge, its calls, what refuses them, and what each promises.
-use Rattle.std.specs.Prelude.{◌≡◌, Result, Ok, Err, Bool, true, false, cond, List, [], ◌∷◌, ◌++◌, ℕ, suc, ◌*◌, leb, length, replicate, take}
+use Rattle.std.specs.Prelude.{◌≡◌, Result, Ok, Err, Bool, true, false, cond, List, [], ◌∷◌, ◌++◌, ℕ, suc, ◌*◌, get_or, leb, length, replicate, take}
 use Rattle.std.proofs.Math.Option.{Option, none, some}
 use Rattle.profile.specs.Traces.{independent}
 use Rattle.profile.specs.Automata.{Profile, automaton}
 use Rattle.profile.specs.Rules.{order_by, plain, prefixes_by}
 use Rattle.profile.specs.Tables.{layout, record_length}
-use Rattle.profile.specs.Refusals.{full_table, longest, lowest, profile_refusals, refused_by, refusal_number, refusal_place}
+use Rattle.profile.specs.Refusals.{full_table, longest, lowest, profile_refusals, refused_by}
+use Rattle.profile.specs.Answers.{answer_code, answer_told}
 use Rattle.profile.specs.declared.Refusal.{Refusal}
 use Rattle.profile.specs.declared.Refusal.TheVariants.{BadLetter, FullTable, LongLog}
 use Rattle.theory.proofs.Refusals.{GoodLog}
@@ -23,6 +24,13 @@ some? (some v) = true
 
 abbrev pub verdict_of : Profile → List ℕ → Bool
 verdict_of p w = some? (order_by (plain p) w)
+
+-- a record as two numbers, and the record of two numbers
+abbrev pub held_numbers : Running → List ℕ
+held_numbers r = r.prefixes ∷ r.taken ∷ []
+
+abbrev pub held_of : List ℕ → Running
+held_of l = record { prefixes = get_or l 0 0; taken = get_or l 1 0 }
 
 -- ---- what refuses a call
 
@@ -45,28 +53,22 @@ question_refusals p r n = profile_refusals p ++ ((full_table r.prefixes n, FullT
 
 -- the numbers of an answer: the refusal's number, or 0, and what is told: the place; of a question also verdict, P and the number of events taken
 abbrev pub started_code : Result Running Refusal → ℕ
-started_code (Err x) = refusal_number x
-started_code (Ok r) = 0
+started_code = answer_code
 
 abbrev pub started_told : Result Running Refusal → List ℕ
-started_told (Err x) = refusal_place x ∷ []
-started_told (Ok r) = 0 ∷ []
+started_told = answer_told 0 (λ _. [])
 
 abbrev pub step_code : Result Unit Refusal → ℕ
-step_code (Err x) = refusal_number x
-step_code (Ok u) = 0
+step_code = answer_code
 
 abbrev pub step_told : Result Unit Refusal → List ℕ
-step_told (Err x) = refusal_place x ∷ []
-step_told (Ok u) = 0 ∷ []
+step_told = answer_told 0 (λ _. [])
 
 abbrev pub question_code : Result Told Refusal → ℕ
-question_code (Err x) = refusal_number x
-question_code (Ok t) = 0
+question_code = answer_code
 
 abbrev pub question_told : Result Told Refusal → List ℕ
-question_told (Err x) = refusal_place x ∷ 0 ∷ 0 ∷ 0 ∷ []
-question_told (Ok t) = 0 ∷ cond t.verdict 1 0 ∷ t.prefixes ∷ t.taken ∷ []
+question_told = answer_told 3 (λ t. cond t.verdict 1 0 ∷ t.prefixes ∷ t.taken ∷ [])
 
 -- ---- the record and the table
 

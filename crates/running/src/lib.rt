@@ -1,13 +1,14 @@
 // The running judge: Paper 7, "Verdict while the class is lending".
 #![tactic(auto)]
 
-ghost use Rattle.std.specs.Prelude.{◌≡◌, [], ◌∷◌, ◌++◌, ◌-◌, ◌*◌, ◌^◌, ◌≤◌, ◌<◌, ltb, length};
+ghost use Rattle.std.specs.Prelude.{◌≡◌, [], ◌∷◌, ◌++◌, ◌-◌, ◌^◌, ◌<◌, ltb};
 ghost use Rattle.profile.specs.Limits.{most_states};
 ghost use Rattle.profile.specs.Automata.{lent, meets};
-ghost use Rattle.profile.specs.Tables.{layout, packed, record_length};
+ghost use Rattle.profile.specs.Tables.{layout, packed};
 ghost use Rattle.profile.specs.Refusals.{refused_by, lowest, profile_refusals};
 ghost use Rattle.profile.specs.declared.Refusal.TheVariants.{FullTable};
 ghost use Rattle.records.specs.Records.{forward_at, last_at, put_record};
+ghost use Rattle.arrival.specs.Arrival.{HasRoom};
 ghost use Rattle.running.specs.Running.{QuestionPromise, StartPromise};
 
 use profile::{Profile, Refusal};
@@ -17,6 +18,30 @@ use profile::{Profile, Refusal};
 pub struct Running {
     pub prefixes: usize,
     pub taken: usize,
+}
+
+// The record as C lends it: P, and the number of events taken.
+impl From<[u64; 2]> for Running {
+    ghost use Rattle.running.specs.Running.{held_of};
+
+    ghost from_gives = { λ numbers held. held ≡ held_of numbers };
+
+    fn from(numbers: [u64; 2]) -> Running {
+        Running {
+            prefixes: numbers[0] as usize,
+            taken: numbers[1] as usize,
+        }
+    }
+}
+
+impl From<Running> for [u64; 2] {
+    ghost use Rattle.running.specs.Running.{held_numbers};
+
+    ghost from_gives = { λ held numbers. numbers ≡ held_numbers held };
+
+    fn from(held: Running) -> [u64; 2] {
+        [held.prefixes as u64, held.taken as u64]
+    }
 }
 
 // What an event with the record by value gives back: the record after it, as it was where the event is refused, and the answer.
@@ -47,7 +72,7 @@ fn check_question(profile: &Profile, prefixes: usize, room: usize) -> Result<(),
 
 // Puts the record of the empty prefix, with the start state, as the first; its backward number stays.
 fn put_empty(table: &mut [u32], start: usize)
-    requires { (start < most_states) × (record_length layout ≤ length table.old) }
+    requires { (start < most_states) × HasRoom table.old 1 }
     ensures { table.new ≡ put_record table.old 0 (packed layout [] ++ (2 ^ start ∷ last_at table.old 0 ∷ [])) }
 {
     let last = records::last_at(table, 0);
@@ -70,7 +95,7 @@ pub fn start(profile: &Profile, table: &mut [u32]) -> Result<Running, Refusal>
 
 // The verdict by the record of all events taken, the last of n: its forward set has a final state.
 fn verdict_at(table: &[u32], n: usize, finals: u32) -> bool
-    requires { record_length layout * n ≤ length table.now }
+    requires { HasRoom table.now n }
     ensures { 0 < n → result ≡ meets (forward_at table.now (n - 1)) finals }
 {
     if n == 0 {

@@ -3,7 +3,8 @@ use Rattle.std.specs.Prelude.{Result, Ok, Err, ◌≡◌, Bool, ◌≢◌, List,
 use Rattle.profile.specs.Automata.{Profile}
 use Rattle.profile.specs.Tables.{capacity, layout, record_length}
 use Rattle.profile.specs.Rules.{Rules, looks_by, plain, prefixes_by, table_by}
-use Rattle.profile.specs.Refusals.{full_table, log_refusals, lowest, profile_refusals, refusal_number, refusal_place, refused_by}
+use Rattle.profile.specs.Refusals.{full_table, log_refusals, lowest, profile_refusals, refused_by}
+use Rattle.profile.specs.Answers.{answer_code, answer_told}
 use Rattle.theory.proofs.Refusals.{GoodEvents, GoodProfile}
 use Rattle.profile.specs.declared.Refusal.{Refusal}
 use Rattle.profile.specs.declared.Refusal.TheVariants.{FullTable}
@@ -22,12 +23,10 @@ pub record Sound (p : Rules) (w : List ℕ) (m room : ℕ) : Type 0 where
 
 -- the numbers of an answer: the refusal's number, or 0; place, P, looks
 abbrev pub built_code : Result Filled Refusal → ℕ
-built_code (Err r) = refusal_number r
-built_code (Ok t) = 0
+built_code = answer_code
 
 abbrev pub built_told : Result Filled Refusal → List ℕ
-built_told (Err r) = refusal_place r ∷ 0 ∷ 0 ∷ []
-built_told (Ok t) = 0 ∷ t.prefixes ∷ t.looks ∷ []
+built_told = answer_told 2 (λ t. t.prefixes ∷ t.looks ∷ [])
 
 -- the numbers of a table of m that have place for records, and those of the table t that have not: "a rest below" ten, "and all numbers past the first
 -- 4,294,967,292, are unused"

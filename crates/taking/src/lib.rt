@@ -1,12 +1,12 @@
 // Events of the running judge: Paper 7, "its record belongs to the caller and each event updates it there".
 #![tactic(auto)]
 
-ghost use Rattle.std.specs.Prelude.{◌≡◌, Err, [], ◌∷◌, ◌++◌, ◌*◌, ◌≤◌, ◌<◌, leb, ltb, length};
+ghost use Rattle.std.specs.Prelude.{◌≡◌, Err, [], ◌∷◌, ◌++◌, ◌≤◌, ◌<◌, leb, ltb};
 ghost use Rattle.profile.specs.Limits.{most_letters, most_states};
 ghost use Rattle.profile.specs.Automata.{lent};
-ghost use Rattle.profile.specs.Tables.{layout, record_length};
 ghost use Rattle.profile.specs.Refusals.{refused_by, longest, lowest, profile_refusals};
 ghost use Rattle.profile.specs.declared.Refusal.TheVariants.{BadLetter, FullTable, LongLog};
+ghost use Rattle.arrival.specs.Arrival.{HasRoom};
 ghost use Rattle.running.specs.Running.{StepPromise};
 ghost use Rattle.taking.specs.Taking.{Took};
 
@@ -47,16 +47,15 @@ fn refuse(held: Running, refusal: Refusal) -> Stepped
 
 // Takes an event that nothing but 10 refuses: the new records are counted, and put where they fit.
 fn take(held: Running, profile: &Profile, a: usize, table: &mut [u32], room: usize) -> Stepped
-    requires { (profile.now.shape.k ≤ most_letters) × (profile.now.shape.s ≤ most_states) × (held.taken < longest) × (held.prefixes ≤ room) × (record_length layout * room ≤ length table.old) }
+    requires { (profile.now.shape.k ≤ most_letters) × (profile.now.shape.s ≤ most_states) × (held.taken < longest) × (held.prefixes ≤ room) × HasRoom table.old room }
     ensures { Took (lent profile.now) a held result.held room table.old table.new result.answer }
 {
     let n = held.prefixes;
     let taken = held.taken;
-    let k = profile.shape.k;
     if n == 0 {
         return refuse(held, Refusal::FullTable);
     }
-    let new = newcomers::number_joining(table, n, profile.masks, k, a);
+    let new = newcomers::number_joining(table, n, profile, a);
     if room - n < new {
         return refuse(held, Refusal::FullTable);
     }

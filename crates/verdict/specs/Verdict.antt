@@ -3,8 +3,9 @@ use Rattle.std.specs.Prelude.{Result, Ok, Err, ◌≡◌, ◌≢◌, List, [], �
 use Rattle.std.proofs.Math.Option.{Option, none, some}
 use Rattle.profile.specs.Automata.{Profile}
 use Rattle.profile.specs.Rules.{Rules, looks_by, order_by, plain, prefixes_by, table_by}
-use Rattle.profile.specs.Refusals.{judge_refusal, refusal_number, refusal_place}
+use Rattle.profile.specs.Refusals.{judge_refusal}
 pub use Rattle.profile.specs.Refusals.{refused_by}
+use Rattle.profile.specs.Answers.{answer_code, answer_told}
 use Rattle.profile.specs.declared.Refusal.{Refusal}
 use Rattle.profile.specs.declared.Refusal.TheVariants.{FullTable}
 use Rattle.table.specs.Table.{Spared}
@@ -19,14 +20,14 @@ verdict_number (Ok (Order P n)) = some 1
 
 -- the numbers of an answer: the refusal's number, or 0; place, verdict, P, looks
 abbrev pub judged_code : Result Judged Refusal → ℕ
-judged_code (Err r) = refusal_number r
-judged_code (Ok (NoOrder P n)) = 0
-judged_code (Ok (Order P n)) = 0
+judged_code = answer_code
+
+abbrev pub judged_numbers : Judged → List ℕ
+judged_numbers (NoOrder P n) = 0 ∷ P ∷ n ∷ []
+judged_numbers (Order P n) = 1 ∷ P ∷ n ∷ []
 
 abbrev pub judged_told : Result Judged Refusal → List ℕ
-judged_told (Err r) = refusal_place r ∷ 0 ∷ 0 ∷ 0 ∷ []
-judged_told (Ok (NoOrder P n)) = 0 ∷ 0 ∷ P ∷ n ∷ []
-judged_told (Ok (Order P n)) = 0 ∷ 1 ∷ P ∷ n ∷ []
+judged_told = answer_told 3 judged_numbers
 
 -- "P", "looks", and what is promised of the table, which was `before`
 pub record Counted (p : Rules) (w before after : List ℕ) (P n : ℕ) : Type 0 where

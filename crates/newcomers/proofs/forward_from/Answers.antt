@@ -10,4 +10,4 @@ pub loop-b-preserved : goal.loop-b-preserved
 loop-b-preserved c =
     let a = c.args in
     let l = c.loop-b in
-    ap (λ x. bit_or x c.led-out.result) l.invariant ∙ union_more (λ x. led_at a.k a.s a.moves.now a.t.now (get_or a.places.now x 0) x) l.b c.led-out.ensures
+    ap (λ x. bit_or x c.led-out.result) l.invariant ∙ union_more (λ x. led_at a.profile.now.shape.k a.profile.now.shape.s a.profile.now.moves.now a.t.now (get_or a.places.now x 0) x) l.b c.led-out.ensures

@@ -7,4 +7,4 @@ use Rattle.newcomers.specs.Newcomers.{led_at}
 use Rattle.newcomers.proofs.forward_from.Given as goal
 
 abbrev pub invariant-loop-b : goal.invariant-loop-b
-invariant-loop-b l = l.out ≡ union (λ x. led_at l.k l.s l.moves l.t (get_or l.places x 0) x) (below l.b)
+invariant-loop-b l = l.out ≡ union (λ x. led_at l.profile.shape.k l.profile.shape.s l.profile.moves.now l.t (get_or l.places x 0) x) (below l.b)

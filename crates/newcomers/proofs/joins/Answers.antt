@@ -14,7 +14,7 @@ returns-then-not-allows c =
     let a = c.args in
     let l = c.loop-b in
     let own = c.numbers-own.ensures ∙ c.counts_at.ensures in
-    all_no _ a.k l.b c.loop-b-test.true (ap (λ v. allows? (independent a.masks.now) a.last.now a.a v l.b) (sym own) ∙ sym c.allows.ensures ∙ not-true _ (ap not c.if-not-allows.true))
+    all_no _ a.profile.now.shape.k l.b c.loop-b-test.true (ap (λ v. allows? (independent a.profile.now.masks.now) a.last.now a.a v l.b) (sym own) ∙ sym c.allows.ensures ∙ not-true _ (ap not c.if-not-allows.true))
 
 pub loop-b-preserved : goal.loop-b-preserved
 loop-b-preserved c =
@@ -26,4 +26,4 @@ returns c =
     let a = c.args in
     let l = c.loop-b in
     let own = c.numbers-own.ensures ∙ c.counts_at.ensures in
-    all_yes _ a.k (λ x lt. ap (λ v. allows? (independent a.masks.now) a.last.now a.a v x) (sym own) ∙ l.invariant x (omega (arith, lt, c.loop-b-test.false)))
+    all_yes _ a.profile.now.shape.k (λ x lt. ap (λ v. allows? (independent a.profile.now.masks.now) a.last.now a.a v x) (sym own) ∙ l.invariant x (omega (arith, lt, c.loop-b-test.false)))

@@ -7,4 +7,4 @@ use Rattle.newcomers.specs.Newcomers.{allows?}
 use Rattle.newcomers.proofs.joins.Given as goal
 
 abbrev pub invariant-loop-b : goal.invariant-loop-b
-invariant-loop-b l = (x : ℕ) → x < l.b → allows? (independent l.masks) l.last l.a l.own x ≡ true
+invariant-loop-b l = (x : ℕ) → x < l.b → allows? (independent l.profile.masks.now) l.last l.a l.own x ≡ true

@@ -15,5 +15,5 @@ loop-j-preserved c =
     let last = c.numbers-last.ensures ∙ c.counts_at.ensures in
     let one = c.from-number.ensures ∙ byte_cond c.joins.result in (
       omega (arith, l.invariant.0, one, cond_most c.joins.result),
-      ap₂ (λ x y. x + y) l.invariant.1 one ∙ joining_more (λ x. joins_at? (independent a.masks.now) a.k (counts_at a.t.now (a.n - 1)) a.a (counts_at a.t.now x)) l.j c.joins.result (ap (λ v. joins_at? (independent a.masks.now) a.k v a.a (counts_at a.t.now l.j)) (sym last) ∙ sym c.joins.ensures),
+      ap₂ (λ x y. x + y) l.invariant.1 one ∙ joining_more (λ x. joins_at? (independent a.profile.now.masks.now) a.profile.now.shape.k (counts_at a.t.now (a.n - 1)) a.a (counts_at a.t.now x)) l.j c.joins.result (ap (λ v. joins_at? (independent a.profile.now.masks.now) a.profile.now.shape.k v a.a (counts_at a.t.now l.j)) (sym last) ∙ sym c.joins.ensures),
     )

@@ -23,7 +23,7 @@ put_if_joins-i-requires c =
     let s = standing (lent a.profile.now) a.n a.a a.t.now room l.invariant.1 in
     let lt = c.loop-r-test.true in record {
       k_le_most_letters = (h.0, h.1, omega (arith, l.invariant.0), omega (arith, lt, s.counted), omega (arith, room, s.counted, s.long, joined_upto (lent a.profile.now) a.n a.a a.t.now l.r lt));
-      layout_in_bounds = λ e. (place_for (lent a.profile.now) a.n a.a a.t.now room s lt (ap (λ v. joins_at? (independent a.profile.now.masks.now) a.profile.now.shape.k v a.a (counts_at l.t l.r)) (sym last) ∙ e)).0;
+      layout_in_bounds = λ e. omega (arith, (place_for (lent a.profile.now) a.n a.a a.t.now room s lt (ap (λ v. joins_at? (independent a.profile.now.masks.now) a.profile.now.shape.k v a.a (counts_at l.t l.r)) (sym last) ∙ e)).0);
     }
 
 pub loop-r-preserved : goal.loop-r-preserved
