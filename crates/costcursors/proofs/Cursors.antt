@@ -27,9 +27,6 @@ module _ (t c : List ℕ) where
   pub forth_more : (j m : ℕ) → m ≡ suc j → Low t c j → T (stands_before? (counts_at t j) c) → Low t c m
   forth_more j m e low y i h = ⊎_elim (λ l. low i l) (λ l. let q : j ≡ i = omega (arith, e, h, l) in subst (λ z. T (stands_before? (counts_at t z) c)) q y) (lt_or_le i j)
 
-  pub forth_end : (j : ℕ) → j ≡ records_in t → Low t c j → Splits t c j
-  forth_end j e low = record { inside = omega (arith, e); low = low; high = λ i l k. absurd (omega (arith, e, l, k)) }
-
   pub back_stop : (j m : ℕ) → j ≡ suc m → j ≤ records_in t → High t c j → T (stands_before? (counts_at t m) c) → Ordered t → Splits t c j
   back_stop j m e h high y o = record {
     inside = h;
@@ -39,6 +36,3 @@ module _ (t c : List ℕ) where
 
   pub back_more : (j m : ℕ) → j ≡ suc m → High t c j → T (not (stands_before? (counts_at t m) c)) → High t c m
   back_more j m e high n i l k = ⊎_elim (λ lt. let q : m ≡ i = omega (arith, e, l, lt) in subst (λ z. T (not (stands_before? (counts_at t z) c))) q n) (λ ge. high i ge k) (lt_or_le i j)
-
-  pub back_end : (j : ℕ) → j ≡ 0 → High t c j → Splits t c j
-  back_end j e high = record { inside = omega (arith, e); low = λ i l. absurd (omega (arith, e, l)); high = high }
