@@ -10,6 +10,7 @@ ghost use Rattle.comparison.specs.Comparison.{comparison, pair_agrees?};
 use profile::Refusal;
 
 // A refusal with the log that it is about: 1 or 2, and 0 for none.
+// Kept: a number, as C is told it.
 #[derive(Clone, Copy)]
 pub struct RefusedLog {
     pub refusal: Refusal,

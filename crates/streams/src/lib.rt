@@ -59,6 +59,7 @@ pub fn tell(rt: &impl Eprint, words: &str, why: Error) {
 }
 
 // Writes the bytes to standard output, and tells whether all are written; a write that fails is told on standard error, with the words.
+// Kept: not a Result, as the error is told here, and whoever calls has only to know that there was one.
 pub fn print(rt: &(impl Print + Eprint), bytes: &[u8], words: &str) -> bool {
     match write_output(&mut io::writer(rt), bytes) {
         Ok(()) => true,

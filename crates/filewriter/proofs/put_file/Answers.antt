@@ -1,33 +1,31 @@
 -- `filewriter::put_file` meets its contract: each section behind the one before.
 use mathlib.Core.Path.{◌≡◌, ◌∙◌, ap, ap₂}
 use mathlib.Core.List.{List}
-use Prim.Native.Nat.{ℕ, ◌+◌, ◌-◌, ◌*◌, ◌≤◌, ◌<◌}
+use Prim.Native.Nat.{ℕ, ◌-◌, ◌*◌, ◌≤◌, ◌<◌}
 use native.Mathlib.Nat.{mul-le-mul}
 use native.Mathlib.Omega.{arith}
 use lib.ListN.{length}
-use Rattle.profile.specs.Limits.{most_letters, most_states, trailer_length}
-use Rattle.profile.specs.Automata.{profile_of, lent}
+use Rattle.profile.specs.Limits.{most_letters, most_states}
+use Rattle.profile.specs.Automata.{lent}
 use Rattle.profile.specs.Lists.{flat_map}
 use Rattle.profile.specs.Refusals.{longest}
 use Rattle.profile.specs.declared.Shape.{Shape}
 use Rattle.profile.proofs.Lists.{flat_map_length}
-use Rattle.putting.proofs.Texts.{put_as, put_kept, put_then}
+use Rattle.putting.proofs.Texts.{put_as, put_then}
 use Rattle.filewriter.specs.Written.{Fit, low_bytes, masks_distance, moves_distance, trailer_of}
-use Rattle.filewriter.proofs.Answers.{file_length}
 use Rattle.filewriter.proofs.Bytes.{low_length}
 use Rattle.filewriter.proofs.put_file.Goals as goal
 use Rattle.filewriter.proofs.put_file.Goals.{After-put_bytes-end}
 
--- how long the sections are, and the place that there is
-record Sizes (h : Shape) (masks moves log out : List ℕ) : Type 0 where
+-- how long the sections are
+record Sizes (h : Shape) (masks moves log : List ℕ) : Type 0 where
   of_masks : length (flat_map (low_bytes 2) masks) ≡ 2 * h.k
   of_moves : length (flat_map (low_bytes 4) moves) ≡ 4 * (h.s * h.k)
   letters : h.k ≤ most_letters
   moves_few : h.s * h.k ≤ most_states * most_letters
   log_short : length log ≤ longest
-  room : 2 * h.k + (4 * (h.s * h.k) + (length log + trailer_length)) ≤ length out
 
-sizes : (h : Shape) (masks moves log out : List ℕ) → Fit h masks moves log out → Sizes h masks moves log out
+sizes : (h : Shape) (masks moves log out : List ℕ) → Fit h masks moves log out → Sizes h masks moves log
 sizes h masks moves log out fit =
     let s = fit.states in
     let l = fit.letters in record {
@@ -36,20 +34,7 @@ sizes h masks moves log out fit =
       letters = l.1;
       moves_few = mul-le-mul s.1 l.1;
       log_short = fit.log;
-      room = omega (arith, fit.room, file_length (profile_of h masks moves) log, l.0, s.0);
     }
-
-pub put_numbers-moves_at-requires : goal.put_numbers-moves_at-requires
-put_numbers-moves_at-requires c = omega (arith, sizes _ _ _ _ _ c.requires)
-
-pub put_numbers-log_at-requires : goal.put_numbers-log_at-requires
-put_numbers-log_at-requires c = omega (arith, sizes _ _ _ _ _ c.requires, put_kept c.put_numbers-moves_at.ensures, c.put_numbers-moves_at.ensures.behind)
-
-pub put_bytes-end-requires : goal.put_bytes-end-requires
-put_bytes-end-requires c =
-    let p = c.put_numbers-moves_at.ensures in
-    let q = c.put_numbers-log_at.ensures in
-    omega (arith, sizes _ _ _ _ _ c.requires, put_kept p, put_kept q, p.behind, q.behind)
 
 -- where the log ends, and the distances back from there
 ends : (c : After-put_bytes-end)
@@ -62,13 +47,6 @@ overflow_cast-to_masks c = omega (arith, ends (goal.at.overflow_cast-to_masks c)
 
 pub overflow_cast-to_moves : goal.overflow_cast-to_moves
 overflow_cast-to_moves c = omega (arith, ends (goal.at.overflow_cast-to_moves c).After-put_bytes-end)
-
-pub put_bytes-requires : goal.put_bytes-requires
-put_bytes-requires c =
-    let p = c.put_numbers-moves_at.ensures in
-    let q = c.put_numbers-log_at.ensures in
-    let r = c.put_bytes-end.ensures in
-    omega (arith, sizes _ _ _ _ _ c.requires, put_kept p, put_kept q, put_kept r, ends (goal.at.put_bytes-requires c).After-put_bytes-end, c.trailer_bytes-trailer.type_inv)
 
 pub returns : goal.returns
 returns c =

