@@ -7,7 +7,7 @@ ghost use Rattle.counts.specs.Counts.{words};
 ghost use Rattle.records.specs.Records.{counts_at, forward_at, last_at, put_record, records_in};
 
 use counts::{Counts, NUMBERS};
-use profile::limits::{MOST_RECORDS, RECORD_NUMBERS, USABLE_NUMBERS};
+use profile::limits::{RECORD_NUMBERS, USABLE_NUMBERS};
 
 // The numbers of a record.
 pub const RECORD: usize = RECORD_NUMBERS;
@@ -23,12 +23,7 @@ pub fn records_in(t: &[u32]) -> usize
 pub fn capacity(table: &[u32]) -> usize
     ensures { result ≡ capacity_of layout (length table.now) }
 {
-    let n = table.len();
-    if USABLE_NUMBERS < n {
-        MOST_RECORDS
-    } else {
-        n / RECORD
-    }
+    table.len().min(USABLE_NUMBERS) / RECORD
 }
 
 // The counts of record j.

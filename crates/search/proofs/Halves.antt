@@ -5,7 +5,7 @@ use mathlib.Core.Logic.{◌⊎◌, inl, inr, ⊎_elim, ◌≢◌}
 use mathlib.Core.List.{List, ◌∷◌}
 use Prim.Native.Nat.{ℕ, zero, suc, ◌+◌, ◌-◌, ◌≤◌, ◌<◌}
 use native.Mathlib.Omega.{arith}
-use borrow.Author.Tests.{eq-eqb, le-ltb, lt-ltb, ne_eqb}
+use borrow.Author.Tests.{eq-eqb, le-ltb, ne_eqb}
 use Rattle.std.specs.Prelude.{Ok, Err}
 use lib.Dec.{T, T_not, not_T}
 use lib.ListN.{length}
@@ -140,15 +140,5 @@ module _ (t c : List ℕ) (o : Ordered t) (a : ℕ) (e : a ≡ records_before t 
 pub before_less : (m n : ℕ) (u v : List ℕ) → m < n → not (no_later? (n ∷ v) (m ∷ u)) ≡ true
 before_less m n u v h = rw (le-ltb n m (omega arith), ne_eqb n m (λ e. omega arith))
 
-pub before_more : (m n : ℕ) (u v : List ℕ) → n < m → not (no_later? (n ∷ v) (m ∷ u)) ≡ false
-before_more m n u v h = rw (lt-ltb n m h)
-
 pub before_same : (m n : ℕ) (u v : List ℕ) → m ≡ n → not (no_later? (n ∷ v) (m ∷ u)) ≡ not (no_later? v u)
 before_same m n u v e = rw (le-ltb n m (omega arith), eq-eqb n m (sym e))
-
--- totals as the code has them: `omega` would write out the sixteen counts
-pub less_by : {m n i j : ℕ} → m ≡ i → n ≡ j → m < n → i < j
-less_by p q h = omega arith
-
-pub same_by : {m n i j : ℕ} → m ≡ i → n ≡ j → n ≤ m → m ≤ n → i ≡ j
-same_by p q g h = omega arith

@@ -14,13 +14,7 @@ pub fn stands_before(a: Counts, b: Counts) -> bool
 {
     let m = counts::total_of(a);
     let n = counts::total_of(b);
-    if m < n {
-        return true;
-    }
-    if n < m {
-        return false;
-    }
-    counts::counts_before(a, b)
+    m < n || m == n && counts::counts_before(a, b)
 }
 
 // How many records of t, which are in order, stand before the place of the counts c.
@@ -46,10 +40,9 @@ pub fn find(t: &[u32], c: Counts) -> Result<usize, usize>
     ensures { Ordered t.now → result ≡ found_in t.now (words c) }
 {
     let at = place_of(t, c);
-    if at < records::records_in(t) {
-        if counts::same_counts(records::counts_at(t, at), c) {
-            return Ok(at);
-        }
+    if at < records::records_in(t) && counts::same_counts(records::counts_at(t, at), c) {
+        Ok(at)
+    } else {
+        Err(at)
     }
-    Err(at)
 }

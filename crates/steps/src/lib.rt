@@ -9,7 +9,7 @@ ghost use Rattle.profile.specs.Automata.{forward_step, meets, row as row_at};
 fn leads(row: &[u32], a: usize) -> u32
     ensures { result ≡ get_or row.now a 0 }
 {
-    if a < row.len() { row[a] } else { 0 }
+    row.get(a).copied().unwrap_or(0)
 }
 
 // The states to which letter a may lead from state q.

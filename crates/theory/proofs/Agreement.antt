@@ -2,7 +2,7 @@
 -- a trace, P is their number, forward sets are their sets V_t, and a log has an accepted order exactly when its trace is in the trace language.
 use mathlib.Core.Path.{◌≡◌, refl, sym, ◌∙◌, ap, subst, fun_ext}
 use mathlib.Core.Bool.{Bool}
-use mathlib.Core.Logic.{◌⊎◌, ⊎_elim, ◌↔◌, ◌≢◌}
+use mathlib.Core.Logic.{⊎_elim, ◌↔◌, ◌≢◌}
 use mathlib.Core.List.Memᴰ
 use mathlib.Core.List.{List, map}
 use mathlib.Core.Option.{Option, none, some}

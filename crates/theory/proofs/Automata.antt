@@ -9,7 +9,7 @@ use lib.Dec.{T, ltb, ltb→lt}
 use lib.Bits.{or_zero_r}
 use Rattle.profile.specs.Automata.{Accepted, Automaton, PathOf, goes, meets, run, run_back, stop, union}
 use Rattle.profile.specs.Lists.{below, filter}
-use Rattle.profile.specs.Prefixes.{IsPrefix, addable?, at, backward, count, forward, less, marked, more, unmarked}
+use Rattle.profile.specs.Prefixes.{IsPrefix, addable?, backward, count, forward, less, marked, more, unmarked}
 use Rattle.profile.specs.Traces.{Reachable, bit, letters_below, orders}
 use Rattle.profile.proofs.Lists.{below_of, filter_at, filter_of}
 use Rattle.theory.proofs.Prefixes.{addable_at, addable_of, all_of_pick, count_append, count_of_prefix, count_order, front_all, front_marked, front_none, more_of_pick, prefix_of_front, prefix_of_takes, removable_at, removable_of, removable?, takes_of_prefix}

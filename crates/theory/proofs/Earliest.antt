@@ -1,18 +1,17 @@
 -- Letter order, the earliest log of a list, and how it is found letter by letter.
 use mathlib.Core.Path.{◌≡◌, refl, sym, ◌∙◌, ap, ap₂, subst, subst₂}
-use mathlib.Core.Bool.{Bool, true, false, not, ◌&&◌, cond}
+use mathlib.Core.Bool.{Bool, true, false, not, cond}
 use mathlib.Core.Logic.{◌⊎◌, inl, inr, ⊎_elim, ◌≢◌}
 use mathlib.Core.List.Memᴰ
 use mathlib.Core.List.{List, [], ◌∷◌, ◌++◌, map}
 use mathlib.Core.Option.{none, some, none-ne-some, some-injective}
 use Prim.Native.Nat.{ℕ, ◌≤◌, ◌<◌}
 use native.Mathlib.Omega.{arith}
-use lib.Dec.{T, T_not, eqb, ltb, eqb→eq, eqb_refl, ltb→lt, nltb→le}
+use lib.Dec.{T, T_not, eqb, ltb, eqb→eq, eqb_refl, nltb→le}
 use Rattle.profile.specs.Lists.{Mem, filter}
 use Rattle.profile.specs.Orders.{NoLater, agrees, earliest, ends, first_order, least, no_later?, smaller}
-use Rattle.profile.specs.Prefixes.{at}
 use Rattle.profile.specs.Traces.{Reachable, Symmetric, orders}
-use Rattle.profile.proofs.Lists.{either, filter_at, filter_none, filter_of, fst_of, is_false, is_true, lt_or_le, snd_of, test}
+use Rattle.profile.proofs.Lists.{filter_at, filter_none, filter_of, is_false, is_true, lt_or_le, test}
 pub use Rattle.profile.proofs.Orders.{no_later_of_test}
 use Rattle.theory.proofs.Prefixes.{pick_same}
 use Rattle.profile.proofs.Traces.{Order, Pick, Takes, done, mem_of_order, next, no_pick, order_of_mem, order_of_reach, order_trans, reach_of_order, reach_sym, reach_trans, takes_refl}

@@ -2,10 +2,9 @@
 use mathlib.Core.Path.{◌≡◌, refl, sym, ◌∙◌, ap}
 use mathlib.Core.Bool.{Bool, true, false, false≢true}
 use mathlib.Core.List.{List, [], ◌∷◌}
-use Prim.Native.Nat.{ℕ, zero, suc, ◌+◌, ◌≤◌, ◌<◌}
+use Prim.Native.Nat.{ℕ, zero, suc, ◌≤◌, ◌<◌}
 use native.Mathlib.Omega.{arith}
-use lib.ListN.{length, get_or, drop, drop_of_length-le}
-use lib.Seq.{drop-cons}
+use lib.ListN.{length, get_or}
 use Rattle.profile.specs.Lists.{first_place}
 
 module _ (p : ℕ → Bool) where
@@ -14,18 +13,6 @@ module _ (p : ℕ → Bool) where
 
   pub first_no : (a : ℕ) (l : List ℕ) → p a ≡ false → first_place p (a ∷ l) ≡ suc (first_place p l)
   first_no a l e = rw (e, first_place)
-
-  -- in what is left of w from place i on
-  pub place_yes : (w : List ℕ) (i : ℕ) → i < length w → p (get_or w i 0) ≡ true → first_place p (drop i w) ≡ 0
-  place_yes w i h e = ap (first_place p) (drop-cons w i 0 h) ∙ first_yes (get_or w i 0) (drop (suc i) w) e
-
-  pub place_no : (w : List ℕ) (i : ℕ) → i < length w → p (get_or w i 0) ≡ false → first_place p (drop i w) ≡ suc (first_place p (drop (i + 1) w))
-  place_no w i h e =
-      let n : suc i ≡ i + 1 = omega arith in
-      ap (first_place p) (drop-cons w i 0 h) ∙ first_no (get_or w i 0) (drop (suc i) w) e ∙ ap (λ j. suc (first_place p (drop j w))) n
-
-  pub place_end : (w : List ℕ) (i : ℕ) → length w ≤ i → first_place p (drop i w) ≡ 0
-  place_end w i h = ap (first_place p) (drop_of_length-le w h)
 
   pub first_passes : (l : List ℕ) → first_place p l < length l → p (get_or l (first_place p l) 0) ≡ true
   first_passes [] h = absurd (omega arith)

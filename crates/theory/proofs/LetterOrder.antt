@@ -1,11 +1,11 @@
 -- Letter order: what it compares, and that it is a total order with a test.
 use mathlib.Core.Path.{◌≡◌, refl, sym, ap, ap₂, subst, subst₂}
-use mathlib.Core.Bool.{not, ◌&&◌}
+use mathlib.Core.Bool.{not}
 use mathlib.Core.Logic.{◌⊎◌, inl, inr, ⊎_elim, ◌↔◌, ◌≢◌}
 use mathlib.Core.List.{List, [], ◌∷◌, ◌++◌, append_cancel_left, head-eq_of_cons-eq}
 use Prim.Native.Nat.{ℕ, ◌<◌}
 use native.Mathlib.Omega.{arith}
-use lib.Dec.{T, T_not, not_T, eqb, ltb, eqb_refl, lt→ltb}
+use lib.Dec.{T, T_not, not_T}
 use lib.ListN.{length}
 use Rattle.profile.specs.Orders.{Earlier, NoLater, agrees, ends, no_later?, smaller}
 use Rattle.theory.proofs.Earliest.{ge_of_test, no_later_antisym, no_later_of_test, no_later_refl, no_later_trans}

@@ -10,7 +10,7 @@ use native.Mathlib.Nat.{zero-add}
 use lib.Seq.{ext_get_or, get_or-set_same, get_or-set_other, set-set, set-get_or}
 use lib.Dec.{T, eqb, eqb→eq, eqb_refl, ltb, ltb→lt}
 use lib.ListN.{length, set, length-set}
-use Rattle.profile.specs.Lists.{Mem, below, filter, flat_map, range}
+use Rattle.profile.specs.Lists.{Mem, below, range}
 use Rattle.profile.specs.Traces.{letters_below}
 use Rattle.profile.specs.Prefixes.{IsPrefix, addable?, at, by_total, count, level, marked, more, one, prefix_count, prefixes, total}
 use Rattle.theory.proofs.Counting.{at_map, length_range, prefix_count_of, prefixes_at, prefixes_nodup, prefixes_of}

@@ -10,7 +10,7 @@ use native.Mathlib.Omega.{arith}
 use lib.Dec.{T, eqb, eqb_refl}
 use lib.ListN.{length, length-append, length-map, replicate}
 use Rattle.profile.specs.Automata.{Automaton}
-use Rattle.profile.specs.Lists.{Mem, below, filter, flat_map}
+use Rattle.profile.specs.Lists.{Mem, below, flat_map}
 use Rattle.profile.specs.Prefixes.{IsPrefix, addable?, additions, at, by_total, looks, more, prefix_count, prefixes, total}
 use Rattle.profile.specs.Traces.{Reachable, letters_below}
 use Rattle.theory.proofs.Comparison.{back_over, over, prefixes_same}

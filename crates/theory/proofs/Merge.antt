@@ -9,7 +9,7 @@ use Prim.Native.Nat.{ℕ, zero, suc, ◌+◌, ◌-◌, ◌≤◌, ◌<◌}
 use native.Mathlib.Omega.{arith}
 use lib.Dec.{T, T_not, eqb, eqb→eq, eqb_refl, ltb, ltb→lt, lt→ltb}
 use lib.ListN.{get_or-eq_default, length, get_or, drop, drop_of_length-le, length-drop}
-use lib.Seq.{ext_get_or, get_or-drop, drop-cons}
+use lib.Seq.{ext_get_or, get_or-drop}
 use Rattle.profile.specs.Lists.{Mem, below, equal?, filter, first_place, flat_map, range}
 use Rattle.profile.specs.Orders.{Earlier, NoLater, agrees, ends, smaller}
 use Rattle.profile.specs.Traces.{letters_below}
@@ -18,8 +18,7 @@ use Rattle.profile.specs.Prefixes.{IsPrefix, addable?, at, backward, closed?, co
 use Rattle.profile.proofs.Lists.{below_at, both, equal_test, filter_agree, filter_at, filter_of, fst_of, is_false, is_true, lt_or_le, mem_getd, mem_place, snd_of, test}
 use Rattle.theory.proofs.Earliest.{no_later_antisym, no_later_refl}
 use Rattle.theory.proofs.LetterOrder.{earlier_irrefl, earlier_trans}
-use Rattle.profile.proofs.Traces.{Pick, first}
-use Rattle.theory.proofs.Prefixes.{addable_of, all_of_pick, count_front, count_of_prefix, front_all, front_length, front_marked, front_none, front_of_prefix, more_of_pick, prefix_of_front, removable_at, removable_of, removable?}
+use Rattle.theory.proofs.Prefixes.{addable_of, count_front, count_of_prefix, front_all, front_length, front_marked, front_none, front_of_prefix, prefix_of_front, removable_at, removable_of, removable?}
 use Rattle.theory.proofs.Counting.{at_map, count_above, length_range, prefixes_at, prefixes_of}
 use Rattle.theory.proofs.Levels.{at_bump, bump, debump, level_last, level_next, total_prefix}
 use Rattle.theory.proofs.Automata.{Lawful, backward_all, backward_eq, forward_eq, forward_none}
@@ -137,16 +136,6 @@ module _ {A : Type 0} (f : A → Bool) where
   first_no : (a : A) (l : List A) → T (not (f a)) → first_place f (a ∷ l) ≡ suc (first_place f l)
   first_no a l t = rw (is_false (f a) t, first_place)
 
-  -- for loops: the place is p, or the search goes on at the next place, or p is the end
-  pub seek_yes : (l : List A) (d : A) (p : ℕ) → p < length l → T (f (get_or l p d)) → seek f l p ≡ p
-  seek_yes l d p h t = omega (arith, ap (first_place f) (drop-cons l p d h), first_yes (get_or l p d) (drop (suc p) l) t)
-
-  pub seek_no : (l : List A) (d : A) (p : ℕ) → p < length l → T (not (f (get_or l p d))) → seek f l p ≡ seek f l (suc p)
-  seek_no l d p h t = omega (arith, ap (first_place f) (drop-cons l p d h), first_no (get_or l p d) (drop (suc p) l) t)
-
-  pub seek_end : (l : List A) (p : ℕ) → length l ≤ p → seek f l p ≡ p
-  seek_end l p h = omega (arith, ap (first_place f) (drop_of_length-le l {i = p} h))
-
   -- what the place is
   first_inside : (l : List A) → first_place f l ≤ length l
   first_inside [] = omega arith
@@ -197,10 +186,6 @@ pub record Cursor (C : List (List ℕ)) (add : ℕ → List ℕ → Bool) (x : �
 -- what the cursor stands at leads to e
 abbrev pub hits : List (List ℕ) → ℕ → List ℕ → ℕ → Bool
 hits C x e p = ltb p (length C) && equal? (bump (get_or C p []) x) e
-
--- R is what of C is still to come: of E before place q all is earlier than what it leads to by one x more
-abbrev pub Behind : List (List ℕ) → (ℕ → List ℕ → Bool) → ℕ → List (List ℕ) → ℕ → Type 0
-Behind E add x R q = (j : ℕ) → j < q → (c : List ℕ) → Mem c R → T (add x c) → Earlier (get_or E j []) (bump c x)
 
 pub hits_at : (C : List (List ℕ)) (x : ℕ) (e : List ℕ) (p : ℕ) → T (hits C x e p) → (p < length C) × (bump (get_or C p []) x ≡ e)
 hits_at C x e p t = (
@@ -306,38 +291,6 @@ module _ {k : ℕ} {C E : List (List ℕ)} {add : ℕ → List ℕ → Bool} (g 
           let n = g.down e (subst (Mem e) (sym split) (Memᴰ.append_right E₁ (Memᴰ.head refl))) in
           (n.1, n.3, (hits_parent n.1 (p n.1) (q n.1 n.3) n.0 n.2 n.4 (sym n.5)).0)
 
-  -- ---- the way back
-
-  pub behind_skip : (x : ℕ) (c : List ℕ) (R : List (List ℕ)) (q : ℕ) → Behind E add x (c ∷ R) q → Behind E add x R q
-  behind_skip x c R q b j l d m = b j l d (Memᴰ.tail m)
-
-  -- what c leads to by x stands at the first place from q on that has it
-  pub behind_find : (C₁ : List (List ℕ)) (c : List ℕ) (R : List (List ℕ)) → C ≡ C₁ ++ (c ∷ R) → (x q : ℕ) → x < k → T (add x c) → Behind E add x (c ∷ R) q
-      → (seek (λ e. equal? e (bump c x)) E q < length E) × (get_or E (seek (λ e. equal? e (bump c x)) E q) [] ≡ bump c x)
-      × Behind E add x R (seek (λ e. equal? e (bump c x)) E q)
-  behind_find C₁ c R split x q h t b =
-      let n = mem_place [] (g.up c x in_list h t) in
-      let le : seek same E q ≤ n.0 = seek_first same E [] q n.0 (from-q n.0 n.2) ((equal_test (get_or E n.0 []) (bump c x)).1 n.2) in
-      let lt : seek same E q < length E = omega (arith, n.1) in
-      let i = (equal_test (get_or E (seek same E q) []) (bump c x)).0 (seek_passes same E [] q lt) in
-      (lt, i, further (seek same E q) lt i)
-    where
-      same : List ℕ → Bool
-      same e = equal? e (bump c x)
-
-      in_list : Mem c C
-      in_list = subst (Mem c) (sym split) (Memᴰ.append_right C₁ (Memᴰ.head refl))
-
-      from-q : (i : ℕ) → get_or E i [] ≡ bump c x → q ≤ i
-      from-q i e = ⊎_elim (λ l. absurd ((b i l c (Memᴰ.head refl) t).1 e)) (λ l. l) (lt_or_le i q)
-
-      further : (r : ℕ) → r < length E → get_or E r [] ≡ bump c x → Behind E add x R r
-      further r lt i j l d m a =
-          let in_rest : Mem d C = subst (Mem d) (sym split) (Memᴰ.append_right C₁ (Memᴰ.tail m)) in
-          let before : Earlier c d = (sorted_split C₁ (c ∷ R) (subst Sorted split g.sorted)).0.0 d m in
-          earlier_trans (subst (Earlier (get_or E j [])) i (sorted_getd E g.sorted_next j r l lt))
-          (bump_earlier c d x (g.counts c in_list ∙ sym (g.counts d in_rest)) before)
-
 -- ---- the prefixes of one total, and of the next
 
 -- the counts c with one x more are a prefix
@@ -436,20 +389,6 @@ module _ (may : ℕ → ℕ → Bool) (letter : ℕ → ℕ) (distinct : (a b : 
       let f = front_of_prefix may letter p in
       let z = drop_of_length-le (unmarked letter w h) {i = 0} (omega (arith, front_length may f)) in
       fun_ext (λ x. omega (arith, count_front may letter f x, ap (λ g. g x) (count_of_prefix may letter p), ap (λ r. count letter r x) z)))
-
-  -- no total up to the log's length is without prefixes
-  pub level_some : (n : ℕ) → n ≤ length w → (c : List ℕ) × Mem c (level may letter k w n)
-  level_some zero l = (map (λ x. 0) (below k), subst (Mem (map (λ x. 0) (below k))) (sym level_first) (Memᴰ.head refl))
-  level_some (suc n) l = let m = level_some n (omega arith) in go m.0 m.1 (unmarked letter w (at m.0)) refl
-    where
-      go : (c : List ℕ) → Mem c (level may letter k w n) → (r : List ℕ) → unmarked letter w (at c) ≡ r → (c : List ℕ) × Mem c (level may letter k w (suc n))
-      go c m [] e = absurd (level_unmarked may letter k w n c letters m (omega arith) e)
-      go c m (a ∷ r) e =
-          let p = (level_at may letter k w n c letters m).1 in
-          let i : Pick may (unmarked letter w (at c)) a r = rw e first in
-          let lt = ltb→lt (letter a) k (all_of_pick may letter distinct (λ a. ltb (letter a) k) p i letters) in
-          let t = addable_of may letter distinct (at c) (letter a) (more_of_pick may letter distinct p i).0 in
-          (bump c (letter a), level_next may letter distinct k w letters n (letter a) c m lt t)
 
   -- ---- the sets of states
 

@@ -1,15 +1,15 @@
 -- Prefixes: the marking rule, its test, and the events that may be taken first say the same.
 use mathlib.Core.Path.{◌≡◌, refl, sym, ◌∙◌, ap, ap₂, subst, fun_ext}
-use mathlib.Core.Bool.{Bool, true, false, not, ◌&&◌, cond}
-use mathlib.Core.Logic.{◌⊎◌, inl, inr, ⊎_elim, ◌↔◌, ◌≢◌}
+use mathlib.Core.Bool.{Bool, true, not, ◌&&◌}
+use mathlib.Core.Logic.{◌⊎◌, inl, inr, ⊎_elim, ◌≢◌}
 use mathlib.Core.List.{List, [], ◌∷◌, ◌++◌, map, nil≢cons, head-eq_of_cons-eq, tail-eq_of_cons-eq}
-use Prim.Native.Nat.{ℕ, zero, suc, ◌+◌, ◌≤◌, ◌<◌}
+use Prim.Native.Nat.{ℕ, zero, suc, ◌+◌, ◌≤◌}
 use native.Mathlib.Omega.{arith}
 use lib.ListN.{length}
-use lib.Dec.{T, T_not, not_T, eqb, eqb→eq, eqb_refl, ltb, ltb→lt, lt→ltb}
-use Rattle.profile.specs.Lists.{Mem, all}
-use Rattle.profile.specs.Prefixes.{IsPrefix, addable?, at, closed?, count, less, marked, more, one, unmarked}
-use Rattle.profile.proofs.Lists.{all_at, all_of, both, fst_of, is_true, snd_of, test}
+use lib.Dec.{T, not_T, eqb, eqb→eq, ltb, ltb→lt, lt→ltb}
+use Rattle.profile.specs.Lists.{all}
+use Rattle.profile.specs.Prefixes.{IsPrefix, addable?, closed?, count, less, marked, more, one, unmarked}
+use Rattle.profile.proofs.Lists.{both, fst_of, snd_of}
 use Rattle.profile.proofs.Marks.{closed_suc, closed_zero, one_le, one_le_one, test_of_closed}
 pub use Rattle.profile.proofs.Marks.{marked_suc, marked_zero, one_cases, one_other, one_same, prefix_test}
 use Rattle.profile.proofs.Traces.{Order, Pick, Takes, done, first, later, next, order_trans, takes_last, takes_refl, takes_split, takes_trans}

@@ -1,4 +1,3 @@
-use borrow.Author.Rules.{rules}
 use Prim.Native.Nat.{◌+◌, ◌-◌, ◌/◌, ◌<◌}
 use native.Mathlib.Numerals.{add-one}
 use mathlib.Core.Path.{◌≡◌, sym, ◌∙◌, ap, subst}
@@ -6,15 +5,8 @@ use native.Mathlib.Omega.{arith}
 use Rattle.counts.specs.Counts.{words}
 use Rattle.records.specs.Records.{records_in}
 use Rattle.search.specs.Search.{stands_before?}
-use Rattle.search.proofs.Halves.{Between, between_down, between_end, between_start, between_up}
+use Rattle.search.proofs.Halves.{Between, between_down, between_end, between_up}
 use Rattle.search.proofs.place_of.Goals as goal
-
-pub loop-low-init : goal.loop-low-init
-loop-low-init c = (
-  omega arith,
-  search rules,
-  λ o. between_start c.args.t.now (words c.args.c) c.records_in-high.result (omega arith),
-)
 
 pub loop-low-preserved-then-stands_before : goal.loop-low-preserved-then-stands_before
 loop-low-preserved-then-stands_before c =

@@ -1,10 +1,9 @@
-use Prim.Native.Nat.{ℕ, ◌-◌, ◌^◌, ◌<◌}
+-- `steps::step_forward` meets its contract: the lowest state and the others make the set.
+use Prim.Native.Nat.{ℕ, ◌-◌}
 use mathlib.Core.Path.{◌≡◌, sym, ◌∙◌, ap}
-use mathlib.Core.Logic.{⊎_elim}
 use native.Mathlib.Omega.{arith}
-use borrow.Author.Rules.{rules}
-use lib.Bits.{bit_and, bit_or, and_le_r, or_zero_l, or_zero_r}
-use lib.Count.{trailing_le, count_trailing_zeros}
+use lib.Bits.{bit_and, bit_or, and_le_r, or_zero_r}
+use lib.Count.{count_trailing_zeros}
 use Rattle.profile.specs.Automata.{forward_step, row}
 use Rattle.profile.specs.Lists.{below}
 use Rattle.profile.specs.Traces.{bit}
@@ -13,15 +12,6 @@ use Rattle.theory.proofs.SetLoops.{lowest}
 use Rattle.theory.proofs.Unions.{union_in, union_none, union_out}
 use Rattle.steps.proofs.step_forward.Goals as goal
 use Rattle.steps.proofs.step_forward.Goals.{then-q-s, else-q-s}
-
-pub loop-rest-init : goal.loop-rest-init
-loop-rest-init c = (search rules, or_zero_l _)
-
-pub overflow_cast-q : goal.overflow_cast-q
-overflow_cast-q c = omega (arith, trailing_le 32 c.loop-rest.rest)
-
-pub loop-rest-smaller : goal.loop-rest-smaller
-loop-rest-smaller c = let n = c.loop-rest.rest in omega (arith, and_le_r n (n - 1))
 
 pub returns : goal.returns
 returns c =
