@@ -6,7 +6,6 @@ ghost use Rattle.profile.specs.Limits.{most_letters};
 ghost use Rattle.profile.specs.Automata.{lent};
 ghost use Rattle.terms.specs.Coded.{rules_of};
 ghost use Rattle.profile.specs.Tables.{layout, record_length};
-ghost use Rattle.profile.specs.Traces.{bit};
 ghost use Rattle.backward.specs.Backward.{Drafted, Inside, back_from, clear_at, cleared, done_at, filled_all, flag_before, flags as flags_in, moved, with_flags, without_flags};
 
 use profile::Profile;
@@ -31,14 +30,6 @@ const MORE_FLAGS: usize = 7;
 // The last number of a record.
 const LAST: usize = 9;
 
-// Bit j of n is set.
-fn has_bit(n: u32, j: usize) -> bool
-    requires { j < 32 }
-    ensures { result ≡ bit n j }
-{
-    (n >> j) & 1 == 1
-}
-
 // The last record before record `from` that has the flag of letter x; 0 where none has.
 // Kept: nobody tests for 0, since a letter that can be added leads to a record, and an `Option` would have to be proved to be there at each turn.
 fn flagged_before(table: &[u32], from: usize, x: usize) -> usize
@@ -48,7 +39,7 @@ fn flagged_before(table: &[u32], from: usize, x: usize) -> usize
     let number = FLAGS + x / 8;
     let flag = 12 + x % 4 + 16 * (x / 4 % 2);
     for i in (0..from).rev() {
-        if has_bit(table[RECORD * i + number], flag) {
+        if steps::has(table[RECORD * i + number], flag) {
             return i;
         }
     }

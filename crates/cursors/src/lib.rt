@@ -3,17 +3,8 @@
 
 ghost use Rattle.std.specs.Prelude.{◌≡◌, ◌≤◌, ◌<◌, length};
 ghost use Rattle.profile.specs.Limits.{most_letters};
-ghost use Rattle.profile.specs.Traces.{bit};
 ghost use Rattle.records.specs.Records.{records_in};
 ghost use Rattle.cursors.specs.Cursors.{Given, advanced, seek_from, started};
-
-// Letter x is in the set.
-fn has_letter(set: u32, x: usize) -> bool
-    requires { x < 32 }
-    ensures { result ≡ bit set x }
-{
-    (set >> x) & 1 == 1
-}
 
 // The first record from `from` on to which letter x can be added; the number of records where there is none.
 // Kept: the end is a place at which a cursor stands, as a record is, so an `Option` would be turned back into a number at each call.
@@ -23,7 +14,7 @@ fn seek(level: &[u32], from: usize, x: usize) -> usize
 {
     let n = records::records_in(level);
     for j in from..n {
-        if has_letter(records::last_at(level, j), x) {
+        if steps::has(records::last_at(level, j), x) {
             return j;
         }
     }

@@ -4,6 +4,7 @@
 ghost use Rattle.std.specs.Prelude.{◌≡◌, ◌≤◌, ◌<◌, get_or};
 ghost use Rattle.profile.specs.Limits.{most_letters, most_states};
 ghost use Rattle.profile.specs.Automata.{forward_step, meets, row as row_at};
+ghost use Rattle.profile.specs.Traces.{bit};
 
 // The states to which letter a leads: number a of a state's row, where the row has it.
 fn leads(row: &[u32], a: usize) -> u32
@@ -40,6 +41,14 @@ pub fn step_forward(moves: &[u32], k: usize, s: usize, set: u32, a: usize) -> u3
         rest = rest & (rest - 1);
     }
     out
+}
+
+// State or letter x is in the set.
+pub fn has(set: u32, x: usize) -> bool
+    requires { x < 32 }
+    ensures { result ≡ bit set x }
+{
+    (set >> x) & 1 == 1
 }
 
 // The two sets have a state in common.

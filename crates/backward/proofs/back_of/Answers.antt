@@ -1,11 +1,11 @@
-use Rattle.std.proofs.Common.{◌≡◌, ℕ, ◌-◌, ◌%◌, ◌^◌, ◌<◌, ◌≤◌, cond, not, T, List, length, get_or, set, sym, refl, ap, ◌∙◌, subst, ⊎_elim, arith, T_not, length-set, get_or-set_other, get_or-set_same, rules}
+use Rattle.std.proofs.Common.{◌≡◌, ℕ, ◌-◌, ◌^◌, ◌<◌, ◌≤◌, cond, T, List, length, get_or, set, sym, ap, ◌∙◌, subst, ⊎_elim, arith, T_not, length-set, get_or-set_other, get_or-set_same}
 use lib.Bits.{bit_and, bit_or, and_le_r, or_zero_r}
-use lib.Count.{trailing_le, count_trailing_zeros}
+use lib.Count.{count_trailing_zeros}
 use lib.Dec.{not_T}
 use Rattle.profile.specs.Automata.{backward_step, union}
 use Rattle.profile.specs.Lists.{below, filter}
 use Rattle.profile.specs.Traces.{bit}
-use Rattle.profile.proofs.Lists.{is_false, is_true, test}
+use Rattle.profile.proofs.Lists.{is_true, test}
 use Rattle.theory.proofs.SetLoops.{lowest, rest_first, rest_in, rest_other, rest_without}
 use Rattle.profile.proofs.Sets.{not_in_none, or_assoc}
 use Rattle.records.specs.Records.{last_at, records_in}
@@ -46,27 +46,6 @@ module _ (t : List ℕ) (j k : ℕ) (cursors₀ : List ℕ) (n : ℕ) (p : 0 < n
         (test (bit n y))),
   )
 
-pub loop-rest-init : goal.loop-rest-init
-loop-rest-init c =
-    let a = c.args in
-    let p = a.rows.now.profile in
-    let t = a.table.now in
-    let from : ℕ → ℕ = λ y. get_or a.cursors.now y 0 in
-    let f : ℕ → ℕ = λ y. backward_step p.shape.k p.shape.s p.moves.now (last_at t (flag_before t y (from y))) y in
-    let e = ap (λ n. n % 65536) c.last_at-letters.ensures in (
-      search rules,
-      refl,
-      λ y m. subst (λ S. T (bit S y)) e m,
-      ap (λ S. union f (filter (bit S) (below p.shape.k))) e,
-      (
-        (λ y m. refl),
-        λ y h m. sym (ap (λ b. cond b (flag_before t y (from y)) (from y)) (is_false (bit (letters_at t a.j) y) (subst (λ S. T (not (bit S y))) e m))),
-      ),
-    )
-
-pub overflow_cast-x : goal.overflow_cast-x
-overflow_cast-x c = omega (arith, trailing_le 32 c.loop-rest.rest)
-
 pub flagged_before-r-requires : goal.flagged_before-r-requires
 flagged_before-r-requires c =
     let s = c in
@@ -87,9 +66,6 @@ last_at-requires c =
     let g : flag_before a.table.now x (get_or l.cursors x 0) < records_in a.table.now =
     last_inside (flag? a.table.now x) (get_or l.cursors x 0) (records_in a.table.now) (omega (arith, e, s.requires.inside.cursors_in x h)) (omega (arith, s.requires.inside.record_in)) in
     omega (arith, c.flagged_before-r.ensures, g)
-
-pub loop-rest-smaller : goal.loop-rest-smaller
-loop-rest-smaller c = let n = c.loop-rest.rest in omega (arith, and_le_r n (n - 1))
 
 pub loop-rest-preserved : goal.loop-rest-preserved
 loop-rest-preserved c =

@@ -30,9 +30,6 @@ inside p w t n d u rest j from h s = swept_inside d.profile d.log u rest (j - 1)
 pub overflow_sub-last : goal.overflow_sub-last
 overflow_sub-last g c = some _ _ _ _ c.requires
 
-pub of-rows-requires : goal.of-rows-requires
-of-rows-requires g c = (c.requires.profile.relation.most, c.requires.profile.states.1)
-
 pub put_done-requires : goal.put_done-requires
 put_done-requires g c = omega (arith, some _ _ _ _ c.requires, c.requires.fits)
 
@@ -54,11 +51,6 @@ back_of-back-requires g c =
       inside = subst (λ (q : Profile). Inside l.table (l.j - 1) q.shape.k (λ x. get_or l.cursors x 0)) (sym c.of-rows.ensures)
           (inside _ _ _ _ c.requires l.table _ l.j (λ x. get_or l.cursors x 0) (omega arith) (l.invariant.2 c.requires.log));
     }
-
-pub put_done-requires-in-loop-j : goal.put_done-requires-in-loop-j
-put_done-requires-in-loop-j g c =
-    let l = c.loop-j in
-    omega (arith, (inside _ _ _ _ c.requires l.table _ l.j (λ x. get_or l.cursors x 0) (omega arith) (l.invariant.2 c.requires.log)).record_in)
 
 pub loop-j-preserved : goal.loop-j-preserved
 loop-j-preserved g c =
@@ -83,12 +75,6 @@ loop-j-preserved g c =
           (swept_next s.requires.profile good l.table _ (l.j - 1) from (down p w good l.table _ l.j from least (l.invariant.2 good)) after
           (λ x h. b.ensures.by_index x (subst (λ (q : Profile). x < q.shape.k) (sym c.of-rows.ensures) h))),
     )
-
-pub clear_flags-requires : goal.clear_flags-requires
-clear_flags-requires g c = omega (arith, c.requires.fits, c.loop-j.invariant.0, c.put_done.auto.table)
-
-pub shape_of-table : goal.shape_of-table
-shape_of-table g c = c.clear_flags.auto.table ∙ c.loop-j.invariant.0 ∙ c.put_done.auto.table
 
 pub returns : goal.returns
 returns g c =

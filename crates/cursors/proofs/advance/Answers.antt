@@ -2,22 +2,15 @@ use Prim.Native.Nat.{suc, ◌-◌, ◌<◌}
 use mathlib.Core.Path.{◌≡◌, sym, ◌∙◌, ap, subst}
 use native.Mathlib.Numerals.{add-one}
 use native.Mathlib.Omega.{arith}
-use lib.Bits.{bit_and, and_le_r}
-use lib.Count.{trailing_le, count_trailing_zeros}
+use lib.Bits.{bit_and}
+use lib.Count.{count_trailing_zeros}
 use Rattle.profile.specs.Prefixes.{at}
 use Rattle.records.specs.Records.{records_in}
 use Rattle.cursors.specs.Cursors.{seek_from}
-use Rattle.cursors.proofs.Moving.{Moving, moving_end, moving_from, moving_in, moving_next, moving_skip, moving_start}
-use borrow.Author.Rules.{rules}
+use Rattle.cursors.proofs.Moving.{Moving, moving_end, moving_from, moving_in, moving_next, moving_skip}
 use Rattle.cursors.proofs.advance.Goals as goal
 use Rattle.cursors.proofs.advance.Goals.{else-x-k, then-x-k}
 use Rattle.cursors.proofs.advance.Goals.{After-slice_known-then-x-k-1}
-
-pub loop-left-init : goal.loop-left-init
-loop-left-init c = let a = c.args in moving_start a.level.now a.k a.cursors.now a.set (search rules)
-
-pub overflow_cast-x : goal.overflow_cast-x
-overflow_cast-x c = omega (arith, trailing_le 32 c.loop-left.left)
 
 -- the letter is in the set: its cursor is at a record
 inside : (c : After-slice_known-then-x-k-1) → at c.loop-left.cursors (count_trailing_zeros 32 c.loop-left.left) < records_in c.args.level.now
@@ -34,9 +27,6 @@ overflow_add-cursors c = omega (arith, inside (goal.at.overflow_add-cursors c).A
 pub seek-next-requires : goal.seek-next-requires
 seek-next-requires c = omega (arith, inside (goal.at.seek-next-requires c).After-slice_known-then-x-k-1)
 
-pub loop-left-smaller : goal.loop-left-smaller
-loop-left-smaller c = let n = c.loop-left.left in omega (arith, and_le_r n (n - 1))
-
 pub loop-left-preserved : goal.loop-left-preserved
 loop-left-preserved c =
     let a = c.args in
@@ -52,9 +42,6 @@ loop-left-preserved c =
       | else-x-k w ↦ subst (Moving t a.k cs a.set (bit_and l.left (l.left - 1))) (sym w.cursors-is)
           (moving_skip t a.k cs a.set l.left some l.cursors l.invariant w.if-x-k.false)
     ])
-
-pub shape_of-cursors : goal.shape_of-cursors
-shape_of-cursors c = c.loop-left.invariant.long
 
 pub returns : goal.returns
 returns c =

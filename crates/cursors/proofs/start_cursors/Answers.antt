@@ -1,13 +1,10 @@
 use Prim.Native.Nat.{ℕ, ◌<◌}
-use mathlib.Core.Path.{◌≡◌, refl, ◌∙◌, ap, ap₂}
+use mathlib.Core.Path.{◌∙◌, ap₂}
 use native.Mathlib.Omega.{arith}
 use lib.ListN.{length, length-set, set}
-use Rattle.cursors.specs.Cursors.{seek_from, started}
+use Rattle.cursors.specs.Cursors.{seek_from}
 use Rattle.theory.proofs.Fronts.{front_put}
 use Rattle.cursors.proofs.start_cursors.Goals as goal
-
-pub loop-x-init : goal.loop-x-init
-loop-x-init c = (refl, refl)
 
 pub loop-x-preserved : goal.loop-x-preserved
 loop-x-preserved c =
@@ -21,9 +18,3 @@ loop-x-preserved c =
       simp length-set l.invariant.0,
       ap₂ (λ i j. set i x j) l.invariant.1 c.seek-first.ensures ∙ front_put f cs x h,
     )
-
-pub returns : goal.returns
-returns c =
-    let a = c.args in
-    let e : c.loop-x.x ≡ a.k = omega arith in
-    c.loop-x.invariant.1 ∙ ap (λ n. started n a.level.now a.cursors.now) e

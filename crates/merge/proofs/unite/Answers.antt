@@ -1,8 +1,8 @@
 use Prim.Native.Nat.{ℕ, ◌-◌, ◌<◌}
 use mathlib.Core.Path.{◌≡◌, sym, ◌∙◌, ap}
 use native.Mathlib.Omega.{arith}
-use lib.Bits.{bit_and, bit_or, and_le_r, or_zero_l}
-use lib.Count.{trailing_le, count_trailing_zeros}
+use lib.Bits.{bit_and, bit_or, and_le_r}
+use lib.Count.{count_trailing_zeros}
 use lib.ListN.{get_or}
 use Rattle.profile.specs.Automata.{forward_step}
 use Rattle.profile.specs.Prefixes.{at}
@@ -11,15 +11,8 @@ use Rattle.records.specs.Records.{forward_at, records_in}
 use Rattle.merge.specs.declared.Handed.{Handed}
 use Rattle.merge.specs.Merge.{inherited, other_letters, passing, united}
 use Rattle.parents.proofs.Unions.{over_left, over_none, over_taken}
-use borrow.Author.Rules.{rules}
 use Rattle.merge.proofs.unite.Goals as goal
 use Rattle.merge.proofs.unite.Goals.{else-x-k, then-x-k}
-
-pub loop-rest-init : goal.loop-rest-init
-loop-rest-init c = (search rules, (λ y m. m), or_zero_l _, or_zero_l _, or_zero_l _)
-
-pub overflow_cast-x : goal.overflow_cast-x
-overflow_cast-x c = omega (arith, trailing_le 32 c.loop-rest.rest)
 
 pub with_parent-out-requires : goal.with_parent-out-requires
 with_parent-out-requires c =
@@ -29,9 +22,6 @@ with_parent-out-requires c =
     let lt : x < s.args.rows.now.profile.shape.k = omega arith in
     let h : at s.args.cursors.now x < records_in s.args.level.now = s.requires.given x lt (l.invariant.1 x (rest_first l.rest (omega arith) l.invariant.0)) in
     (omega arith, omega arith, h)
-
-pub loop-rest-smaller : goal.loop-rest-smaller
-loop-rest-smaller c = let n = c.loop-rest.rest in omega (arith, and_le_r n (n - 1))
 
 pub loop-rest-preserved : goal.loop-rest-preserved
 loop-rest-preserved c =

@@ -3,22 +3,12 @@ use mathlib.Core.Path.{sym, ◌∙◌, ap}
 use mathlib.Core.Bool.{cond}
 use mathlib.Core.Option.{none, some}
 use native.Mathlib.Omega.{arith}
-use borrow.Author.Tests.{le-ltb, lt-ltb}
+use borrow.Author.Tests.{lt-ltb}
 use Rattle.profile.specs.Tables.{layout}
 use Rattle.counts.specs.Counts.{add_count}
 use Rattle.records.specs.Records.{records_in}
 use Rattle.merge.specs.Merge.{better, grown, joined, least_letters, least_words}
-use Rattle.merge.proofs.Givers.{better_none}
 use Rattle.merge.proofs.with_cursor.Goals as goal
-
-pub returns-then-records_in-j : goal.returns-then-records_in-j
-returns-then-records_in-j c =
-    let a = c.args in
-    let t = a.level.now in
-    let e = le-ltb a.j (records_in t) (omega arith) in record {
-      result_value = sym (ap (λ b. better (least_words a.best) (cond b (some (grown t a.j a.x)) none)) e ∙ better_none (least_words a.best));
-      result_value_2 = sym (ap (λ b. joined (cond b (some (grown t a.j a.x)) none) (least_words a.best) (least_letters a.best) a.x) e);
-    }
 
 pub returns : goal.returns
 returns c =

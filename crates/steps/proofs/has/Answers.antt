@@ -1,6 +1,6 @@
--- `cursors::has_letter` meets its contract.
+-- `steps::has` meets its contract.
 use Rattle.profile.proofs.Sets.{shift_mask}
-use Rattle.cursors.proofs.has_letter.Goals as goal
+use Rattle.steps.proofs.has.Goals as goal
 
 pub returns : goal.returns
 returns c = shift_mask c.args.set c.args.x
