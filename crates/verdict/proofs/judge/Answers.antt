@@ -1,23 +1,9 @@
 -- `verdict::judge` meets its contract: 9 is told before building, and what is told of the order and the table follows from the table's promise.
 use mathlib.Core.Path.{sym, ◌∙◌, subst}
 use Rattle.profile.specs.Automata.{lent}
-use Rattle.std.proofs.lemmas.Result.{err_from_is_err_and}
 use Rattle.table.specs.Table as Built
-use Rattle.verdict.proofs.Judging.{ready, told_none, told_refused, told_short, told_some}
+use Rattle.verdict.proofs.Judging.{ready, told_some}
 use Rattle.verdict.proofs.judge.Goals as goal
-
-pub returns-then-order-log : goal.returns-then-order-log
-returns-then-order-log c =
-    let a = c.args in
-    told_short (lent a.profile.now) a.log.now a.order.now a.work.now c.if-order-log.true c.refusal_of_short.ensures
-
-pub returns-in_err-prefixes : goal.returns-in_err-prefixes
-returns-in_err-prefixes c =
-    let a = c.args in
-    let t = c.build.new.table in
-    let h = subst (Built.Promise (lent a.profile.now) a.log.now a.work.now t) c.in_err-prefixes.was c.build.ensures in
-    let e = err_from_is_err_and c.from_residual.result c.from_residual.ensures.1 in
-    rw (e.1, e.2) (told_refused (lent a.profile.now) a.log.now a.order.now a.work.now c.if-order-log.false t _ h)
 
 pub returns-then-put_verdict : goal.returns-then-put_verdict
 returns-then-put_verdict c =
@@ -28,16 +14,6 @@ returns-then-put_verdict c =
     let h = subst (Built.Promise (lent a.profile.now) a.log.now a.work.now t) c.in_ok-prefixes.was b.ensures in
     told_some (lent a.profile.now) a.log.now a.order.now a.work.now c.if-order-log.false t _ h v.new.order
     (sym c.put_verdict.ensures.value ∙ c.if-put_verdict.true) v.ensures.order_after
-
-pub returns-else-put_verdict : goal.returns-else-put_verdict
-returns-else-put_verdict c =
-    let a = c.args in
-    let b = c.build in
-    let t = b.new.table in
-    let v = c.put_verdict in
-    let h = subst (Built.Promise (lent a.profile.now) a.log.now a.work.now t) c.in_ok-prefixes.was b.ensures in
-    told_none (lent a.profile.now) a.log.now a.order.now a.work.now c.if-order-log.false t _ h v.new.order
-    (sym c.put_verdict.ensures.value ∙ c.if-put_verdict.false) v.ensures.order_after
 
 pub put_verdict-requires : goal.put_verdict-requires
 put_verdict-requires c =
