@@ -2,15 +2,15 @@
 use mathlib.Core.Path.{◌≡◌, refl, sym, ◌∙◌, ap, ap₂}
 use mathlib.Core.Bool.{Bool, true, false, cond}
 use Rattle.std.specs.Prelude.{Result, Ok, Err, is_err}
-use mathlib.Core.List.{List, [], ◌∷◌, ◌++◌, append_assoc, map}
+use mathlib.Core.List.{List, [], ◌∷◌, ◌++◌, append_assoc}
 use mathlib.Core.Option.{Option, none, some, none-ne-some, some-injective}
-use Prim.Native.Nat.{ℕ, zero, suc, ◌*◌, ◌≤◌}
+use Prim.Native.Nat.{ℕ, ◌*◌, ◌≤◌}
 use native.Mathlib.Omega.{arith}
 use borrow.Author.Tests.{le-ltb, ltb-false}
 use lib.Dec.{T, eqb, ltb}
 use lib.ListN.{length, length-replicate, take, drop, replicate, take-append-drop}
 use lib.Seq.{drop-append-le, drop_at, length-take-le, take_at}
-use Rattle.profile.specs.Lists.{flat_map, range}
+use Rattle.profile.specs.Lists.{flat_map}
 use Rattle.profile.specs.Traces.{independent}
 use Rattle.profile.specs.Automata.{Automaton, Profile, automaton}
 use Rattle.profile.specs.Orders.{accepted_order}
