@@ -1,4 +1,4 @@
-use mathlib.Core.Path.{◌≡◌, refl, sym, ◌∙◌, ap, ap₂, subst}
+use mathlib.Core.Path.{◌≡◌, sym, ◌∙◌, ap, ap₂, subst}
 use mathlib.Core.Bool.{not}
 use mathlib.Core.List.{List, [], ◌∷◌, ◌++◌}
 use Prim.Native.Nat.{ℕ, ◌*◌, ◌%◌, ◌^◌}
@@ -21,9 +21,6 @@ use Rattle.term_letters.proofs.Terms.{terms_first}
 use Rattle.term_letters.proofs.InTermsFinder.addable.Invariants.{passes}
 use Rattle.term_letters.proofs.InTermsFinder.addable.Goals as goal
 use Rattle.term_letters.proofs.InTermsFinder.addable.Goals.{else-comes_in_term, then-comes_in_term}
-
-pub loop-x-init : goal.loop-x-init
-loop-x-init c = (omega arith, refl, refl)
 
 pub loop-x-preserved : goal.loop-x-preserved
 loop-x-preserved c =
