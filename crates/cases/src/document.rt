@@ -1,47 +1,30 @@
 // The cases of document 01 by their numbers, and every length of table for Alt.
 use crate::each::compare_log;
-use profile::{Profile, Shape};
+use profile::Profile;
 use trial::cells::{part_of, plus, times};
 use trial::shapes::alt;
 use trial::tally::{Counted, Tally};
 use trial::text_rows::{digit, put_letters_in, put_masks_in, put_moves_in, rest_at, shape_in};
 use trial_logs::compare::compare_table;
-use trial_logs::listing::{list, row};
+use trial_logs::listing::Listing;
 use trial_logs::paths::earliest_accepted;
 use trial_logs::prefixes::{look_count, prefix_count};
 
 // The earliest accepted listed log is the expected one, or there is none.
-fn order_listed(
-    shape: Shape,
-    moves: &[u32],
-    rows: &[u8],
-    count: usize,
-    order: &[u8],
-    verdict: usize,
-) -> bool {
-    let best = earliest_accepted(shape, moves, rows, count, order.len());
-    if verdict == 0 {
-        best == count
-    } else {
-        (best < count) & (row(rows, best, order.len()) == order)
+fn order_listed(profile: &Profile, listing: &Listing, order: &[u8], accepted: bool) -> bool {
+    match earliest_accepted(profile, listing) {
+        Some(best) => accepted & (listing.row(best) == order),
+        None => !accepted,
     }
 }
 
 // The listing agrees with the case's reachable logs, its P, looks and order, so that what the library is compared with is itself right.
 fn listing_right(profile: &Profile, log: &[u8], order: &[u8], text: &[u8]) -> bool {
-    let mut rows = [0u8; 16384];
-    let count = list(profile.masks, log, &mut rows);
-    (count == digit(text, 1))
+    let listing = Listing::of(profile.masks, log);
+    (listing.count() == digit(text, 1))
         & (prefix_count(profile.masks, log) == digit(text, 2))
         & (look_count(profile.masks, log) == digit(text, 3))
-        & order_listed(
-            profile.shape,
-            profile.moves,
-            &rows,
-            count,
-            order,
-            digit(text, 4),
-        )
+        & order_listed(profile, &listing, order, digit(text, 4) != 0)
 }
 
 // A log with its order; the text has the log's length, the number of reachable logs, P, looks and the verdict.

@@ -1,7 +1,7 @@
 // Random profiles, with random logs.
 use crate::each::compare_log;
 use profile::Profile;
-use trial::cells::{byte, byte_at, minus, part_of, plus, put, times};
+use trial::cells::{byte, byte_at, minus, part_of, plus, times};
 use trial::random::{below, put_log, put_masks, put_moves, random_shape, seed_of};
 use trial::tally::Tally;
 use trial_logs::orders::compare_with;
@@ -24,8 +24,8 @@ fn near_letter(seed: usize, k: usize, log: &[u8], i: usize) -> usize {
 }
 
 fn put_near(seed: usize, k: usize, log: &[u8], near: &mut [u8]) {
-    for i in 0..log.len() {
-        put(near, i, byte(near_letter(seed, k, log, i)));
+    for (i, letter) in near.iter_mut().take(log.len()).enumerate() {
+        *letter = byte(near_letter(seed, k, log, i));
     }
 }
 

@@ -2,7 +2,7 @@
 // logs with terms. Prints how much was compared, what was refused, and how much was wrong.
 #![tactic(auto)]
 
-use profile::Profile;
+use profile::{Calendar, Profile};
 use std::io;
 use trial::cells::{part_of, plus, times};
 use trial::logs::{log_count, put_log_number};
@@ -11,7 +11,7 @@ use trial::shapes::{alt, shape_of};
 use trial::tally::Tally;
 use trial_closest::budgets::compare_log;
 use trial_closest::edges::{compare_edges, compare_term_edges};
-use trial_closest::lent::{Dated, no_terms};
+use trial_closest::lent::Dated;
 use trial_closest::met::{ByDamage, Met};
 use trial_closest::refusing::{combine_all, combine_all_terms};
 use trial_terms::dated::{put_days, put_halves, put_terms};
@@ -58,17 +58,9 @@ fn random_terms(seed: usize, n: usize) -> Dated {
     put_terms(seed_of(seed, 2), many, &mut terms);
     put_days(seed_of(seed, 3), n, few, &terms, &mut days);
     Dated {
-        days: days,
-        terms: terms,
+        days,
+        terms,
         numbers: plus(many, many),
-    }
-}
-
-fn dated_for(seed: usize, n: usize, with_terms: bool) -> Dated {
-    if with_terms {
-        random_terms(seed, n)
-    } else {
-        no_terms()
     }
 }
 
@@ -76,13 +68,14 @@ fn with_log(profile: &Profile, seed: usize, with_terms: bool, t: &mut Tally) {
     let mut log = [0u8; 8];
     let n = length_of(seed, profile.shape.k, profile.shape.s);
     put_log(seed_of(seed, 1), profile.shape.k, n, &mut log);
-    compare_log(
-        profile,
-        part_of(&log, 0, n),
-        dated_for(seed, n, with_terms),
-        below(seed, 15, 1000),
-        t,
-    );
+    let word = part_of(&log, 0, n);
+    let extra = below(seed, 15, 1000);
+    if with_terms {
+        let dated = random_terms(seed, n);
+        compare_log(profile, word, Some(&dated.calendar(n)), extra, t);
+    } else {
+        compare_log(profile, word, None, extra, t);
+    }
 }
 
 fn one_profile(seed: usize, with_terms: bool, t: &mut Tally) {
@@ -120,55 +113,47 @@ fn halves_of(halves: usize) -> Dated {
     terms[3] = 20270326;
     put_halves(halves, 8, &terms, &mut days);
     Dated {
-        days: days,
-        terms: terms,
+        days,
+        terms,
         numbers: 4,
     }
 }
 
-// Log v of Alt and of one state that accepts everything; the pairs are both ways, one way, the other way or none.
-fn compare_two(v: usize, pairs: usize, dated: Dated, t: &mut Tally) {
-    let mut log = [0u8; 8];
-    let moves = [2u32, 0, 0, 1];
-    let all = [1u32, 1];
+// A log of Alt and of one state that accepts everything; the pairs are both ways, one way, the other way or none.
+fn compare_two(log: &[u8], v: usize, pairs: usize, calendar: Option<&Calendar>, t: &mut Tally) {
     let masks = [((pairs % 2) * 2) as u16, (pairs / 2 % 2) as u16];
-    let n = put_log_number(2, v, &mut log);
-    let word = part_of(&log, 0, n);
-    compare_log(
-        &Profile {
-            shape: alt(),
-            masks: &masks,
-            moves: &moves,
-        },
-        word,
-        dated,
-        v,
-        t,
-    );
-    compare_log(
-        &Profile {
-            shape: shape_of(2, 1, 0, 1),
-            masks: &masks,
-            moves: &all,
-        },
-        word,
-        dated,
-        plus(v, pairs),
-        t,
-    );
+    let alternate = Profile {
+        shape: alt(),
+        masks: &masks,
+        moves: &[2u32, 0, 0, 1],
+    };
+    compare_log(&alternate, log, calendar, v, t);
+    let any = Profile {
+        shape: shape_of(2, 1, 0, 1),
+        masks: &masks,
+        moves: &[1u32, 1],
+    };
+    compare_log(&any, log, calendar, plus(v, pairs), t);
 }
 
 // Every log of up to six letters a and b.
 fn all_of_two(t: &mut Tally) {
     for i in 0..times(log_count(2, 6), 4) {
-        compare_two(i / 4, i % 4, no_terms(), t);
+        let mut log = [0u8; 8];
+        let n = put_log_number(2, i / 4, &mut log);
+        compare_two(part_of(&log, 0, n), i / 4, i % 4, None, t);
     }
 }
 
 // Every log of four letters a and b, with its events in two terms in every way.
 fn all_halves(t: &mut Tally) {
     for i in 0..1024 {
-        compare_two(plus(15, i / 64), i / 16 % 4, halves_of(i % 16), t);
+        let mut log = [0u8; 8];
+        let v = plus(15, i / 64);
+        let n = put_log_number(2, v, &mut log);
+        let dated = halves_of(i % 16);
+        let calendar = dated.calendar(n);
+        compare_two(part_of(&log, 0, n), v, i / 16 % 4, Some(&calendar), t);
     }
 }
 
@@ -208,9 +193,9 @@ fn print(rt: &impl Print, t: &Tally) -> io::Result<()> {
     )?;
     print!(rt; "combined: refused by ")?;
     for (i, number) in [2, 4, 6, 7, 8, 14, 15, 16, 9, 10, 17].iter().enumerate() {
-        print!(rt; "{number} {}, ", t.of(ByDamage(i)))?;
+        print!(rt; "{number} {}, ", t.of(ByDamage(Some(i))))?;
     }
-    println!(rt; "not refused {}", t.of(ByDamage(11)))
+    println!(rt; "not refused {}", t.of(ByDamage(None)))
 }
 
 fn print_terms(rt: &impl Print, t: &Tally) -> io::Result<()> {

@@ -14,9 +14,9 @@ use trial_derived::refusing::{Defect, compare_defects};
 // One grammar and log: a call that is not refused, and one with some defects.
 fn one_case(seed: usize, t: &mut Tally) {
     let case = random_case(seed);
-    compare_case(with_room(case, below(seed, 1, 60)), t);
+    compare_case(&with_room(case, below(seed, 1, 60)), t);
     compare_defects(
-        with_room(case, 0),
+        &with_room(case, 0),
         plus(1, below(seed, 2, 255)),
         below(seed, 3, 8),
         t,

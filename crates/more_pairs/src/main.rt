@@ -2,7 +2,7 @@
 // other: every such pair of lists of up to three letters, and random ones of up to sixteen. Prints how much was compared and how much was wrong.
 #![tactic(auto)]
 
-use profile::Shape;
+use profile::Profile;
 use std::io;
 use trial::cells::{part_of, plus, times};
 use trial::random::{below, put_log, put_moves, random_shape, seed_of};
@@ -18,12 +18,13 @@ fn compare_one(k: usize, masks: &[u16], longer: &[u16], seed: usize, t: &mut Tal
     let n = below(seed, 1, 7);
     put_moves(seed, s, k, &mut moves);
     put_log(seed_of(seed, 2), k, n, &mut letters);
-    let shape = random_shape(seed, k, s);
     compare_nested(
-        shape,
-        masks,
+        &Profile {
+            shape: random_shape(seed, k, s),
+            masks,
+            moves: part_of(&moves, 0, times(s, k)),
+        },
         longer,
-        part_of(&moves, 0, times(s, k)),
         part_of(&letters, 0, n),
         t,
     );

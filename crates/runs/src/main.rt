@@ -4,10 +4,10 @@
 
 use profile::Profile;
 use std::io;
-use trial::cells::{Cell, part_of, plus, times};
+use trial::cells::{part_of, plus, times};
 use trial::random::{below, put_masks, put_moves, random_shape, seed_of};
 use trial::tally::Tally;
-use trial_running::damaged::{compare_damaged, put_numbers};
+use trial_running::damaged::compare_damaged;
 use trial_running::run::{Counted, Run};
 
 // One to three letters, or four to sixteen in one of four runs.
@@ -29,14 +29,10 @@ fn size_of(seed: usize) -> usize {
 }
 
 fn run_with(profile: &Profile, seed: usize, t: &mut Tally) {
-    let mut numbers = [u32::GUARD; 1424];
-    let mut others = [u32::GUARD; 1424];
     t.count(Counted::Runs);
     let mut run = Run::new(size_of(seed));
-    run.compare(profile, seed, plus(6, below(seed, 14, 6)), &mut numbers, t);
-    let size = below(seed, 15, 140);
-    put_numbers(seed_of(seed, 18), size, &mut others);
-    compare_damaged(profile, seed, size, &mut others, t);
+    run.compare(profile, seed, plus(6, below(seed, 14, 6)), t);
+    compare_damaged(profile, seed, t);
 }
 
 fn one_run(seed: usize, t: &mut Tally) {

@@ -3,7 +3,7 @@ use crate::vectors::{box_size, change, counts_of, key_of, put_box, put_record};
 use trial::cells::{minus, plus};
 use trial::record_numbers::record_at;
 use trial::tally::{Counter, Tally};
-use trial_logs::place_keys::place_of;
+use trial_logs::place_keys::Keys;
 
 // Counters, in the order in which they are printed.
 #[derive(Clone, Copy)]
@@ -24,12 +24,7 @@ impl Counter for Counted {
 fn part_of(table: &[u32], first: usize, end: usize) -> &[u32] {
     let from = record_at(first);
     let to = record_at(end);
-    if from <= to {
-        if to <= table.len() {
-            return &table[from..to];
-        }
-    }
-    &table[0..0]
+    table.get(from..to).unwrap_or(&[])
 }
 
 // What is left of a place in the part from `first` to `end`.
@@ -41,21 +36,19 @@ fn place_in(place: usize, first: usize, end: usize) -> usize {
     }
 }
 
-// Searches the records `first` to `end` of a table of `prefixes` records.
-fn search_part(
-    table: &[u32],
-    keys: &[usize],
-    prefixes: usize,
-    vector: &[u8],
-    first: usize,
-    end: usize,
-    t: &mut Tally,
-) {
+// A built table, and the keys of its records.
+pub struct Built<'a> {
+    pub table: &'a [u32],
+    pub keys: &'a Keys,
+}
+
+// Searches the records `first` to `end` of a table.
+fn search_part(built: &Built, vector: &[u8], first: usize, end: usize, t: &mut Tally) {
     let key = key_of(vector);
-    let place = place_of(keys, prefixes, key);
-    let listed = place_of(keys, prefixes, plus(key, 1)) != place;
+    let place = built.keys.place_of(key);
+    let listed = built.keys.place_of(plus(key, 1)) != place;
     let present = listed & (first <= place) & (place < end);
-    let found = search::find(part_of(table, first, end), counts_of(vector));
+    let found = search::find(part_of(built.table, first, end), counts_of(vector));
     let number = place_in(place, first, end);
     let right = found == if present { Ok(number) } else { Err(number) };
     t.count(Counted::Searches);
@@ -64,67 +57,49 @@ fn search_part(
 }
 
 // Searches the records of one total.
-fn search_total(
-    table: &[u32],
-    keys: &[usize],
-    prefixes: usize,
-    vector: &[u8],
-    total: usize,
-    t: &mut Tally,
-) {
-    let first = place_of(keys, prefixes, (total % 16) << 60);
+fn search_total(built: &Built, vector: &[u8], total: usize, t: &mut Tally) {
+    let first = built.keys.place_of((total % 16) << 60);
     let end = if total < 15 {
-        place_of(keys, prefixes, (total + 1) << 60)
+        built.keys.place_of((total + 1) << 60)
     } else {
-        prefixes
+        built.keys.count()
     };
-    search_part(table, keys, prefixes, vector, first, end, t);
+    search_part(built, vector, first, end, t);
 }
 
 // Searches the whole table, the records of the vector's total, and those of the totals beside it.
-fn search_vector(table: &[u32], keys: &[usize], prefixes: usize, vector: &[u8], t: &mut Tally) {
+fn search_vector(built: &Built, vector: &[u8], t: &mut Tally) {
     let total = key_of(vector) >> 60;
-    search_part(table, keys, prefixes, vector, 0, prefixes, t);
-    search_total(table, keys, prefixes, vector, total, t);
-    search_total(table, keys, prefixes, vector, plus(total, 1), t);
-    search_total(table, keys, prefixes, vector, minus(total, 1), t);
-}
-
-fn search_boxed(table: &[u32], keys: &[usize], prefixes: usize, k: usize, v: usize, t: &mut Tally) {
-    let mut vector = [0u8; 16];
-    put_box(table, minus(prefixes, 1), k, v, &mut vector);
-    search_vector(table, keys, prefixes, &vector, t);
+    search_part(built, vector, 0, built.keys.count(), t);
+    search_total(built, vector, total, t);
+    search_total(built, vector, plus(total, 1), t);
+    search_total(built, vector, minus(total, 1), t);
 }
 
 // Every count vector of the box around the whole log.
-pub fn search_box(table: &[u32], keys: &[usize], prefixes: usize, k: usize, t: &mut Tally) {
-    for v in 0..box_size(table, minus(prefixes, 1), k) {
-        search_boxed(table, keys, prefixes, k, v, t);
+pub fn search_box(built: &Built, k: usize, t: &mut Tally) {
+    let last = minus(built.keys.count(), 1);
+    for v in 0..box_size(built.table, last, k) {
+        let mut vector = [0u8; 16];
+        put_box(built.table, last, k, v, &mut vector);
+        search_vector(built, &vector, t);
     }
 }
 
 // The counts of record r, with one more and with one less of letter x.
-fn search_beside(
-    table: &[u32],
-    keys: &[usize],
-    prefixes: usize,
-    r: usize,
-    x: usize,
-    t: &mut Tally,
-) {
+fn search_beside(built: &Built, r: usize, x: usize, t: &mut Tally) {
     let mut more = [0u8; 16];
-    let mut less = [0u8; 16];
-    put_record(table, r, &mut more);
-    put_record(table, r, &mut less);
+    put_record(built.table, r, &mut more);
+    let mut less = more;
     change(&mut more, x, true);
     change(&mut less, x, false);
-    search_vector(table, keys, prefixes, &more, t);
-    search_vector(table, keys, prefixes, &less, t);
+    search_vector(built, &more, t);
+    search_vector(built, &less, t);
 }
 
 // The counts beside those of each record, of a letter that goes round; where the letter has none, one less is the record's own counts.
-pub fn search_records(table: &[u32], keys: &[usize], prefixes: usize, t: &mut Tally) {
-    for r in 0..prefixes {
-        search_beside(table, keys, prefixes, r, r % 16, t);
+pub fn search_records(built: &Built, t: &mut Tally) {
+    for r in 0..built.keys.count() {
+        search_beside(built, r, r % 16, t);
     }
 }

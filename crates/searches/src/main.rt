@@ -5,22 +5,22 @@
 mod compare;
 mod vectors;
 
-use crate::compare::{Counted, search_box, search_records};
+use crate::compare::{Built, Counted, search_box, search_records};
 use profile::Profile;
 use std::io;
-use trial::calls::{build_in, table_part};
+use trial::calls::build_in;
 use trial::cells::{part_of, plus};
+use trial::guarded::Guarded;
 use trial::logs::{log_count, put_log_number};
 use trial::random::{below, put_log, put_masks, seed_of};
 use trial::shapes::shape_of;
 use trial::tally::Tally;
-use trial_logs::place_keys::put_keys;
+use trial_logs::place_keys::Keys;
 
 // Builds the table of a log, with the profile that accepts everything; every vector of the box where there are up to three letters, else those beside each record.
 fn compare_log(k: usize, masks: &[u16], log: &[u8], t: &mut Tally) {
     let moves = [1u32; 16];
-    let mut numbers = [0u32; 1416];
-    let mut keys = [0usize; 256];
+    let mut table = Guarded::<u32, 1416>::new(1400);
     build_in(
         &Profile {
             shape: shape_of(k, 1, 0, 1),
@@ -28,15 +28,17 @@ fn compare_log(k: usize, masks: &[u16], log: &[u8], t: &mut Tally) {
             moves: part_of(&moves, 0, k),
         },
         log,
-        1400,
-        &mut numbers,
+        &mut table,
     );
-    let prefixes = put_keys(masks, log, &mut keys);
+    let built = Built {
+        table: table.content(),
+        keys: &Keys::of(masks, log),
+    };
     t.count(Counted::Tables);
     if k < 4 {
-        search_box(table_part(&numbers), &keys, prefixes, k, t);
+        search_box(&built, k, t);
     } else {
-        search_records(table_part(&numbers), &keys, prefixes, t);
+        search_records(&built, t);
     }
 }
 

@@ -33,32 +33,14 @@ fn size_of(seed: usize) -> usize {
 }
 
 // All that is compared of one log; the second has the same visible part.
-fn compare(
-    view: View,
-    masks: &[u16],
-    moves: &[u32],
-    log: &[u8],
-    seen: &[u8],
-    seed: usize,
-    t: &mut Tally,
-) {
+fn compare(view: &View, log: &[u8], seen: &[u8], seed: usize, t: &mut Tally) {
     let room = below(seed, 14, 9);
     let size = size_of(seed);
-    let all = mask_of(minus(1 << (view.shape.k % 64), 1));
-    compare_view(view, masks, moves, log, 8, 1400, t);
-    compare_view(view, masks, moves, log, room, size, t);
-    compare_secret(view, masks, moves, log, seen, room, size, t);
-    compare_judge(
-        &Profile {
-            shape: view.shape,
-            masks,
-            moves,
-        },
-        log,
-        all,
-        room,
-        t,
-    );
+    let all = mask_of(minus(1 << (view.profile.shape.k % 64), 1));
+    compare_view(view, log, 8, 1400, t);
+    compare_view(view, log, room, size, t);
+    compare_secret(view, log, seen, room, size, t);
+    compare_judge(view.profile, log, all, room, t);
 }
 
 // The first letters of the log, or as many as may be visible.
@@ -73,26 +55,19 @@ fn cut(visible: usize, log: &[u8], most: usize, part: &mut [u8]) -> usize {
 fn view_with(profile: &Profile, seed: usize, t: &mut Tally) {
     let mut letters = [0u8; 8];
     let mut part = [0u8; 8];
-    let most = most_visible(profile.shape.k, profile.shape.s);
+    let k = profile.shape.k;
+    let most = most_visible(k, profile.shape.s);
     let view = View {
-        shape: profile.shape,
-        visible: below(seed, 15, 1 << (profile.shape.k % 64)),
-        lists: log_count(profile.shape.k, longest_of(profile.shape.k)),
+        profile,
+        visible: below(seed, 15, 1 << (k % 64)),
+        lists: log_count(k, longest_of(k)),
     };
     let n = plus(most, below(seed, 16, 4));
-    put_log(seed_of(seed, 17), profile.shape.k, n, &mut letters);
+    put_log(seed_of(seed, 17), k, n, &mut letters);
     let length = cut(view.visible, part_of(&letters, 0, n), most, &mut part);
     let log = part_of(&letters, 0, length);
     let m = put_visible(view.visible, log, &mut part);
-    compare(
-        view,
-        profile.masks,
-        profile.moves,
-        log,
-        part_of(&part, 0, m),
-        seed,
-        t,
-    );
+    compare(&view, log, part_of(&part, 0, m), seed, t);
 }
 
 fn one_view(seed: usize, t: &mut Tally) {

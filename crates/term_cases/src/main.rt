@@ -188,9 +188,9 @@ fn print(rt: &impl Print, t: &Tally) -> io::Result<()> {
     )?;
     print!(rt; "combined: refused by ")?;
     for (i, number) in [2, 4, 6, 7, 8, 14, 15, 16, 9, 10].iter().enumerate() {
-        print!(rt; "{number} {}, ", t.of(ByDamage(i)))?;
+        print!(rt; "{number} {}, ", t.of(ByDamage(Some(i))))?;
     }
-    println!(rt; "not refused {}", t.of(ByDamage(10)))
+    println!(rt; "not refused {}", t.of(ByDamage(None)))
 }
 
 fn main(rt: HostRuntime) -> io::Result<()> {

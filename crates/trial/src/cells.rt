@@ -1,24 +1,6 @@
 // Reads, writes and sums that are total: past the end a read is 0 and a write is none, so that a wrong answer of a tested call is counted and
 // cannot stop the test.
 
-// A type of the numbers that are lent to a call.
-pub trait Cell: Copy + PartialEq {
-    // A value that no tested call writes: letters lie below 16, and no profile here has these states or letters.
-    const GUARD: Self;
-}
-
-impl Cell for u8 {
-    const GUARD: u8 = 165;
-}
-
-impl Cell for u16 {
-    const GUARD: u16 = 42405;
-}
-
-impl Cell for u32 {
-    const GUARD: u32 = 2779096485;
-}
-
 pub fn wide(x: impl Into<u64>) -> usize {
     x.into() as usize
 }
@@ -99,21 +81,4 @@ pub fn put_run<T: Copy>(s: &mut [T], from: usize, n: usize, v: T) {
     for x in s.iter_mut().skip(from).take(n) {
         *x = v;
     }
-}
-
-// The place stands in the n elements from `from` on.
-fn inside(i: usize, from: usize, n: usize) -> bool {
-    from <= i && i - from < n
-}
-
-// Every element is the guard, but for the n from `from` on.
-pub fn untouched<T: Cell>(s: &[T], from: usize, n: usize) -> bool {
-    s.iter()
-        .enumerate()
-        .all(|(i, x)| *x == T::GUARD || inside(i, from, n))
-}
-
-// The bytes stand from `from` on, and around them is the guard.
-pub fn holds(s: &[u8], from: usize, bytes: &[u8]) -> bool {
-    untouched(s, from, bytes.len()) & (part_of(s, from, bytes.len()) == bytes)
 }

@@ -5,6 +5,7 @@
 pub mod answers;
 pub mod calls;
 pub mod cells;
+pub mod guarded;
 pub mod logs;
 pub mod random;
 pub mod record_numbers;

@@ -3,10 +3,10 @@ use profile::Shape;
 
 pub fn shape_of(k: usize, s: usize, start: usize, finals: u32) -> Shape {
     Shape {
-        k: k,
-        s: s,
-        start: start,
-        finals: finals,
+        k,
+        s,
+        start,
+        finals,
     }
 }
 

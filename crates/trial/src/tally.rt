@@ -124,13 +124,16 @@ impl Tally {
         self.count(Counted::Edges);
     }
 
-    // Counts a refusal of a call by a number, where it came as expected, or a wrong comparison of the group.
-    pub fn refused(&mut self, group: impl Counter, right: bool, call: Call, number: usize) {
-        self.count_either(right, RefusedBy(call, number), group);
+    // Counts the refusal of a call by a number, if one was expected and came, or a wrong comparison of the group.
+    pub fn refused(&mut self, group: impl Counter, right: bool, call: Call, number: Option<usize>) {
+        self.expect(group, right);
+        if let Some(n) = number {
+            self.count_if(RefusedBy(call, n), right);
+        }
     }
 
-    // Counts an edge at which a call is refused by the number; 0 is none.
-    pub fn refused_edge(&mut self, right: bool, call: Call, number: usize) {
+    // Counts an edge, and the refusal by the number, if one was expected.
+    pub fn refused_edge(&mut self, right: bool, call: Call, number: Option<usize>) {
         self.count(Counted::Edges);
         self.refused(Counted::Edge, right, call, number);
     }

@@ -1,18 +1,17 @@
-// The calls on lent parts of guarded buffers: bytes are lent from 4 on, numbers and costs from 8 on. Where a buffer is too small for the part nothing is lent.
+// The calls on lent parts of guarded buffers, and their answers. Where a buffer is too small for the part there is no call.
 use profile::{Calendar, Profile};
-use trial::calls::{BYTES, NUMBERS};
+use trial::answers::Refused;
 use trial::cells::part_of;
+use trial::guarded::Guarded;
 
-// The sizes of the order buffer, the work table and the cost table, and the budget.
-#[derive(Clone, Copy)]
-pub struct Lent {
-    pub room: usize,
-    pub size: usize,
-    pub costs: usize,
-    pub budget: u64,
+// The order buffer, the work table and the cost table.
+pub struct Lent<const M: usize, const N: usize, const C: usize> {
+    pub order: Guarded<u8, M>,
+    pub table: Guarded<u32, N>,
+    pub costs: Guarded<u32, C>,
 }
 
-// Days of up to eight events, and terms, which take so many numbers; none for the call without terms.
+// Days of up to eight events, and terms, which take so many numbers.
 #[derive(Clone, Copy)]
 pub struct Dated {
     pub days: [u32; 8],
@@ -20,169 +19,90 @@ pub struct Dated {
     pub numbers: usize,
 }
 
-// What a call gets beside the profile and the log.
-#[derive(Clone, Copy)]
-pub struct Call {
-    pub lent: Lent,
-    pub dated: Dated,
+impl Dated {
+    // For n events.
+    pub fn calendar(&self, n: usize) -> Calendar<'_> {
+        Calendar {
+            days: part_of(&self.days, 0, n),
+            terms: part_of(&self.terms, 0, self.numbers),
+        }
+    }
 }
 
-// The refusal's number, or 0, and what is told.
+// What a call is asked: a profile, a log, days and terms, or none for the call without terms, and a budget.
 #[derive(Clone, Copy)]
+pub struct Question<'a> {
+    pub profile: &'a Profile<'a>,
+    pub log: &'a [u8],
+    pub calendar: Option<&'a Calendar<'a>>,
+    pub budget: u64,
+}
+
+// What is told where nothing is refused.
+#[derive(Clone, Copy, PartialEq, Eq)]
 pub struct Told {
-    pub number: u32,
-    pub told: [u64; 6],
+    pub verdict: bool,
+    pub prefixes: usize,
+    pub looks: usize,
+    pub swaps: usize,
+    pub floor: usize,
 }
 
-// The call without terms.
-pub fn no_terms() -> Dated {
-    Dated {
-        days: [0; 8],
-        terms: [0; 24],
-        numbers: 0,
+// None where there was no call, or where what is told is no answer.
+pub type Answer = Option<Result<Told, Refused>>;
+
+// The numbers told: the place, the verdict, P, looks, swaps and floor; beside a refusal all but the place are 0, and beside none the place is.
+fn answer_of(number: u32, told: [u64; 6]) -> Answer {
+    let [place, verdict, prefixes, looks, swaps, floor] = told;
+    if number != 0 {
+        let refused = Refused::at(number as usize, place as usize);
+        return if told == [place, 0, 0, 0, 0, 0] {
+            Some(Err(refused))
+        } else {
+            None
+        };
     }
-}
-
-fn lent_bytes(buffer: &mut [u8], n: usize) -> &mut [u8] {
-    if n <= 1000000 {
-        let end = BYTES + n;
-        if end <= buffer.len() {
-            return &mut buffer[4..end];
-        }
+    if (place != 0) | (1 < verdict) {
+        return None;
     }
-    &mut buffer[0..0]
-}
-
-fn lent_numbers(buffer: &mut [u32], n: usize) -> &mut [u32] {
-    if n <= 1000000 {
-        let end = NUMBERS + n;
-        if end <= buffer.len() {
-            return &mut buffer[8..end];
-        }
-    }
-    &mut buffer[0..0]
-}
-
-// The call without terms.
-pub fn closest_in(
-    profile: &Profile,
-    log: &[u8],
-    lent: Lent,
-    buffer: &mut [u8],
-    numbers: &mut [u32],
-    costs: &mut [u32],
-) -> Told {
-    let mut told = [99u64; 6];
-    let number = closest_calls::closest(
-        profile,
-        log,
-        lent_bytes(buffer, lent.room),
-        lent_numbers(numbers, lent.size),
-        lent_numbers(costs, lent.costs),
-        lent.budget,
-        &mut told,
-    );
-    Told {
-        number: number,
-        told: told,
-    }
-}
-
-// The call with terms.
-pub fn closest_terms_in(
-    profile: &Profile,
-    log: &[u8],
-    calendar: &Calendar,
-    lent: Lent,
-    buffer: &mut [u8],
-    numbers: &mut [u32],
-    costs: &mut [u32],
-) -> Told {
-    let mut told = [99u64; 6];
-    let number = closest_calls::closest_terms(
-        profile,
-        log,
-        calendar,
-        lent_bytes(buffer, lent.room),
-        lent_numbers(numbers, lent.size),
-        lent_numbers(costs, lent.costs),
-        lent.budget,
-        &mut told,
-    );
-    Told {
-        number: number,
-        told: told,
-    }
-}
-
-// The call with days and terms by value.
-fn closest_dated_in(
-    profile: &Profile,
-    log: &[u8],
-    call: Call,
-    buffer: &mut [u8],
-    numbers: &mut [u32],
-    costs: &mut [u32],
-) -> Told {
-    let days = call.dated.days;
-    let terms = call.dated.terms;
-    closest_terms_in(
-        profile,
-        log,
-        &Calendar {
-            days: part_of(&days, 0, log.len()),
-            terms: part_of(&terms, 0, call.dated.numbers),
-        },
-        call.lent,
-        buffer,
-        numbers,
-        costs,
-    )
+    Some(Ok(Told {
+        verdict: verdict == 1,
+        prefixes: prefixes as usize,
+        looks: looks as usize,
+        swaps: swaps as usize,
+        floor: floor as usize,
+    }))
 }
 
 // The one call or the other.
-pub fn ask(
-    profile: &Profile,
-    log: &[u8],
-    call: Call,
-    buffer: &mut [u8],
-    numbers: &mut [u32],
-    costs: &mut [u32],
-) -> Told {
-    if call.dated.numbers == 0 {
-        closest_in(profile, log, call.lent, buffer, numbers, costs)
-    } else {
-        closest_dated_in(profile, log, call, buffer, numbers, costs)
-    }
-}
-
-// The answer is a refusal by the number at the place, with nothing else told.
-pub fn is_refused(answer: Told, number: u32, place: usize) -> bool {
-    let told = answer.told;
-    (answer.number == number)
-        & (told[0] == (place as u64))
-        & (told[1] == 0)
-        & (told[2] == 0)
-        & (told[3] == 0)
-        & (told[4] == 0)
-        & (told[5] == 0)
-}
-
-// The answer is no refusal, and has the verdict, P, looks, swaps and floor.
-pub fn is_answer(
-    answer: Told,
-    verdict: bool,
-    prefixes: usize,
-    looks: usize,
-    swaps: usize,
-    floor: usize,
-) -> bool {
-    let told = answer.told;
-    (answer.number == 0)
-        & (told[0] == 0)
-        & (told[1] == (verdict as u64))
-        & (told[2] == (prefixes as u64))
-        & (told[3] == (looks as u64))
-        & (told[4] == (swaps as u64))
-        & (told[5] == (floor as u64))
+pub fn ask<const M: usize, const N: usize, const C: usize>(
+    asked: &Question,
+    lent: &mut Lent<M, N, C>,
+) -> Answer {
+    let mut told = [99u64; 6];
+    let order = lent.order.lend()?;
+    let table = lent.table.lend()?;
+    let costs = lent.costs.lend()?;
+    let number = match asked.calendar {
+        Some(calendar) => closest_calls::closest_terms(
+            asked.profile,
+            asked.log,
+            calendar,
+            order,
+            table,
+            costs,
+            asked.budget,
+            &mut told,
+        ),
+        None => closest_calls::closest(
+            asked.profile,
+            asked.log,
+            order,
+            table,
+            costs,
+            asked.budget,
+            &mut told,
+        ),
+    };
+    answer_of(number, told)
 }

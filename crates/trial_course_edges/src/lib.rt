@@ -6,8 +6,9 @@
 #![tactic(auto)]
 
 use profile::Profile;
-use trial::calls::table_part;
-use trial::cells::{Cell, byte, byte_at, minus, part_of, plus, put_run, times};
+use trial::answers::Refused;
+use trial::cells::{byte, byte_at, minus, part_of, plus, put_run, times};
+use trial::guarded::Guarded;
 use trial::tally::Tally;
 use trial_courses::answers::{is_refused, make_in, profile_in};
 use trial_courses::compare::verdict_of;
@@ -46,10 +47,9 @@ fn byte_of(c: usize) -> u8 {
 // Writes the text of a row, and tells its length.
 fn put_runs(row: &[u8], text: &mut [u8]) -> usize {
     let mut n = 0;
-    for r in 0..row.len() {
-        let at = plus(RUNS, times(3, r));
-        let many = decimal(row, at, 2);
-        put_run(text, n, many, byte_of(byte_at(row, plus(at, 2))));
+    for run in part_of(row, RUNS, minus(row.len(), RUNS)).chunks(3) {
+        let many = decimal(run, 0, 2);
+        put_run(text, n, many, byte_of(byte_at(run, 2)));
         n = plus(n, many);
     }
     n
@@ -58,19 +58,19 @@ fn put_runs(row: &[u8], text: &mut [u8]) -> usize {
 // Compares the answer and the numbers of one row.
 fn edge(row: &[u8], t: &mut Tally) {
     let mut text = [0u8; 1200];
-    let mut numbers = [u32::GUARD; 640];
+    let mut moves = Guarded::<u32, 640>::new(decimal(row, 3, 4));
     let n = put_runs(row, &mut text);
     let k = letters_of(row);
     let number = decimal(row, 8, 2);
     let place = decimal(row, 11, 4);
-    let made = make_in(k, part_of(&text, 0, n), decimal(row, 3, 4), &mut numbers);
+    let made = make_in(k, part_of(&text, 0, n), &mut moves);
     let right = if number == 0 {
-        profile_in(made, k, place, &numbers).is_some()
+        profile_in(made, k, place, &moves).is_some()
     } else {
-        is_refused(made, number, place, &numbers)
+        is_refused(made, Refused::at(number, place), &moves)
     };
     t.count(Counted::Edges);
-    counters::refused(t, Counted::Edge, right, number);
+    counters::refused(Counted::Edge, right, number, t);
 }
 
 // "up to 16 deep", and 17; brackets beside each other are not deeper.
@@ -185,45 +185,48 @@ fn broken_rules(t: &mut Tally) {
 }
 
 // One letter and a thousand stars: two states, the letter leads from both to 1, and both are final.
-fn many_stars(t: &mut Tally) {
+fn stars_right() -> Option<bool> {
     let mut text = [42u8; 1001];
-    let mut numbers = [u32::GUARD; 16];
+    let mut numbers = Guarded::<u32, 16>::new(3);
     text[0] = b'a';
-    let made = make_in(1, &text, 3, &mut numbers);
-    let moves = part_of(table_part(&numbers), 0, 2);
-    let right = match profile_in(made, 1, 2, &numbers) {
-        Some(shape) => {
-            (moves == [2u32, 2].as_slice())
-                & (shape.finals == 3)
-                & (verdict_of(
-                    &Profile {
-                        shape,
-                        masks: &[0u16; 1],
-                        moves,
-                    },
-                    &[0u8; 7],
-                ) == Some(true))
-        }
-        None => false,
-    };
+    let made = make_in(1, &text, &mut numbers);
+    let shape = profile_in(made, 1, 2, &numbers)?;
+    let moves = numbers.first(2);
+    let verdict = verdict_of(
+        &Profile {
+            shape,
+            masks: &[0u16],
+            moves,
+        },
+        &[0u8; 7],
+    )?;
+    Some((moves == [2u32, 2].as_slice()) & (shape.finals == 3) & verdict)
+}
+
+fn many_stars(t: &mut Tally) {
     t.count(Counted::Edges);
-    t.expect(Counted::Edge, right);
+    t.expect(Counted::Edge, stars_right() == Some(true));
 }
 
 // The moves of a right row too, bit by bit.
 fn edge_moves(row: &[u8], table: &mut [usize], t: &mut Tally) {
     let mut text = [0u8; 1200];
-    let mut numbers = [u32::GUARD; 640];
+    let mut numbers = Guarded::<u32, 640>::new(decimal(row, 3, 4));
     let n = put_runs(row, &mut text);
     let k = letters_of(row);
     let s = decimal(row, 11, 4);
-    let made = make_in(k, part_of(&text, 0, n), decimal(row, 3, 4), &mut numbers);
-    let moves = part_of(table_part(&numbers), 0, times(k, s));
+    let made = make_in(k, part_of(&text, 0, n), &mut numbers);
     edge(row, t);
-    match made {
-        Some(Ok(shape)) => compare_moves(k, part_of(&text, 0, n), shape, moves, table, t),
-        _ => t.count(Counted::Moves),
-    }
+    let Some(Ok(shape)) = made else {
+        t.count(Counted::Moves);
+        return;
+    };
+    let profile = Profile {
+        shape,
+        masks: &[],
+        moves: numbers.first(times(k, s)),
+    };
+    compare_moves(k, part_of(&text, 0, n), &profile, table, t);
 }
 
 // All letters in one star; one letter in all brackets; choices and repetitions in brackets.

@@ -3,12 +3,14 @@ use crate::answers::{is_refused, make_in, profile_in};
 use crate::counters;
 use crate::counters::Counted;
 use crate::moves::compare_moves;
-use profile::{Profile, Shape};
-use trial::calls::{judge_in, table_part};
-use trial::cells::{Cell, bit, minus, part_of, plus, times};
+use profile::Profile;
+use trial::answers;
+use trial::answers::Refused;
+use trial::calls::judge_in;
+use trial::cells::{bit, minus, part_of, plus, times};
+use trial::guarded::Guarded;
 use trial::logs::put_log_number;
 use trial::tally::{Counter, Tally};
-use trial::{answers, tally};
 use trial_grammar::grammar::{is_right, place_of};
 use trial_grammar::meanings::described_logs;
 use trial_grammar::parts::is_part;
@@ -19,10 +21,9 @@ const ALL: usize = 31;
 
 // The judge's verdict.
 pub fn verdict_of(profile: &Profile, log: &[u8]) -> Option<bool> {
-    let mut buffer = [u8::GUARD; 16];
-    let mut numbers = [u32::GUARD; 136];
-    let answer = judge_in(profile, log, 8, 120, &mut buffer, &mut numbers);
-    answers::verdict_of(answer)
+    let mut order = Guarded::<u8, 16>::new(8);
+    let mut table = Guarded::<u32, 136>::new(120);
+    answers::verdict_of(judge_in(profile, log, &mut order, &mut table))
 }
 
 // Log numbers u and v have the same letters. A log's number and one more is, in binary, a one and then its letters, the last first.
@@ -43,59 +44,41 @@ fn only_a(v: usize) -> bool {
 }
 
 // The verdict is 1 with nothing independent exactly when the log is described.
-fn compare_alone(shape: Shape, moves: &[u32], log: &[u8], described: bool, t: &mut Tally) {
-    let masks = [0u16; 3];
+fn compare_alone(profile: &Profile, log: &[u8], described: bool, t: &mut Tally) {
     let verdict = verdict_of(
         &Profile {
-            shape,
-            masks: part_of(&masks, 0, shape.k),
-            moves,
+            shape: profile.shape,
+            masks: part_of(&[0u16; 3], 0, profile.shape.k),
+            moves: profile.moves,
         },
         log,
     );
-    counters::judged(t, Counted::Logs, Counted::DescribedLogs, described, verdict);
+    counters::judged(Counted::Logs, Counted::DescribedLogs, described, verdict, t);
 }
 
 // It is 1 with a and b independent exactly when an arrangement of the log is described.
-fn compare_pair(shape: Shape, moves: &[u32], log: &[u8], described: bool, t: &mut Tally) {
-    let mut masks = [0u16; 3];
-    masks[0] = 2;
-    masks[1] = 1;
-    let verdict = verdict_of(
-        &Profile {
-            shape,
-            masks: part_of(&masks, 0, shape.k),
-            moves,
-        },
-        log,
-    );
+fn compare_pair(profile: &Profile, log: &[u8], described: bool, t: &mut Tally) {
+    let verdict = verdict_of(profile, log);
     counters::judged(
-        t,
         Counted::PairLogs,
         Counted::DescribedPairLogs,
         described,
         verdict,
+        t,
     );
 }
 
 // Log number v, where its letters are below k; `set` has the described logs.
-fn compare_log(shape: Shape, moves: &[u32], set: usize, v: usize, t: &mut Tally) {
+fn compare_log(profile: &Profile, set: usize, v: usize, t: &mut Tally) {
     let mut letters = [0u8; 8];
     let n = put_log_number(2, v, &mut letters);
     let log = part_of(&letters, 0, n);
-    if 1 < shape.k {
-        compare_alone(shape, moves, log, bit(set, v), t);
-        compare_pair(shape, moves, log, set & arrangements(v) != 0, t);
-        return;
+    let pair = 1 < profile.shape.k;
+    if pair | only_a(v) {
+        compare_alone(profile, log, bit(set, v), t);
     }
-    if only_a(v) {
-        compare_alone(shape, moves, log, bit(set, v), t);
-    }
-}
-
-fn compare_logs(shape: Shape, moves: &[u32], set: usize, t: &mut Tally) {
-    for v in 0..ALL {
-        compare_log(shape, moves, set, v, t);
+    if pair {
+        compare_pair(profile, log, set & arrangements(v) != 0, t);
     }
 }
 
@@ -104,34 +87,28 @@ pub fn refuse(
     k: usize,
     text: &[u8],
     size: usize,
-    number: usize,
-    place: usize,
+    expected: Refused,
     group: impl Counter,
     t: &mut Tally,
 ) {
-    let mut numbers = [u32::GUARD; 64];
-    let made = make_in(k, text, size, &mut numbers);
-    counters::refused(t, group, is_refused(made, number, place, &numbers), number);
+    let mut moves = Guarded::<u32, 64>::new(size);
+    let made = make_in(k, text, &mut moves);
+    let right = is_refused(made, expected, &moves);
+    counters::refused(group, right, expected.number, t);
 }
 
 // A right text with the letters of a profile of s states, and one number too few.
 fn refuse_short(k: usize, text: &[u8], s: usize, t: &mut Tally) {
-    refuse(k, text, minus(times(k, s), 1), 9, 0, Counted::Refusal, t);
+    let less = minus(times(k, s), 1);
+    refuse(k, text, less, Refused::by(9), Counted::Refusal, t);
 }
 
-// The profile made with `size` numbers lent, its moves, and every log of up to four letters.
-fn compare_made(
-    k: usize,
-    text: &[u8],
-    s: usize,
-    size: usize,
-    set: usize,
-    table: &mut [usize],
-    t: &mut Tally,
-) {
-    let mut numbers = [u32::GUARD; 64];
-    let made = make_in(k, text, size, &mut numbers);
-    let Some(shape) = profile_in(made, k, s, &numbers) else {
+// The profile made with `size` numbers lent, with a and b independent, its moves, and every log of up to four letters.
+fn compare_made(k: usize, text: &[u8], s: usize, size: usize, table: &mut [usize], t: &mut Tally) {
+    let mut moves = Guarded::<u32, 64>::new(size);
+    let set = described_logs(k, text, table);
+    let made = make_in(k, text, &mut moves);
+    let Some(shape) = profile_in(made, k, s, &moves) else {
         t.count(Counted::Profile);
         return;
     };
@@ -139,18 +116,23 @@ fn compare_made(
         t.count(Counted::Profile);
         return;
     }
-    let moves = part_of(table_part(&numbers), 0, times(k, s));
-    compare_logs(shape, moves, set, t);
-    compare_moves(k, text, shape, moves, table, t);
+    let profile = Profile {
+        shape,
+        masks: part_of(&[2u16, 1, 0], 0, k),
+        moves: moves.first(times(k, s)),
+    };
+    for v in 0..ALL {
+        compare_log(&profile, set, v, t);
+    }
+    compare_moves(k, text, &profile, table, t);
 }
 
 // A right text, with `extra` numbers too many, and with one too few.
 fn compare_right(k: usize, text: &[u8], extra: usize, table: &mut [usize], t: &mut Tally) {
     let s = plus(letter_count(k, text), 1);
-    let set = described_logs(k, text, table);
     t.count(Counted::Right);
     refuse_short(k, text, s, t);
-    compare_made(k, text, s, plus(times(k, s), extra), set, table, t);
+    compare_made(k, text, s, plus(times(k, s), extra), table, t);
 }
 
 // A text of up to seven bytes; `extra` varies how many numbers too many are lent.
@@ -160,13 +142,6 @@ pub fn compare_text(k: usize, text: &[u8], extra: usize, table: &mut [usize], t:
         compare_right(k, text, extra % 4, table, t);
         return;
     }
-    refuse(
-        k,
-        text,
-        extra % 24,
-        11,
-        place_of(k, text),
-        Counted::Refusal,
-        t,
-    );
+    let expected = Refused::at(11, place_of(k, text));
+    refuse(k, text, extra % 24, expected, Counted::Refusal, t);
 }

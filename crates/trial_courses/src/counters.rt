@@ -42,18 +42,18 @@ impl Counter for RefusedBy {
     }
 }
 
-// Counts a refusal by the number, where it came as expected, or a wrong comparison of the group; 0 is no refusal.
-pub fn refused(t: &mut Tally, group: impl Counter, right: bool, number: usize) {
+// Counts a refusal by the number, where it came as expected, or a wrong comparison of the group.
+pub fn refused(group: impl Counter, right: bool, number: usize, t: &mut Tally) {
     t.count_either(right, RefusedBy(number), group);
 }
 
 // Counts a log that was judged, whether it is described, and whether the verdict was wrong.
 pub fn judged(
-    t: &mut Tally,
     logs: Counted,
     described_logs: Counted,
     described: bool,
     verdict: Option<bool>,
+    t: &mut Tally,
 ) {
     t.count(logs);
     t.count_if(described_logs, described);

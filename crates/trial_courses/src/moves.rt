@@ -1,44 +1,27 @@
 // The moves and final states bit by bit, from lists of the numbers of the letters typed.
 use crate::counters::Counted;
-use profile::Shape;
-use trial::cells::{byte, one32, part_of, plus, times, value_at, wide};
+use profile::Profile;
+use trial::cells::{byte, one32, plus, times, value_at, wide};
 use trial::tally::Tally;
 use trial_grammar::meanings::{Around, Members, describes};
 use trial_grammar::words::{is_letter, letter_at, one_if};
 
 // "may come directly after the q-th letter typed, or first for q = 0": letter r.
 fn comes(k: usize, text: &[u8], q: usize, r: usize, table: &mut [usize]) -> bool {
-    let mut list = [0u8; 2];
-    list[0] = byte(q);
-    list[1] = byte(r);
     if q == 0 {
-        describes(
-            Members::Typed,
-            k,
-            text,
-            part_of(&list, 1, 1),
-            Around::Begins,
-            table,
-        )
+        describes(Members::Typed, k, text, &[byte(r)], Around::Begins, table)
     } else {
+        let list = [byte(q), byte(r)];
         describes(Members::Typed, k, text, &list, Around::Inside, table)
     }
 }
 
 // "the states a described log may end in, 0 for the empty log".
 fn may_end(k: usize, text: &[u8], q: usize, table: &mut [usize]) -> bool {
-    let list = [byte(q); 1];
     if q == 0 {
-        describes(
-            Members::Typed,
-            k,
-            text,
-            part_of(&list, 0, 0),
-            Around::Alone,
-            table,
-        )
+        describes(Members::Typed, k, text, b"", Around::Alone, table)
     } else {
-        describes(Members::Typed, k, text, &list, Around::Ends, table)
+        describes(Members::Typed, k, text, &[byte(q)], Around::Ends, table)
     }
 }
 
@@ -88,19 +71,12 @@ fn bits_set(moves: &[u32]) -> usize {
 }
 
 // Compares the s × k moves and the final set.
-pub fn compare_moves(
-    k: usize,
-    text: &[u8],
-    shape: Shape,
-    moves: &[u32],
-    table: &mut [usize],
-    t: &mut Tally,
-) {
-    let s = shape.s;
+pub fn compare_moves(k: usize, text: &[u8], profile: &Profile, table: &mut [usize], t: &mut Tally) {
+    let s = profile.shape.s;
     let finals = final_states(k, text, s, table);
-    let right = rows_right(k, text, s, moves, table) & (finals == shape.finals);
-    let set = plus(bits_set(moves), wide(u32::count_ones(finals)));
-    t.count_many(Counted::Bits, times(32, plus(moves.len(), 1)));
+    let right = rows_right(k, text, s, profile.moves, table) & (finals == profile.shape.finals);
+    let set = plus(bits_set(profile.moves), wide(finals.count_ones()));
+    t.count_many(Counted::Bits, times(32, plus(profile.moves.len(), 1)));
     t.count_many(Counted::Set, set);
     t.expect(Counted::Moves, right);
 }

@@ -1,4 +1,6 @@
 // A call: what it is given, and how much it is lent. Arrays are by value, so that a case is changed without a loan.
+use rules::Grammar;
+use trial::cells::part_of;
 
 #[derive(Clone, Copy)]
 pub struct Case {
@@ -15,16 +17,36 @@ pub struct Case {
     pub sets: usize,
 }
 
+impl Case {
+    pub fn grammar(&self) -> Grammar<'_> {
+        Grammar {
+            k: self.k,
+            masks: self.masks(),
+            names: self.names,
+            rules: self.rules(),
+        }
+    }
+
+    pub fn masks(&self) -> &[u16] {
+        part_of(&self.masks, 0, self.letters)
+    }
+
+    pub fn rules(&self) -> &[u16] {
+        part_of(&self.rules, 0, self.many)
+    }
+
+    pub fn log(&self) -> &[u8] {
+        part_of(&self.log, 0, self.events)
+    }
+}
+
 pub fn no_case() -> Case {
-    let masks = [0u16; 17];
-    let rules = [0u16; 65];
-    let log = [0u8; 8];
     Case {
         k: 1,
         names: 1,
-        masks: masks,
-        rules: rules,
-        log: log,
+        masks: [0; 17],
+        rules: [0; 65],
+        log: [0; 8],
         letters: 1,
         many: 0,
         events: 0,

@@ -1,15 +1,11 @@
 // "can be derived", by the paper's words, of one log: for each of its parts the names from which the part can be derived, the short parts first. A rule is
 // read by its bits.
 use trial::cells::{bit, byte_at, minus, one16, plus, put, value_at, wide};
-use trial_logs::listing::row;
+use trial_logs::listing::Listing;
 
 // The parts of a log of at most eight letters: that of n letters from place i on.
 fn part_at(i: usize, n: usize) -> usize {
-    if i < 9 {
-        if n < 9 { 9 * n + i } else { 0 }
-    } else {
-        0
-    }
+    if i < 9 && n < 9 { 9 * n + i } else { 0 }
 }
 
 // The rule, where it gives its name the letter, as the set of that name.
@@ -83,8 +79,8 @@ pub fn derived(rules: &[u16], log: &[u8]) -> bool {
 }
 
 // How many of the listed logs can be derived.
-pub fn derived_rows(rules: &[u16], rows: &[u8], count: usize, n: usize) -> usize {
-    (0..count)
-        .filter(|&r| derived(rules, row(rows, r, n)))
+pub fn derived_rows(rules: &[u16], listing: &Listing) -> usize {
+    (0..listing.count())
+        .filter(|&r| derived(rules, listing.row(r)))
         .count()
 }

@@ -1,9 +1,8 @@
 // What no random case has: every set of defects of one case, logs of 4,000 and 4,001 letters, and the limits of names and rules.
 use crate::cases::{Case, no_case};
 use crate::compare::{Counted, with_room};
-use crate::lent::grammar_in;
+use crate::lent::Lent;
 use crate::refusing::{Defect, compare_defects, compare_refusal};
-use trial::cells::{Cell, part_of};
 use trial::tally::Tally;
 
 // Nested loans: a lends a set and b takes it back; the log is ba, which may become ab.
@@ -29,7 +28,7 @@ fn nested_case() -> Case {
 // Every set of defects, with each kind of them.
 pub fn all_defects(t: &mut Tally) {
     for i in 0..2048 {
-        compare_defects(nested_case(), i / 8, i % 8, t);
+        compare_defects(&nested_case(), i / 8, i % 8, t);
     }
 }
 
@@ -40,38 +39,23 @@ pub fn compare_long(t: &mut Tally) {
     c.room = 0;
     c.size = 0;
     c.sets = 0;
-    compare_refusal(c, &log, Defect::By7, 0, t);
+    compare_refusal(&c, &log, Defect::By7, 0, t);
 }
 
-fn edge(t: &mut Tally, right: bool) {
+fn edge(right: bool, t: &mut Tally) {
     t.expect(Counted::Edge, right);
     t.count(Counted::Edges);
 }
 
 // The number that a case is refused by, with a log of its own.
-fn number_of(case: Case, log: &[u8]) -> Option<u32> {
-    let mut buffer = [u8::GUARD; 24];
-    let mut numbers = [u32::GUARD; 700];
-    let mut sets = [u16::GUARD; 4128];
-    let mut told = [99u64; 4];
-    let masks = case.masks;
-    let rules = case.rules;
-    grammar_in(
-        case,
-        part_of(&masks, 0, case.letters),
-        part_of(&rules, 0, case.many),
-        log,
-        &mut buffer,
-        &mut numbers,
-        &mut sets,
-        &mut told,
-    )
+fn number_of(case: &Case, log: &[u8]) -> Option<u32> {
+    Lent::to(case).judge(case, log)
 }
 
 // 4,000 letters pass 7: the next that applies is 9.
 fn longest(t: &mut Tally) {
     let log = [0u8; 4000];
-    edge(t, number_of(nested_case(), &log) == Some(9));
+    edge(number_of(&nested_case(), &log) == Some(9), t);
 }
 
 // A case with so many names and rules, all of the rule 0: name 0 gives letter 0.
@@ -85,7 +69,7 @@ fn limited(names: usize, many: usize) -> Case {
 
 fn limit(names: usize, many: usize, number: u32, t: &mut Tally) {
     let log = [0u8; 1];
-    edge(t, number_of(limited(names, many), &log) == Some(number));
+    edge(number_of(&limited(names, many), &log) == Some(number), t);
 }
 
 // One rule, with k letters and some names.
@@ -95,7 +79,7 @@ fn one_rule(k: usize, names: usize, rule: u16, number: u32, t: &mut Tally) {
     c.k = k;
     c.letters = k;
     c.rules[0] = rule;
-    edge(t, number_of(c, &log) == Some(number));
+    edge(number_of(&c, &log) == Some(number), t);
 }
 
 // 1 to 16 names and up to 64 rules.

@@ -1,28 +1,35 @@
-// The call on lent parts of guarded buffers: bytes are lent from 4 on, numbers and sets from 8 on. Where a buffer is too small for the part there is no call.
+// The call on lent parts of guarded buffers. Where a buffer is too small for the part there is no call.
 use crate::cases::Case;
-use rules::Grammar;
-use trial::calls::{BYTES, NUMBERS, lent};
+use trial::guarded::Guarded;
 
-pub fn grammar_in(
-    case: Case,
-    masks: &[u16],
-    rules: &[u16],
-    log: &[u8],
-    buffer: &mut [u8],
-    numbers: &mut [u32],
-    sets: &mut [u16],
-    told: &mut [u64; 4],
-) -> Option<u32> {
-    let order = lent(buffer, BYTES, case.room)?;
-    let table = lent(numbers, NUMBERS, case.size)?;
-    let names = lent(sets, NUMBERS, case.sets)?;
-    let grammar = Grammar {
-        k: case.k,
-        masks,
-        names: case.names,
-        rules,
-    };
-    Some(grammar_calls::judge(
-        &grammar, log, order, table, names, told,
-    ))
+// What a call is lent, and what it tells.
+pub struct Lent {
+    pub order: Guarded<u8, 24>,
+    pub table: Guarded<u32, 700>,
+    pub sets: Guarded<u16, 4128>,
+    pub told: [u64; 4],
+}
+
+impl Lent {
+    pub fn to(case: &Case) -> Self {
+        Lent {
+            order: Guarded::new(case.room),
+            table: Guarded::new(case.size),
+            sets: Guarded::new(case.sets),
+            told: [99; 4],
+        }
+    }
+
+    // The number that the call gives; its log may be another than the case's own.
+    pub fn judge(&mut self, case: &Case, log: &[u8]) -> Option<u32> {
+        let grammar = case.grammar();
+        Some(grammar_calls::judge(
+            &grammar,
+            log,
+            self.order.lend()?,
+            self.table.lend()?,
+            self.sets.lend()?,
+            &mut self.told,
+        ))
+    }
 }

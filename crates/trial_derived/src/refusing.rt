@@ -2,9 +2,8 @@
 // order in which they are looked for: 2, 4, 21, 7, 8, 9, 10, 22.
 use crate::cases::Case;
 use crate::compare::Counted;
-use crate::lent::grammar_in;
-use trial::calls::NUMBERS;
-use trial::cells::{Cell, bit, byte, minus, part_of, plus, untouched};
+use crate::lent::Lent;
+use trial::cells::{bit, byte, minus, plus};
 use trial::tally::{Counter, Tally};
 
 // What a call is refused by, in the order in which it is looked for.
@@ -151,7 +150,7 @@ fn with_short_buffers(case: Case, defects: usize) -> Case {
 }
 
 // The defects that a case can have: an empty log has no letter, and needs no byte.
-fn possible(case: Case, defects: usize) -> usize {
+fn possible(case: &Case, defects: usize) -> usize {
     if case.events == 0 {
         defects & 199
     } else {
@@ -162,10 +161,10 @@ fn possible(case: Case, defects: usize) -> usize {
 // The place of the refusal: that of the letter at 8.
 fn place_right(told: &[u64; 4], defect: Defect, place: usize) -> bool {
     let expected = if defect == Defect::By8 { place } else { 0 };
-    (told[0] == (expected as u64)) & (told[1] == 0) & (told[2] == 0) & (told[3] == 0)
+    *told == [expected as u64, 0, 0, 0]
 }
 
-fn free_of(case: Case, defect: Defect) -> usize {
+fn free_of(case: &Case, defect: Defect) -> usize {
     if (defect == Defect::By10) | (defect == Defect::By22) {
         case.size
     } else {
@@ -174,68 +173,22 @@ fn free_of(case: Case, defect: Defect) -> usize {
 }
 
 // A call with at least one defect, and a log that may be another than the case's own.
-fn compare_call(
-    case: Case,
-    masks: &[u16],
-    rules: &[u16],
-    log: &[u8],
-    defect: Defect,
-    place: usize,
-    t: &mut Tally,
-) {
-    let mut buffer = [u8::GUARD; 24];
-    let mut numbers = [u32::GUARD; 700];
-    let mut sets = [u16::GUARD; 4128];
-    let mut told = [99u64; 4];
-    let number = grammar_in(
-        case,
-        masks,
-        rules,
-        log,
-        &mut buffer,
-        &mut numbers,
-        &mut sets,
-        &mut told,
-    );
+pub fn compare_refusal(case: &Case, log: &[u8], defect: Defect, place: usize, t: &mut Tally) {
+    let mut lent = Lent::to(case);
+    let number = lent.judge(case, log);
     let right = (number == Some(number_of(defect)))
-        & place_right(&told, defect, place)
-        & untouched(&buffer, 0, 0)
-        & untouched(&sets, 0, 0)
-        & untouched(&numbers, NUMBERS, free_of(case, defect));
-    if right {
-        t.count(defect);
-    } else {
-        t.count(Counted::Refusal);
-    }
-}
-
-pub fn compare_refusal(case: Case, log: &[u8], defect: Defect, place: usize, t: &mut Tally) {
-    let masks = case.masks;
-    let rules = case.rules;
-    compare_call(
-        case,
-        part_of(&masks, 0, case.letters),
-        part_of(&rules, 0, case.many),
-        log,
-        defect,
-        place,
-        t,
-    );
+        & place_right(&lent.told, defect, place)
+        & lent.order.stays()
+        & lent.sets.stays()
+        & lent.table.stays_behind(free_of(case, defect));
+    t.count_either(right, defect, Counted::Refusal);
 }
 
 // A case with some of the defects; it has what it needs and no more.
-pub fn compare_defects(case: Case, defects: usize, kind: usize, t: &mut Tally) {
+pub fn compare_defects(case: &Case, defects: usize, kind: usize, t: &mut Tally) {
     let some = possible(case, defects);
-    let Some(first) = first_of(some) else {
-        return;
-    };
-    let c = with_short_buffers(with_input_defects(case, some, kind), some);
-    let log = c.log;
-    compare_refusal(
-        c,
-        part_of(&log, 0, c.events),
-        first,
-        minus(case.events, 1),
-        t,
-    );
+    if let Some(first) = first_of(some) {
+        let c = with_short_buffers(with_input_defects(*case, some, kind), some);
+        compare_refusal(&c, c.log(), first, minus(case.events, 1), t);
+    }
 }

@@ -3,14 +3,15 @@ use crate::read_events::compare_events;
 use crate::reading::compare_file;
 use crate::written::{bytes_right, file_size};
 use profile::{Profile, Shape};
-use trial::answers::{Answer, is_refusal, is_told};
-use trial::calls::{BYTES, write_in};
-use trial::cells::{Cell, minus, part_of, plus, times, untouched};
+use trial::answers::{Answer, Refused, is_refusal, is_told};
+use trial::calls::write_in;
+use trial::cells::{minus, part_of, plus, times};
+use trial::guarded::Guarded;
 use trial::tally::{Call, Counted, Tally};
 
 // The writer tells the file's length, and the guards around the file stand.
-fn answer_right(answer: Answer, size: usize, out: &[u8]) -> bool {
-    is_told(answer, None, size, 0) & untouched(out, BYTES, size)
+fn answer_right(answer: Answer, size: usize, out: &Guarded<u8, 6160>) -> bool {
+    is_told(answer, None, size, 0) & out.stays_behind(size)
 }
 
 // What is read from a written file is written as the same file.
@@ -32,19 +33,18 @@ fn written_again(file: &[u8]) -> bool {
 }
 
 fn same_file(profile: &Profile, file: &[u8]) -> bool {
-    let mut out = [u8::GUARD; 6160];
-    let log = logfile::log_part(file);
-    let answer = write_in(profile, log, 6144, &mut out);
-    answer_right(answer, file.len(), &out) & (part_of(&out, BYTES, file.len()) == file)
+    let mut out = Guarded::<u8, 6160>::new(6144);
+    let answer = write_in(profile, logfile::log_part(file), &mut out);
+    answer_right(answer, file.len(), &out) & (out.first(file.len()) == file)
 }
 
 // Writes with one byte too little: refused by 9, nothing written.
 fn refuse_short(profile: &Profile, log: &[u8], t: &mut Tally) {
-    let mut out = [u8::GUARD; 6160];
     let room = minus(file_size(profile.shape, log.len()), 1);
-    let answer = write_in(profile, log, room, &mut out);
-    let right = is_refusal(answer, 9, 0, 0) & untouched(&out, 0, 0);
-    t.refused(Counted::File, right, Call::Write, 9);
+    let mut out = Guarded::<u8, 6160>::new(room);
+    let answer = write_in(profile, log, &mut out);
+    let right = is_refusal(answer, Refused::by(9)) & out.stays();
+    t.refused(Counted::File, right, Call::Write, Some(9));
 }
 
 // Reads a written file into exact and longer buffers, and into ones that are too short.
@@ -59,10 +59,10 @@ fn compare_rooms(shape: Shape, file: &[u8], extra: usize, t: &mut Tally) {
 
 // Writes the file of a log into more room than it needs; `extra` varies how much. Then reads it.
 fn compare_written(profile: &Profile, log: &[u8], extra: usize, t: &mut Tally) {
-    let mut out = [u8::GUARD; 6160];
     let size = file_size(profile.shape, log.len());
-    let answer = write_in(profile, log, plus(size, extra % 3), &mut out);
-    let file = part_of(&out, BYTES, size);
+    let mut out = Guarded::<u8, 6160>::new(plus(size, extra % 3));
+    let answer = write_in(profile, log, &mut out);
+    let file = out.first(size);
     let right = answer_right(answer, size, &out)
         & bytes_right(profile, log, file)
         & written_again(file);

@@ -1,22 +1,20 @@
 // The reader and the log part on a file, against the second reader.
 use crate::second_reader::{
-    field, file_refusal, finals, log_length, mask, move_count, move_set, refusal_place, section,
+    field, file_refusal, finals, log_length, mask, move_count, move_set, section,
 };
 use profile::{Refusal, Shape};
-use trial::cells::{Cell, part_of, plus, untouched, value_at, wide};
+use trial::answers::Refused;
+use trial::cells::{part_of, value_at, wide};
+use trial::guarded::Guarded;
 use trial::tally::{Call, Counted, Tally};
 
 // The refusal that is expected: 9 where a lent buffer is too short and the file is right.
-fn expected_refusal(file: &[u8], mask_room: usize, move_room: usize) -> usize {
-    let number = file_refusal(file);
-    if number != 0 {
-        return number;
+fn expected_refusal(file: &[u8], mask_room: usize, move_room: usize) -> Option<Refused> {
+    let whole = file_refusal(file);
+    if whole.is_none() & ((mask_room < field(file, 0)) | (move_room < move_count(file))) {
+        return Some(Refused::by(9));
     }
-    if (mask_room < field(file, 0)) | (move_room < move_count(file)) {
-        9
-    } else {
-        0
-    }
+    whole
 }
 
 // The file's numbers.
@@ -28,70 +26,61 @@ fn numbers_right(file: &[u8], shape: Shape, n: usize) -> bool {
         & (wide(shape.finals) == finals(file))
 }
 
-// The refusal has the number, and its place.
-fn refusal_right(file: &[u8], r: Refusal, number: usize) -> bool {
-    (wide(refusals::number(r)) == number) & (refusals::place(r) == refusal_place(file, number))
-}
-
-// The answer is the refusal with its place, or the file's numbers where it is 0.
-fn answer_right(file: &[u8], reading: Result<(Shape, usize), Refusal>, number: usize) -> bool {
+// The answer is the refusal that is expected, or has the file's numbers where none is.
+fn answer_right(
+    file: &[u8],
+    reading: Result<(Shape, usize), Refusal>,
+    expected: Option<Refused>,
+) -> bool {
     match reading {
-        Err(r) => refusal_right(file, r, number),
-        Ok((shape, n)) => (number == 0) & numbers_right(file, shape, n),
+        Err(r) => expected == Some(Refused::of(r)),
+        Ok((shape, n)) => expected.is_none() & numbers_right(file, shape, n),
     }
 }
 
-// The first masks of the lent part, which begins at 2, are those of the file, and the others stay.
-fn masks_right(file: &[u8], masks: &[u16]) -> bool {
-    (0..field(file, 0)).all(|i| value_at(masks, plus(2, i)) as usize == mask(file, i))
-        && untouched(masks, 2, field(file, 0))
+// The first masks of the lent part are those of the file, and the others stay.
+fn masks_right(file: &[u8], masks: &Guarded<u16, 32>) -> bool {
+    let k = field(file, 0);
+    (0..k).all(|i| value_at(masks.content(), i) as usize == mask(file, i)) && masks.stays_behind(k)
 }
 
-fn moves_right(file: &[u8], moves: &[u32]) -> bool {
-    (0..move_count(file)).all(|i| wide(value_at(moves, plus(2, i))) == move_set(file, i))
-        && untouched(moves, 2, move_count(file))
+fn moves_right(file: &[u8], moves: &Guarded<u32, 536>) -> bool {
+    let many = move_count(file);
+    (0..many).all(|i| wide(value_at(moves.content(), i)) == move_set(file, i))
+        && moves.stays_behind(many)
 }
 
-// Both buffers are filled, or unchanged where the call is refused.
-fn buffers_right(file: &[u8], number: usize, masks: &[u16], moves: &[u32]) -> bool {
-    if number == 0 {
+// The reader fills both buffers, or leaves them unchanged where the call is refused.
+fn read_right(
+    file: &[u8],
+    expected: Option<Refused>,
+    masks: &mut Guarded<u16, 32>,
+    moves: &mut Guarded<u32, 536>,
+) -> Option<bool> {
+    let reading = logfile::read_file(file, masks.lend()?, moves.lend()?);
+    let filled = if expected.is_none() {
         masks_right(file, masks) & moves_right(file, moves)
     } else {
-        untouched(masks, 0, 0) & untouched(moves, 0, 0)
-    }
+        masks.stays() & moves.stays()
+    };
+    Some(answer_right(file, reading, expected) & filled)
 }
 
-// The reader on lent parts of `mask_room` masks and `move_room` moves, which begin at 2.
-fn parts_right(
+fn reading_right(
     file: &[u8],
     mask_room: usize,
     move_room: usize,
-    number: usize,
-    masks: &mut [u16],
-    moves: &mut [u32],
+    expected: Option<Refused>,
 ) -> bool {
-    let mask_end = plus(2, mask_room);
-    let move_end = plus(2, move_room);
-    if mask_end < 2 || masks.len() < mask_end {
-        return false;
-    }
-    if move_end < 2 || moves.len() < move_end {
-        return false;
-    }
-    let reading = logfile::read_file(file, &mut masks[2..mask_end], &mut moves[2..move_end]);
-    answer_right(file, reading, number) & buffers_right(file, number, masks, moves)
-}
-
-fn reading_right(file: &[u8], mask_room: usize, move_room: usize, number: usize) -> bool {
-    let mut masks = [u16::GUARD; 24];
-    let mut moves = [u32::GUARD; 536];
-    parts_right(file, mask_room, move_room, number, &mut masks, &mut moves)
+    let mut masks = Guarded::<u16, 32>::new(mask_room);
+    let mut moves = Guarded::<u32, 536>::new(move_room);
+    read_right(file, expected, &mut masks, &mut moves) == Some(true)
 }
 
 // The log part is the log section, and empty where the file is refused by 1 to 8.
-fn part_right(file: &[u8], number: usize) -> bool {
+fn part_right(file: &[u8], expected: Option<Refused>) -> bool {
     let part = logfile::log_part(file);
-    if number == 0 {
+    if expected.is_none() {
         (part.len() == log_length(file)) & (part == part_of(file, section(file, 8), part.len()))
     } else {
         part.len() == 0
@@ -99,30 +88,33 @@ fn part_right(file: &[u8], number: usize) -> bool {
 }
 
 // Where the log section stands, or why the file is refused.
-fn location_right(file: &[u8], number: usize) -> bool {
-    let located = logfile::locate_log(file);
-    match located {
-        Err(r) => refusal_right(file, r, number),
-        Ok((at, n)) => { (number == 0) & (at == section(file, 8)) & (n == log_length(file)) }
+fn location_right(file: &[u8], expected: Option<Refused>) -> bool {
+    match logfile::locate_log(file) {
+        Err(r) => expected == Some(Refused::of(r)),
+        Ok((at, n)) => { expected.is_none() & (at == section(file, 8)) & (n == log_length(file)) }
     }
 }
 
-fn log_right(file: &[u8], number: usize) -> bool {
-    part_right(file, number) & location_right(file, number)
+fn log_right(file: &[u8], expected: Option<Refused>) -> bool {
+    part_right(file, expected) & location_right(file, expected)
 }
 
 // Compares the calls on a file with the second reader.
 pub fn compare_file(file: &[u8], mask_room: usize, move_room: usize, t: &mut Tally) {
-    let number = expected_refusal(file, mask_room, move_room);
+    let expected = expected_refusal(file, mask_room, move_room);
     let whole = file_refusal(file);
     t.count(Counted::Read);
-    if number == 0 {
-        let right = reading_right(file, mask_room, move_room, 0) & log_right(file, 0);
-        t.expect(Counted::File, right);
+    let right = reading_right(file, mask_room, move_room, expected);
+    let located = log_right(file, whole);
+    if expected.is_none() {
+        t.expect(Counted::File, right & located);
         t.count(Counted::Told);
         return;
     }
-    let right = reading_right(file, mask_room, move_room, number);
-    t.refused(Counted::File, right, Call::Read, number);
-    t.refused(Counted::File, log_right(file, whole), Call::Part, whole);
+    t.refused(Counted::File, right, Call::Read, number_of(expected));
+    t.refused(Counted::File, located, Call::Part, number_of(whole));
+}
+
+fn number_of(refused: Option<Refused>) -> Option<usize> {
+    refused.map(|r| r.number)
 }

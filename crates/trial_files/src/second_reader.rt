@@ -1,4 +1,5 @@
 // A second reader of log files, from document 01's table of the trailer and its list of refusals, and document 02's words on long logs.
+use trial::answers::Refused;
 use trial::cells::{bit, byte_at, minus, plus, times};
 
 // The number of two bytes at `at`, low byte first, and of four.
@@ -55,7 +56,7 @@ pub fn move_set(file: &[u8], i: usize) -> usize {
 
 // Some bit of v from i on is set.
 fn bit_from(v: usize, i: usize) -> bool {
-    if i < 64 { v >> i != 0 } else { false }
+    i < 64 && v >> i != 0
 }
 
 // 2; "byte 11 stays zero".
@@ -89,52 +90,37 @@ fn bad_set(file: &[u8]) -> bool {
     (0..move_count(file)).any(|i| bit_from(move_set(file, i), s)) || bit_from(finals(file), s)
 }
 
-// 8: the first place whose byte is k or more; n where there is none.
-fn bad_place(file: &[u8]) -> usize {
+// 8: the first place whose byte is k or more.
+fn bad_place(file: &[u8]) -> Option<usize> {
     let k = field(file, 0);
-    let n = log_length(file);
     let at = section(file, 8);
-    for i in 0..n {
-        if k <= byte_at(file, plus(at, i)) {
-            return i;
-        }
-    }
-    n
+    (0..log_length(file)).find(|&i| k <= byte_at(file, plus(at, i)))
 }
 
-// 4, 6, 7 and 8; 0 is none. "Refusal 7 now starts at 4,001 and applies to files too, before 8."
-fn content_refusal(file: &[u8]) -> usize {
+// 4, 6, 7 and 8. "Refusal 7 now starts at 4,001 and applies to files too, before 8."
+fn content_refusal(file: &[u8]) -> Option<Refused> {
     if bad_mask(file) {
-        return 4;
+        return Some(Refused::by(4));
     }
     if bad_set(file) {
-        return 6;
+        return Some(Refused::by(6));
     }
     if 4000 < log_length(file) {
-        return 7;
+        return Some(Refused::by(7));
     }
-    if bad_place(file) < log_length(file) {
-        8
-    } else {
-        0
-    }
+    Some(Refused::at(8, bad_place(file)?))
 }
 
-// The refusal of the file by 1 to 8; 0 is none.
-pub fn file_refusal(file: &[u8]) -> usize {
+// The refusal of the file by 1 to 8.
+pub fn file_refusal(file: &[u8]) -> Option<Refused> {
     if file.len() < 16 {
-        return 1;
+        return Some(Refused::by(1));
     }
     if out_of_range(file) {
-        return 2;
+        return Some(Refused::by(2));
     }
     if far_section(file) {
-        return 3;
+        return Some(Refused::by(3));
     }
     content_refusal(file)
-}
-
-// The place of that refusal.
-pub fn refusal_place(file: &[u8], number: usize) -> usize {
-    if number == 8 { bad_place(file) } else { 0 }
 }

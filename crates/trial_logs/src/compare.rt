@@ -28,13 +28,6 @@ fn refuse_short(profile: &Profile, log: &[u8], t: &mut Tally) {
     refuse_judge(profile, log, 9, minus(log.len(), 1), 1300, t);
 }
 
-// Counts a log under one-way masks.
-fn count_masks(masks: &[u16], t: &mut Tally) {
-    if one_way(masks) {
-        t.count(Counted::OneWayLogs);
-    }
-}
-
 // Compares all calls on one log; `extra` varies how much longer or shorter than needed the lent buffers are.
 pub fn compare_log(profile: &Profile, log: &[u8], extra: usize, t: &mut Tally) {
     let needed = record_at(prefix_count(profile.masks, log));
@@ -44,6 +37,6 @@ pub fn compare_log(profile: &Profile, log: &[u8], extra: usize, t: &mut Tally) {
     compare_table(profile, log, room, long, t);
     compare_table(profile, log, room, short, t);
     refuse_short(profile, log, t);
-    count_masks(profile.masks, t);
+    t.count_if(Counted::OneWayLogs, one_way(profile.masks));
     compare_orders(profile.shape.k, profile.masks, log, room, t);
 }

@@ -1,6 +1,6 @@
 // Paths of the automaton, state by state: where a log leads, and whether it is accepted.
-use crate::listing::{earlier, row};
-use profile::Shape;
+use crate::listing::{Listing, earlier};
+use profile::Profile;
 use trial::cells::{bit, one32, plus, value_at, wide};
 
 // The states to which the move at place `at` leads from state q, where q is in the set.
@@ -24,55 +24,61 @@ fn moved(k: usize, s: usize, moves: &[u32], set: u32, a: usize) -> u32 {
 }
 
 // The states in which the paths from the set end that spell the word.
-pub fn ends(shape: Shape, moves: &[u32], set: u32, word: &[u8]) -> u32 {
-    let k = shape.k;
-    let s = shape.s;
-    word.iter()
-        .fold(set, |now, letter| moved(k, s, moves, now, wide(*letter)))
+pub fn ends(profile: &Profile, set: u32, word: &[u8]) -> u32 {
+    let k = profile.shape.k;
+    let s = profile.shape.s;
+    word.iter().fold(
+        set,
+        |now, letter| moved(k, s, profile.moves, now, wide(*letter)),
+    )
+}
+
+// The states to which the word leads from the start.
+pub fn led(profile: &Profile, word: &[u8]) -> u32 {
+    ends(profile, one32(profile.shape.start), word)
 }
 
 // Some path from state q spells the word and ends in a final state.
-fn finishes(shape: Shape, moves: &[u32], q: usize, word: &[u8]) -> bool {
-    ends(shape, moves, one32(q), word) & shape.finals != 0
+fn finishes(profile: &Profile, q: usize, word: &[u8]) -> bool {
+    ends(profile, one32(q), word) & profile.shape.finals != 0
 }
 
-// The states to which some listed log leads from the start.
-pub fn forward(shape: Shape, moves: &[u32], rows: &[u8], count: usize, n: usize) -> u32 {
-    let start = one32(shape.start);
-    (0..count).fold(0, |out, r| out | ends(shape, moves, start, row(rows, r, n)))
+// Some path from the start does.
+pub fn accepts(profile: &Profile, word: &[u8]) -> bool {
+    finishes(profile, profile.shape.start, word)
 }
 
 // The states from which the word leads to a final state.
-fn beginnings(shape: Shape, moves: &[u32], word: &[u8]) -> u32 {
-    let s = shape.s;
-    (0..s)
-        .filter(|&q| finishes(shape, moves, q, word))
+pub fn beginnings(profile: &Profile, word: &[u8]) -> u32 {
+    (0..profile.shape.s)
+        .filter(|&q| finishes(profile, q, word))
         .fold(0, |out, q| out | one32(q))
 }
 
+// The states to which some listed log leads from the start.
+pub fn forward(profile: &Profile, listing: &Listing) -> u32 {
+    (0..listing.count()).fold(0, |out, r| out | led(profile, listing.row(r)))
+}
+
 // The states from which some listed log leads to a final state.
-pub fn backward(shape: Shape, moves: &[u32], rows: &[u8], count: usize, n: usize) -> u32 {
-    (0..count).fold(0, |out, r| out | beginnings(shape, moves, row(rows, r, n)))
+pub fn backward(profile: &Profile, listing: &Listing) -> u32 {
+    (0..listing.count()).fold(0, |out, r| out | beginnings(profile, listing.row(r)))
 }
 
-// Row r is earlier than row `best`, or nothing was found yet.
-fn better(rows: &[u8], count: usize, n: usize, best: usize, r: usize) -> bool {
-    (best == count) | earlier(row(rows, r, n), row(rows, best, n))
+// Row r is earlier than the best, or nothing was found yet.
+fn better(listing: &Listing, best: Option<usize>, r: usize) -> bool {
+    match best {
+        Some(b) => earlier(listing.row(r), listing.row(b)),
+        None => true,
+    }
 }
 
-// The row of the earliest accepted log; the number of rows where there is none.
-pub fn earliest_accepted(
-    shape: Shape,
-    moves: &[u32],
-    rows: &[u8],
-    count: usize,
-    n: usize,
-) -> usize {
-    let start = shape.start;
-    let mut best = count;
-    for r in 0..count {
-        if finishes(shape, moves, start, row(rows, r, n)) & better(rows, count, n, best, r) {
-            best = r;
+// The row of the earliest accepted log.
+pub fn earliest_accepted(profile: &Profile, listing: &Listing) -> Option<usize> {
+    let mut best = None;
+    for r in 0..listing.count() {
+        if accepts(profile, listing.row(r)) & better(listing, best, r) {
+            best = Some(r);
         }
     }
     best

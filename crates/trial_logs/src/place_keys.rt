@@ -22,25 +22,45 @@ pub fn key_of(log: &[u8], marks: usize) -> usize {
         .fold(0, |key, (_, letter)| plus(key, weight(wide(*letter))))
 }
 
-// Adds the key of the marks where they are a prefix; the new number of keys.
-fn take_key(masks: &[u16], log: &[u8], marks: usize, keys: &mut [usize], n: usize) -> usize {
-    if !is_prefix(masks, log, marks) {
-        return n;
-    }
-    put(keys, n, key_of(log, marks));
-    plus(n, 1)
+// The keys of prefixes, each once.
+#[derive(Clone, Copy)]
+pub struct Keys {
+    keys: [usize; 256],
+    count: usize,
 }
 
-// The keys of all prefixes, by trying every set of marks; how many they are.
-pub fn put_keys(masks: &[u16], log: &[u8], keys: &mut [usize]) -> usize {
-    let mut n = 0;
-    for marks in 0..256 {
-        n = take_key(masks, log, marks, keys, n);
+impl Keys {
+    // Those of all prefixes of the log, by trying every set of marks.
+    pub fn of(masks: &[u16], log: &[u8]) -> Self {
+        Keys::of_events(masks, log, log)
     }
-    n
-}
 
-// How many of the first n keys are smaller: the place of the key among them.
-pub fn place_of(keys: &[usize], n: usize, key: usize) -> usize {
-    keys.iter().take(n).filter(|x| **x < key).count()
+    // Those of the sets of marks that are prefixes of the events by the masks; the events have these letters.
+    pub fn of_events(masks: &[u16], events: &[u8], letters: &[u8]) -> Self {
+        let mut found = Keys {
+            keys: [0; 256],
+            count: 0,
+        };
+        for marks in 0..256 {
+            if is_prefix(masks, events, marks) {
+                let n = found.count;
+                put(&mut found.keys, n, key_of(letters, marks));
+                found.count = plus(n, 1);
+            }
+        }
+        found
+    }
+
+    pub fn count(&self) -> usize {
+        self.count
+    }
+
+    // How many are smaller: the place of the key among them.
+    pub fn place_of(&self, key: usize) -> usize {
+        self.keys
+            .iter()
+            .take(self.count)
+            .filter(|x| **x < key)
+            .count()
+    }
 }

@@ -1,9 +1,9 @@
 // The judge on one log under two nested lists of pairs, each answer against the listing, and the two beside each other.
-use profile::{Profile, Shape};
+use profile::Profile;
 use trial::cells::{copy, part_of};
 use trial::tally::{Counter, Tally};
 use trial_logs::judging::compare_judge;
-use trial_logs::listing::{earlier, list, row};
+use trial_logs::listing::{Listing, earlier};
 use trial_logs::paths::earliest_accepted;
 use trial_logs::prefixes::{look_count, prefix_count};
 
@@ -29,45 +29,46 @@ impl Counter for Beside {
     }
 }
 
-// What the listing says of a log: some listed log is accepted, the earliest of these, P and looks.
+// What the listing says of a log: the earliest accepted listed log, if there is one, P and looks.
 #[derive(Clone, Copy)]
-pub struct Outcome {
-    pub good: bool,
-    pub order: [u8; 8],
-    pub prefixes: usize,
-    pub looks: usize,
+struct Outcome {
+    order: Option<[u8; 8]>,
+    prefixes: usize,
+    looks: usize,
+}
+
+// Up to eight letters by value.
+fn letters_of(word: &[u8]) -> [u8; 8] {
+    let mut letters = [0u8; 8];
+    copy(word, &mut letters);
+    letters
 }
 
 fn outcome_of(profile: &Profile, log: &[u8]) -> Outcome {
-    let mut rows = [0u8; 16384];
-    let mut order = [0u8; 8];
-    let n = log.len();
-    let count = list(profile.masks, log, &mut rows);
-    let best = earliest_accepted(profile.shape, profile.moves, &rows, count, n);
-    copy(row(&rows, best, n), &mut order);
+    let listing = Listing::of(profile.masks, log);
     Outcome {
-        good: best < count,
-        order: order,
+        order: earliest_accepted(profile, &listing).map(|r| letters_of(listing.row(r))),
         prefixes: prefix_count(profile.masks, log),
         looks: look_count(profile.masks, log),
     }
 }
 
 // The orders, where both have one.
-fn compare_orders(a: Outcome, b: Outcome, n: usize, t: &mut Tally) {
-    let old = a.order;
-    let new = b.order;
-    let first = part_of(&old, 0, n);
-    let second = part_of(&new, 0, n);
-    let both = a.good & b.good;
-    t.expect(Beside::Later, !(both & earlier(first, second)));
-    t.count_if(Beside::Earlier, both & (first != second));
+fn compare_orders(a: &Outcome, b: &Outcome, n: usize, t: &mut Tally) {
+    if let (Some(old), Some(new)) = (a.order, b.order) {
+        let first = part_of(&old, 0, n);
+        let second = part_of(&new, 0, n);
+        t.expect(Beside::Later, !earlier(first, second));
+        t.count_if(Beside::Earlier, first != second);
+    }
 }
 
 // a under the pairs of one list, b under those of a list that holds them all.
-fn compare_outcomes(a: Outcome, b: Outcome, n: usize, t: &mut Tally) {
-    t.expect(Beside::TurnedBad, !(a.good & !b.good));
-    t.count_if(Beside::TurnedGood, b.good & !a.good);
+fn compare_outcomes(a: &Outcome, b: &Outcome, n: usize, t: &mut Tally) {
+    let old = a.order.is_some();
+    let new = b.order.is_some();
+    t.expect(Beside::TurnedBad, !(old & !new));
+    t.count_if(Beside::TurnedGood, new & !old);
     compare_orders(a, b, n, t);
     t.expect(Beside::FewerPrefixes, a.prefixes <= b.prefixes);
     t.expect(Beside::FewerLooks, a.looks <= b.looks);
@@ -75,57 +76,19 @@ fn compare_outcomes(a: Outcome, b: Outcome, n: usize, t: &mut Tally) {
     t.count_if(Beside::MoreLooks, a.looks < b.looks);
 }
 
-// Judges a log of at most eight events under both lists, in tables that are large enough; `longer` holds every bit of `masks`.
-pub fn compare_nested(
-    shape: Shape,
-    masks: &[u16],
-    longer: &[u16],
-    moves: &[u32],
-    log: &[u8],
-    t: &mut Tally,
-) {
+// Judges a log of at most eight events under both lists, in tables that are large enough; `longer` holds every bit of the profile's own masks.
+pub fn compare_nested(profile: &Profile, longer: &[u16], log: &[u8], t: &mut Tally) {
     let n = log.len();
-    let a = outcome_of(
-        &Profile {
-            shape,
-            masks,
-            moves,
-        },
-        log,
-    );
-    let b = outcome_of(
-        &Profile {
-            shape,
-            masks: longer,
-            moves,
-        },
-        log,
-    );
-    compare_judge(
-        &Profile {
-            shape,
-            masks,
-            moves,
-        },
-        log,
-        a.prefixes,
-        n,
-        1300,
-        t,
-    );
-    compare_judge(
-        &Profile {
-            shape,
-            masks: longer,
-            moves,
-        },
-        log,
-        b.prefixes,
-        n,
-        1400,
-        t,
-    );
+    let more = Profile {
+        shape: profile.shape,
+        masks: longer,
+        moves: profile.moves,
+    };
+    let a = outcome_of(profile, log);
+    let b = outcome_of(&more, log);
+    compare_judge(profile, log, a.prefixes, n, 1300, t);
+    compare_judge(&more, log, b.prefixes, n, 1400, t);
     t.count(Beside::Nested);
-    t.count_if(Beside::Equal, masks == longer);
-    compare_outcomes(a, b, n, t);
+    t.count_if(Beside::Equal, profile.masks == longer);
+    compare_outcomes(&a, &b, n, t);
 }

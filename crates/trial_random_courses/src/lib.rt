@@ -4,9 +4,10 @@
 mod typing;
 
 use crate::typing::put_text;
-use profile::{Profile, Shape};
-use trial::calls::table_part;
-use trial::cells::{Cell, byte, copy, part_of, plus, put, times};
+use profile::Profile;
+use trial::answers::Refused;
+use trial::cells::{byte, copy, part_of, plus, put, times};
+use trial::guarded::Guarded;
 use trial::random::{below, put_log, seed_of};
 use trial::tally::Tally;
 use trial_courses::answers::{make_in, profile_in};
@@ -20,31 +21,16 @@ use trial_grammar::parts::CELLS;
 use trial_grammar::words::{letter_at, letter_count};
 
 // Compares the verdict on one log, with nothing independent.
-fn compare_log(
-    text: &[u8],
-    shape: Shape,
-    moves: &[u32],
-    log: &[u8],
-    table: &mut [usize],
-    t: &mut Tally,
-) {
-    let k = shape.k;
-    let masks = [0u16; 16];
+fn compare_log(text: &[u8], profile: &Profile, log: &[u8], table: &mut [usize], t: &mut Tally) {
+    let k = profile.shape.k;
     let described = describes(Members::Letters, k, text, log, Around::Alone, table);
-    let verdict = verdict_of(
-        &Profile {
-            shape,
-            masks: part_of(&masks, 0, k),
-            moves,
-        },
-        log,
-    );
+    let verdict = verdict_of(profile, log);
     counters::judged(
-        t,
         Counted::RandomLogs,
         Counted::DescribedRandomLogs,
         described,
         verdict,
+        t,
     );
 }
 
@@ -112,100 +98,81 @@ fn put_grown(
 fn compare_near(
     seed: usize,
     text: &[u8],
-    shape: Shape,
-    moves: &[u32],
+    profile: &Profile,
     log: &[u8],
     table: &mut [usize],
     t: &mut Tally,
 ) {
-    let k = shape.k;
     let mut near = [0u8; 8];
     copy(log, &mut near);
     put(
         &mut near,
         below(seed, 21, log.len()),
-        byte(below(seed, 22, k)),
+        byte(below(seed, 22, profile.shape.k)),
     );
-    compare_log(text, shape, moves, part_of(&near, 0, log.len()), table, t);
+    compare_log(text, profile, part_of(&near, 0, log.len()), table, t);
 }
 
 // A log made for the text, and one near it.
-fn compare_grown(
-    seed: usize,
-    text: &[u8],
-    shape: Shape,
-    moves: &[u32],
-    table: &mut [usize],
-    t: &mut Tally,
-) {
+fn compare_grown(seed: usize, text: &[u8], profile: &Profile, table: &mut [usize], t: &mut Tally) {
     let mut letters = [0u8; 8];
-    let n = put_grown(seed, shape.k, text, below(seed, 20, 6), &mut letters, table);
-    compare_log(text, shape, moves, part_of(&letters, 0, n), table, t);
-    compare_near(seed, text, shape, moves, part_of(&letters, 0, n), table, t);
+    let least = below(seed, 20, 6);
+    let n = put_grown(seed, profile.shape.k, text, least, &mut letters, table);
+    let log = part_of(&letters, 0, n);
+    compare_log(text, profile, log, table, t);
+    compare_near(seed, text, profile, log, table, t);
 }
 
 // A log at random.
-fn compare_any(
-    seed: usize,
-    text: &[u8],
-    shape: Shape,
-    moves: &[u32],
-    table: &mut [usize],
-    t: &mut Tally,
-) {
+fn compare_any(seed: usize, text: &[u8], profile: &Profile, table: &mut [usize], t: &mut Tally) {
     let mut letters = [0u8; 8];
     let n = below(seed, 23, 8);
-    put_log(seed, shape.k, n, &mut letters);
-    compare_log(text, shape, moves, part_of(&letters, 0, n), table, t);
+    put_log(seed, profile.shape.k, n, &mut letters);
+    compare_log(text, profile, part_of(&letters, 0, n), table, t);
 }
 
 // The moves of a text with few letters, as the lists to ask for grow with their square; and logs.
 fn compare_profile(
     seed: usize,
     text: &[u8],
-    shape: Shape,
-    moves: &[u32],
+    profile: &Profile,
     table: &mut [usize],
     t: &mut Tally,
 ) {
-    compare_any(seed, text, shape, moves, table, t);
-    compare_grown(seed, text, shape, moves, table, t);
-    if 8 < shape.s {
-        return;
+    compare_any(seed, text, profile, table, t);
+    compare_grown(seed, text, profile, table, t);
+    if profile.shape.s <= 8 {
+        compare_moves(profile.shape.k, text, profile, table, t);
     }
-    compare_moves(shape.k, text, shape, moves, table, t);
 }
 
 // A right text with the letters of a profile of s states.
 fn compare_right(seed: usize, k: usize, text: &[u8], s: usize, table: &mut [usize], t: &mut Tally) {
-    let mut numbers = [u32::GUARD; 528];
-    let made = make_in(k, text, plus(times(k, s), below(seed, 30, 8)), &mut numbers);
+    let mut moves = Guarded::<u32, 528>::new(plus(times(k, s), below(seed, 30, 8)));
+    let made = make_in(k, text, &mut moves);
     t.count(Counted::RandomRight);
-    let Some(shape) = profile_in(made, k, s, &numbers) else {
+    let Some(shape) = profile_in(made, k, s, &moves) else {
         t.count(Counted::Profile);
         return;
     };
-    let moves = part_of(table_part(&numbers), 0, times(k, s));
-    compare_profile(seed, text, shape, moves, table, t);
+    let profile = Profile {
+        shape,
+        masks: part_of(&[0u16; 16], 0, k),
+        moves: moves.first(times(k, s)),
+    };
+    compare_profile(seed, text, &profile, table, t);
 }
 
 fn compare_text(seed: usize, k: usize, text: &[u8], table: &mut [usize], t: &mut Tally) {
     t.count(Counted::Random);
     if !is_right(k, text) {
-        refuse(
-            k,
-            text,
-            below(seed, 31, 50),
-            11,
-            place_of(k, text),
-            Counted::Refusal,
-            t,
-        );
+        let expected = Refused::at(11, place_of(k, text));
+        refuse(k, text, below(seed, 31, 50), expected, Counted::Refusal, t);
         return;
     }
     let n = letter_count(k, text);
     if 31 < n {
-        refuse(k, text, 0, 13, 0, Counted::Refusal, t);
+        refuse(k, text, 0, Refused::by(13), Counted::Refusal, t);
         return;
     }
     compare_right(seed, k, text, plus(n, 1), table, t);

@@ -6,9 +6,10 @@
 #![tactic(auto)]
 
 use profile::{Profile, Shape};
-use trial::answers::{Answer, is_refusal, is_unchanged, of_compared};
+use trial::answers::{Answer, Refused, is_unchanged, of_compared, refused_as};
 use trial::calls::{build_in, first_order_in, judge_in, write_in};
-use trial::cells::{Cell, bit, byte, minus, part_of, plus, put};
+use trial::cells::{bit, byte, minus, part_of, plus, put};
+use trial::guarded::Guarded;
 use trial::shapes::shape_of;
 use trial::tally::{Call, Counted, Tally};
 
@@ -19,26 +20,26 @@ const SEEN: usize = 6;
 
 const HUGE: usize = 18446744073709551615;
 
-fn number_of(i: usize) -> usize {
-    match i {
-        0 => 2,
-        1 => 4,
-        3 => 6,
-        4 => 7,
-        5 => 8,
-        6 => 9,
-        _ => 10,
-    }
-}
+// The number by which each damage is refused, if it is.
+const NUMBERS: [Option<usize>; 8] = [
+    Some(2),
+    Some(4),
+    None,
+    Some(6),
+    Some(7),
+    Some(8),
+    Some(9),
+    Some(10),
+];
 
-// The lowest number of the damages that a call knows; 0 where there is none.
-fn lowest(damages: usize, known: usize) -> usize {
-    for i in 0..8 {
-        if bit(damages & known, i) {
-            return number_of(i);
-        }
-    }
-    0
+// The refusal by the lowest number of the damages that a call knows.
+fn lowest(damages: usize, known: usize, variant: usize) -> Option<Refused> {
+    let number = NUMBERS
+        .iter()
+        .enumerate()
+        .filter(|(i, _)| bit(damages & known, *i))
+        .find_map(|(_, number)| *number)?;
+    Some(refused_by(number, variant))
 }
 
 // 2: k is 0, 17, huge, or not the number of masks.
@@ -195,7 +196,7 @@ fn log_length(long: bool, variant: usize) -> usize {
     if variant % 2 == 0 { 4001 } else { 4010 }
 }
 
-// 8: a byte of k or more, first at the place that `bad_place` tells; else a letter of cab, over and over.
+// 8: a byte of k or more, first at the place that `refused_by` tells; else a letter of cab, over and over.
 fn letter_of(bad: bool, variant: usize, i: usize) -> usize {
     if bad {
         match (variant % 3) * 3 + i % 256 {
@@ -209,14 +210,15 @@ fn letter_of(bad: bool, variant: usize, i: usize) -> usize {
     plus(i, 2) % 3
 }
 
-fn bad_place(number: usize, variant: usize) -> usize {
+// The refusal by the number, at its place.
+fn refused_by(number: usize, variant: usize) -> Refused {
     if number != 8 {
-        return 0;
+        return Refused::by(number);
     }
     match variant % 3 {
-        0 => 0,
-        1 => 2,
-        _ => 1,
+        0 => Refused::at(8, 0),
+        1 => Refused::at(8, 2),
+        _ => Refused::at(8, 1),
     }
 }
 
@@ -253,82 +255,44 @@ fn table_size(damages: usize, variant: usize) -> usize {
     }
 }
 
-// The answer and the buffers of a call that is expected to be refused by the number; 0 is none.
-fn refused_right(
+// The answer and the buffers of a call.
+fn refused_right<const M: usize, const N: usize>(
     answer: Answer,
-    number: usize,
-    variant: usize,
-    buffer: &[u8],
-    numbers: &[u32],
-    size: usize,
+    expected: Option<Refused>,
+    order: &Guarded<u8, M>,
+    table: &Guarded<u32, N>,
 ) -> bool {
-    is_refusal(answer, number, bad_place(number, variant), 0)
-        & (number == 0 || is_unchanged(number, buffer, numbers, size))
+    let left = match expected {
+        Some(r) => is_unchanged(r.number, order, table),
+        None => true,
+    };
+    refused_as(answer, expected) & left
 }
 
 // Counts a combination of one call.
-fn close(right: bool, call: Call, number: usize, t: &mut Tally) {
+fn close(right: bool, call: Call, expected: Option<Refused>, t: &mut Tally) {
     t.count(Counted::Combined);
-    t.refused(Counted::Refusal, right, call, number);
+    t.refused(Counted::Refusal, right, call, expected.map(|r| r.number));
 }
 
 // The judge knows all that are refused.
-fn judge_with(
-    damages: usize,
-    variant: usize,
-    masks: &[u16],
-    moves: &[u32],
-    log: &[u8],
-    t: &mut Tally,
-) {
-    let mut buffer = [u8::GUARD; 4024];
-    let mut numbers = [u32::GUARD; 88];
-    let shape = damaged_shape(damages, variant);
-    let room = room_for(damages, variant, log.len());
-    let size = table_size(damages, variant);
-    let number = lowest(damages, 251);
-    let answer = judge_in(
-        &Profile {
-            shape,
-            masks,
-            moves,
-        },
-        log,
-        room,
-        size,
-        &mut buffer,
-        &mut numbers,
-    );
-    let right = refused_right(answer, number, variant, &buffer, &numbers, size);
-    close(right, Call::Judge, number, t);
+fn judge_with(damages: usize, variant: usize, profile: &Profile, log: &[u8], t: &mut Tally) {
+    let mut order = Guarded::<u8, 4024>::new(room_for(damages, variant, log.len()));
+    let mut table = Guarded::<u32, 88>::new(table_size(damages, variant));
+    let expected = lowest(damages, 251, variant);
+    let answer = judge_in(profile, log, &mut order, &mut table);
+    let right = refused_right(answer, expected, &order, &table);
+    close(right, Call::Judge, expected, t);
 }
 
 // Building has no order buffer.
-fn build_with(
-    damages: usize,
-    variant: usize,
-    masks: &[u16],
-    moves: &[u32],
-    log: &[u8],
-    t: &mut Tally,
-) {
-    let buffer = [u8::GUARD; 1];
-    let mut numbers = [u32::GUARD; 88];
-    let shape = damaged_shape(damages, variant);
-    let size = table_size(damages, variant);
-    let number = lowest(damages, 187);
-    let answer = build_in(
-        &Profile {
-            shape,
-            masks,
-            moves,
-        },
-        log,
-        size,
-        &mut numbers,
-    );
-    let right = refused_right(answer, number, variant, &buffer, &numbers, size);
-    close(right, Call::Build, number, t);
+fn build_with(damages: usize, variant: usize, profile: &Profile, log: &[u8], t: &mut Tally) {
+    let order = Guarded::<u8, 1>::new(0);
+    let mut table = Guarded::<u32, 88>::new(table_size(damages, variant));
+    let expected = lowest(damages, 187, variant);
+    let answer = build_in(profile, log, &mut table);
+    let right = refused_right(answer, expected, &order, &table);
+    close(right, Call::Build, expected, t);
 }
 
 // What the first order does not know: s, start, moves, the final set, the table.
@@ -336,58 +300,32 @@ fn known_to_order(variant: usize) -> usize {
     if variant < SEEN { 115 } else { 114 }
 }
 
-fn first_order_with(damages: usize, variant: usize, masks: &[u16], log: &[u8], t: &mut Tally) {
-    let mut buffer = [u8::GUARD; 4024];
-    let numbers = [u32::GUARD; 1];
-    let k = letters_of(damages, variant);
-    let room = room_for(damages, variant, log.len());
-    let number = lowest(damages, known_to_order(variant));
-    let answer = first_order_in(k, masks, log, room, &mut buffer);
-    let right = refused_right(answer, number, variant, &buffer, &numbers, 0);
-    close(right, Call::First, number, t);
+fn first_order_with(damages: usize, variant: usize, profile: &Profile, log: &[u8], t: &mut Tally) {
+    let mut order = Guarded::<u8, 4024>::new(room_for(damages, variant, log.len()));
+    let table = Guarded::<u32, 1>::new(0);
+    let expected = lowest(damages, known_to_order(variant), variant);
+    let answer = first_order_in(profile.shape.k, profile.masks, log, &mut order);
+    let right = refused_right(answer, expected, &order, &table);
+    close(right, Call::First, expected, t);
 }
 
 // The writer has no table; its file has 58 bytes beside the log.
-fn write_with(
-    damages: usize,
-    variant: usize,
-    masks: &[u16],
-    moves: &[u32],
-    log: &[u8],
-    t: &mut Tally,
-) {
-    let mut buffer = [u8::GUARD; 4080];
-    let numbers = [u32::GUARD; 1];
-    let shape = damaged_shape(damages, variant);
+fn write_with(damages: usize, variant: usize, profile: &Profile, log: &[u8], t: &mut Tally) {
     let room = room_for(damages, variant, plus(58, log.len()));
-    let number = lowest(damages, 123);
-    let answer = write_in(
-        &Profile {
-            shape,
-            masks,
-            moves,
-        },
-        log,
-        room,
-        &mut buffer,
-    );
-    let right = refused_right(answer, number, variant, &buffer, &numbers, 0);
-    close(right, Call::Write, number, t);
+    let mut file = Guarded::<u8, 4080>::new(room);
+    let table = Guarded::<u32, 1>::new(0);
+    let expected = lowest(damages, 123, variant);
+    let answer = write_in(profile, log, &mut file);
+    let right = refused_right(answer, expected, &file, &table);
+    close(right, Call::Write, expected, t);
 }
 
 // The four calls on one log, with the damages of the combination in one variant.
-fn combine_with(
-    damages: usize,
-    variant: usize,
-    masks: &[u16],
-    moves: &[u32],
-    log: &[u8],
-    t: &mut Tally,
-) {
-    judge_with(damages, variant, masks, moves, log, t);
-    build_with(damages, variant, masks, moves, log, t);
-    first_order_with(damages, variant, masks, log, t);
-    write_with(damages, variant, masks, moves, log, t);
+fn combine_with(damages: usize, variant: usize, profile: &Profile, log: &[u8], t: &mut Tally) {
+    judge_with(damages, variant, profile, log, t);
+    build_with(damages, variant, profile, log, t);
+    first_order_with(damages, variant, profile, log, t);
+    write_with(damages, variant, profile, log, t);
 }
 
 fn combine(damages: usize, variant: usize, t: &mut Tally) {
@@ -397,14 +335,12 @@ fn combine(damages: usize, variant: usize, t: &mut Tally) {
     put_masks(damages, variant, &mut masks);
     put_moves(bit(damages, 3), variant, &mut moves);
     let n = put_log(bit(damages, 4), bit(damages, 5), variant, &mut log);
-    combine_with(
-        damages,
-        variant,
-        part_of(&masks, 0, mask_count(damages, variant)),
-        part_of(&moves, 0, move_count(damages, variant)),
-        part_of(&log, 0, n),
-        t,
-    );
+    let profile = Profile {
+        shape: damaged_shape(damages, variant),
+        masks: part_of(&masks, 0, mask_count(damages, variant)),
+        moves: part_of(&moves, 0, move_count(damages, variant)),
+    };
+    combine_with(damages, variant, &profile, part_of(&log, 0, n), t);
 }
 
 // All combinations in all variants: 256 × 13.
@@ -414,42 +350,29 @@ fn combine_all(t: &mut Tally) {
     }
 }
 
-// What `same` expects: the number, the place and the log. Bits 3 and 4 are 7 and 8 in the first log, 5 and 6 in the second.
-fn same_number(damages: usize) -> usize {
+// What `same` expects. Bits 3 and 4 are 7 and 8 in the first log, 5 and 6 in the second, which has another variant.
+fn same_refusal(damages: usize, variant: usize) -> Option<Refused> {
     if bit(damages, 0) {
-        return 2;
+        return Some(Refused::by(2));
     }
     if bit(damages, 1) {
-        return 4;
+        return Some(Refused::by(4));
     }
-    if bit(damages, 3) {
-        return 7;
+    let first = log_refusal(bit(damages, 3), bit(damages, 4), 1, variant);
+    if first.is_some() {
+        return first;
     }
-    if bit(damages, 4) {
-        return 8;
-    }
-    if bit(damages, 5) {
-        return 7;
-    }
-    if bit(damages, 6) { 8 } else { 0 }
+    log_refusal(bit(damages, 5), bit(damages, 6), 2, plus(variant, 1))
 }
 
-fn same_log(damages: usize) -> usize {
-    if damages & 3 != 0 {
-        return 0;
+// 7 or 8 in a log.
+fn log_refusal(long: bool, bad: bool, log: usize, variant: usize) -> Option<Refused> {
+    if !long & !bad {
+        return None;
     }
-    if damages & 24 != 0 {
-        return 1;
-    }
-    if damages & 96 != 0 { 2 } else { 0 }
-}
-
-fn same_place(number: usize, log: usize, variant: usize) -> usize {
-    if log == 2 {
-        bad_place(number, plus(variant, 1))
-    } else {
-        bad_place(number, variant)
-    }
+    let mut refused = refused_by(if long { 7 } else { 8 }, variant);
+    refused.log = log;
+    Some(refused)
 }
 
 fn combine_same(damages: usize, variant: usize, t: &mut Tally) {
@@ -470,10 +393,8 @@ fn combine_same(damages: usize, variant: usize, t: &mut Tally) {
         part_of(&first, 0, n),
         part_of(&second, 0, m),
     ));
-    let number = same_number(damages);
-    let log = same_log(damages);
-    let right = is_refusal(answer, number, same_place(number, log, variant), log);
-    close(right, Call::Same, number, t);
+    let expected = same_refusal(damages, variant);
+    close(refused_as(answer, expected), Call::Same, expected, t);
 }
 
 // 128 combinations, in the variants of 2 that `same` sees.

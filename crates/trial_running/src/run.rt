@@ -1,12 +1,13 @@
 // A run: a start, then events and questions in any order, with the record and the table lent each time as the last call left them. After each call the answer,
 // the record and the table are compared with the listing, and after each event the judge's answer for the events taken.
-use crate::arrivals::put_arrivals;
-use crate::lent::{event_in, question_in, start_in};
+use crate::arrivals::Arrivals;
+use crate::lent::{Table, event_in, question_in, start_in};
 use crate::run_records::{accepted, room, table_right};
 use profile::{Profile, Shape};
 use trial::answers::is_verdict;
 use trial::calls::judge_in;
 use trial::cells::{byte, part_of, plus, put};
+use trial::guarded::Guarded;
 use trial::random::{below, seed_of};
 use trial::tally::{Counter, Tally};
 use trial_logs::prefixes::{look_count, prefix_count};
@@ -39,13 +40,13 @@ impl Counter for Counted {
     }
 }
 
-// The events taken, the record as the last call left it, and how many numbers of the table are lent.
+// The events taken, and the record and the table as the last call left them.
 #[derive(Clone, Copy)]
 pub struct Run {
     log: [u8; 8],
     taken: usize,
     held: [u64; 2],
-    size: usize,
+    table: Table,
 }
 
 impl Run {
@@ -55,7 +56,7 @@ impl Run {
             log: [0; 8],
             taken: 0,
             held: [77, 88],
-            size,
+            table: Table::new(size),
         }
     }
 
@@ -69,11 +70,11 @@ impl Run {
     }
 
     // The record and the table are those of the events taken, of which the listing has as many prefixes as there are sets that keep the rule.
-    fn compare_left(&self, profile: &Profile, numbers: &[u32], t: &mut Tally) {
-        let mut sets = [0usize; 256];
+    fn compare_left(&self, profile: &Profile, t: &mut Tally) {
         let log = self.events();
-        let many = put_arrivals(profile.masks, log, &mut sets);
-        let right = self.holds(many) & table_right(profile, log, numbers, &sets, many);
+        let arrivals = Arrivals::of(profile.masks, log);
+        let many = arrivals.many();
+        let right = self.holds(many) & table_right(profile, log, &self.table, &arrivals);
         t.expect(Counted::Table, right);
         t.count_many(Counted::Records, many);
         t.expect(Counted::Listing, many == prefix_count(profile.masks, log));
@@ -81,10 +82,10 @@ impl Run {
 
     // The judge for the list of events taken.
     fn compare_judge(&self, profile: &Profile, t: &mut Tally) {
-        let mut buffer = [0u8; 32];
-        let mut work = [0u32; 1416];
+        let mut order = Guarded::<u8, 32>::new(8);
+        let mut work = Guarded::<u32, 1416>::new(1400);
         let log = self.events();
-        let answer = judge_in(profile, log, 8, 1400, &mut buffer, &mut work);
+        let answer = judge_in(profile, log, &mut order, &mut work);
         let verdict = accepted(profile, log);
         let many = prefix_count(profile.masks, log);
         t.expect(
@@ -93,12 +94,12 @@ impl Run {
         );
     }
 
-    fn ask(&self, profile: &Profile, numbers: &[u32], t: &mut Tally) {
+    fn ask(&self, profile: &Profile, t: &mut Tally) {
         let mut told = [99u64; 4];
         let log = self.events();
         let verdict = accepted(profile, log);
         let many = prefix_count(profile.masks, log);
-        let number = question_in(profile, &self.held, self.size, numbers, &mut told);
+        let number = question_in(profile, &self.held, &self.table, &mut told);
         let right = (number == Some(0))
             & (told == [0, verdict as u64, many as u64, self.taken as u64]);
         t.expect(Counted::Question, right);
@@ -107,22 +108,15 @@ impl Run {
     }
 
     // An event that is taken stays in the log.
-    fn give(&mut self, profile: &Profile, letter: u8, numbers: &mut [u32], t: &mut Tally) {
+    fn give(&mut self, profile: &Profile, letter: u8, t: &mut Tally) {
         let mut told = [99u64; 1];
         let taken = self.taken;
         put(&mut self.log, taken, letter);
         let longer = plus(taken, 1);
         let many = prefix_count(profile.masks, part_of(&self.log, 0, longer));
-        let refused = refusal_of(profile.shape, letter, many, self.size);
+        let refused = refusal_of(profile.shape, letter, many, self.table.size());
         let place = if refused == Some(8) { taken as u64 } else { 0 };
-        let number = event_in(
-            profile,
-            letter,
-            &mut self.held,
-            self.size,
-            numbers,
-            &mut told,
-        );
+        let number = event_in(profile, letter, &mut self.held, &mut self.table, &mut told);
         if refused.is_none() {
             self.taken = longer;
         }
@@ -135,38 +129,31 @@ impl Run {
     }
 
     // Event or question i; after six events taken, or five of many letters, there are only questions.
-    fn call(&mut self, profile: &Profile, seed: usize, numbers: &mut [u32], t: &mut Tally) {
+    fn call(&mut self, profile: &Profile, seed: usize, t: &mut Tally) {
         let most = if profile.shape.k < 4 { 6 } else { 5 };
         let kind = below(seed, 0, 8);
         if (kind < 2) | (most <= self.taken) {
-            self.ask(profile, numbers, t);
+            self.ask(profile, t);
         } else {
-            self.give(profile, letter_of(profile.shape, seed, kind), numbers, t);
+            self.give(profile, letter_of(profile.shape, seed, kind), t);
         }
-        self.compare_left(profile, numbers, t);
+        self.compare_left(profile, t);
     }
 
     // A start, then `many` calls.
-    pub fn compare(
-        &mut self,
-        profile: &Profile,
-        seed: usize,
-        many: usize,
-        numbers: &mut [u32],
-        t: &mut Tally,
-    ) {
+    pub fn compare(&mut self, profile: &Profile, seed: usize, many: usize, t: &mut Tally) {
         let mut told = [99u64; 1];
-        let number = start_in(profile, &mut self.held, self.size, numbers, &mut told);
-        if room(self.size) < 1 {
+        let number = start_in(profile, &mut self.held, &mut self.table, &mut told);
+        if room(self.table.size()) < 1 {
             let right = (number == Some(10)) & (told == [0]) & (self.held == [77, 88]);
             t.expect(Counted::Start, right);
             t.count(Counted::RefusedStarts);
             return;
         }
         t.expect(Counted::Start, (number == Some(0)) & (told == [0]));
-        self.compare_left(profile, numbers, t);
+        self.compare_left(profile, t);
         for i in 0..many {
-            self.call(profile, seed_of(seed, i), numbers, t);
+            self.call(profile, seed_of(seed, i), t);
         }
     }
 }

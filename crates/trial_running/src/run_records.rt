@@ -1,9 +1,10 @@
 // The table of a running judge, number by number: counts and forward sets; the backward number and what lies past the records stay as they were, the guard.
-use crate::arrivals::set_at;
+use crate::arrivals::Arrivals;
+use crate::lent::Table;
 use profile::Profile;
-use trial::calls::{NUMBERS, table_part};
-use trial::cells::{Cell, bit, minus, plus, untouched, value_at, wide};
-use trial::record_numbers::{FORWARD, RECORD, record_at};
+use trial::cells::{bit, minus, plus, value_at, wide};
+use trial::guarded::Cell;
+use trial::record_numbers::{BACKWARD, FORWARD, RECORD, record_at};
 use trial_logs::judging::forward_of;
 
 // How many events of the set have the letter.
@@ -23,30 +24,16 @@ fn counts_number(log: &[u8], set: usize, j: usize) -> u32 {
 
 fn record_right(profile: &Profile, log: &[u8], table: &[u32], r: usize, set: usize) -> bool {
     let at = record_at(r);
-    for j in 0..FORWARD {
-        if value_at(table, plus(at, j)) != counts_number(log, set, j) {
-            return false;
-        }
-    }
-    let forward = forward_of(profile, log, set);
-    (value_at(table, plus(at, FORWARD)) == forward)
-        & (value_at(table, plus(at, plus(FORWARD, 1))) == u32::GUARD)
+    (0..FORWARD).all(|j| value_at(table, plus(at, j)) == counts_number(log, set, j))
+        && (value_at(table, plus(at, FORWARD)) == forward_of(profile, log, set))
+            & (value_at(table, plus(at, BACKWARD)) == u32::GUARD)
 }
 
-// The records of the first `many` sets, and nothing else, stand in the table that begins behind the margin.
-pub fn table_right(
-    profile: &Profile,
-    log: &[u8],
-    numbers: &[u32],
-    sets: &[usize],
-    many: usize,
-) -> bool {
-    for r in 0..many {
-        if !record_right(profile, log, table_part(numbers), r, set_at(sets, r)) {
-            return false;
-        }
-    }
-    untouched(numbers, NUMBERS, record_at(many))
+// The records of the prefixes, and nothing else, stand in the table.
+pub fn table_right(profile: &Profile, log: &[u8], table: &Table, arrivals: &Arrivals) -> bool {
+    let many = arrivals.many();
+    (0..many).all(|r| record_right(profile, log, table.content(), r, arrivals.set(r)))
+        && table.stays_behind(record_at(many))
 }
 
 // Some order of all events is accepted.

@@ -3,8 +3,9 @@
 // Bit i of a combination is a damage that is refused by 2, 4, 6, 7, 8, 14, 15, 16, 9 or 10, in this order. The variant chooses its form. The call without a
 // damage is that of case M8: three letters, a and b, b and c independent, the log cab, all in the first of two terms, six prefixes.
 use profile::{Calendar, Profile, Shape};
-use trial::answers::{Answer, is_refusal, is_unchanged};
-use trial::cells::{Cell, bit, byte, minus, part_of, plus, put};
+use trial::answers::{Answer, Refused, is_unchanged, refused_as};
+use trial::cells::{bit, byte, minus, part_of, plus, put};
+use trial::guarded::Guarded;
 use trial::shapes::shape_of;
 use trial::tally::Tally;
 use trial_terms::lent::judge_terms_in;
@@ -12,30 +13,22 @@ use trial_terms::met::{ByDamage, Met};
 
 pub const VARIANTS: usize = 12;
 
-pub fn number_of(i: usize) -> usize {
-    match i {
-        0 => 2,
-        1 => 4,
-        2 => 6,
-        3 => 7,
-        4 => 8,
-        5 => 14,
-        6 => 15,
-        7 => 16,
-        8 => 9,
-        9 => 10,
-        _ => 0,
-    }
+// The numbers by which the damages are refused.
+const NUMBERS: [usize; 10] = [2, 4, 6, 7, 8, 14, 15, 16, 9, 10];
+
+// The first damage.
+pub fn first_damage(damages: usize) -> Option<usize> {
+    (0..10).find(|&i| bit(damages, i))
 }
 
-// The first damage; 10 where there is none.
-pub fn first_damage(damages: usize) -> usize {
-    for i in 0..10 {
-        if bit(damages, i) {
-            return i;
-        }
+// What a damage is refused by; its place is that of a bad letter.
+pub fn refusal_of(damage: usize, variant: usize) -> Option<Refused> {
+    let number = NUMBERS.get(damage).copied()?;
+    if number == 8 {
+        Some(Refused::at(8, bad_place(variant)))
+    } else {
+        Some(Refused::by(number))
     }
-    10
 }
 
 // 2: k is 0 or 17, s is 33, the start is s; or a mask or a move too few.
@@ -254,29 +247,27 @@ pub fn table_size(damages: usize, variant: usize) -> usize {
     }
 }
 
-// The answer and the buffers of a call that is expected to be refused by the number; 0 is none.
+// The answer and the buffers of a call.
 fn refused_right(
     answer: Answer,
-    number: usize,
-    variant: usize,
-    buffer: &[u8],
-    numbers: &[u32],
-    size: usize,
+    expected: Option<Refused>,
+    order: &Guarded<u8, 4024>,
+    table: &Guarded<u32, 88>,
 ) -> bool {
-    let place = if number == 8 { bad_place(variant) } else { 0 };
-    is_refusal(answer, number, place, 0)
-        & (number == 0 || is_unchanged(number, buffer, numbers, size))
+    let left = match expected {
+        Some(r) => is_unchanged(r.number, order, table),
+        None => true,
+    };
+    refused_as(answer, expected) & left
 }
 
 fn judge_with(damages: usize, variant: usize, log: &[u8], calendar: &Calendar, t: &mut Tally) {
-    let mut buffer = [u8::GUARD; 4024];
-    let mut numbers = [u32::GUARD; 88];
+    let mut order = Guarded::<u8, 4024>::new(room_for(damages, variant, log.len()));
+    let mut table = Guarded::<u32, 88>::new(table_size(damages, variant));
     let masks = [first_mask(damages, variant), 5, 2];
     let mut moves = [3u32; 9];
     moves[0] = first_move(damages, variant);
-    let size = table_size(damages, variant);
     let first = first_damage(damages);
-    let number = number_of(first);
     let answer = judge_terms_in(
         &Profile {
             shape: damaged_shape(damages, variant),
@@ -285,13 +276,14 @@ fn judge_with(damages: usize, variant: usize, log: &[u8], calendar: &Calendar, t
         },
         log,
         calendar,
-        room_for(damages, variant, log.len()),
-        size,
-        &mut buffer,
-        &mut numbers,
+        &mut order,
+        &mut table,
     );
-    let right = refused_right(answer, number, variant, &buffer, &numbers, size);
-    t.expect(Met::Refusal, right);
+    let expected = first.and_then(|damage| refusal_of(damage, variant));
+    t.expect(
+        Met::Refusal,
+        refused_right(answer, expected, &order, &table),
+    );
     t.count(Met::Combined);
     t.count(ByDamage(first));
 }

@@ -1,5 +1,5 @@
 // Lists of terms, right ones and ones changed in a place; days in no term; days that are not as many as the events.
-use crate::numbers::refused_or_not;
+use crate::numbers::{refused_or_not, unless};
 use profile::Calendar;
 use trial::cells::{minus, part_of, plus, put, value_at, wide};
 use trial::random::{below, seed_of};
@@ -39,23 +39,11 @@ fn length_of(seed: usize, many: usize) -> usize {
 
 // A list against the rules, by a call with an empty log.
 fn try_list(terms: &[u32], t: &mut Tally) {
-    let nothing = [0u8; 0];
-    let no_days = [0u32; 0];
     let right = terms_right(terms);
-    let number = if right { 0 } else { 15 };
-    let agrees = refused_or_not(
-        &Calendar {
-            days: &no_days,
-            terms,
-        },
-        &nothing,
-        number,
-    );
+    let agrees = refused_or_not(&Calendar { days: &[], terms }, b"", unless(right, 15));
     t.expect(Met::List, agrees);
     t.count(Met::Lists);
-    if right {
-        t.count(Met::RightLists);
-    }
+    t.count_if(Met::RightLists, right);
 }
 
 // Thirteen terms by the rules, of which a beginning is tried, and then the same with one number changed.
@@ -72,13 +60,10 @@ fn one_list(seed: usize, t: &mut Tally) {
 
 // All days but one are in terms, or all are: 16 or no refusal.
 fn try_outside(terms: &[u32], days: &[u32], day: u32, t: &mut Tally) {
-    let log = [0u8; 3];
-    let number = if term_of(terms, day).is_none() { 16 } else { 0 };
-    let agrees = refused_or_not(&Calendar { days, terms }, &log, number);
+    let inside = term_of(terms, day).is_some();
+    let agrees = refused_or_not(&Calendar { days, terms }, &[0u8; 3], unless(inside, 16));
     t.expect(Met::OutsideWrong, agrees);
-    if number == 16 {
-        t.count(Met::Outside);
-    }
+    t.count_if(Met::Outside, !inside);
 }
 
 // A day about the ends of a term, in the place of one of three.
@@ -97,17 +82,12 @@ fn one_outside(seed: usize, t: &mut Tally) {
 // As many days as `given` and a log of `n` events, in one term that has them all.
 fn try_lengths(given: usize, n: usize, t: &mut Tally) {
     let days = [20260901u32; 4];
-    let all = [20260901u32, 20260901];
-    let log = [0u8; 4];
-    let number = if given == n { 0 } else { 14 };
-    let agrees = refused_or_not(
-        &Calendar {
-            days: part_of(&days, 0, given),
-            terms: &all,
-        },
-        part_of(&log, 0, n),
-        number,
-    );
+    let calendar = Calendar {
+        days: part_of(&days, 0, given),
+        terms: &[20260901u32, 20260901],
+    };
+    let log = part_of(&[0u8; 4], 0, n);
+    let agrees = refused_or_not(&calendar, log, unless(given == n, 14));
     t.expect(Met::OutsideWrong, agrees);
     t.count(Met::NotAsMany);
 }

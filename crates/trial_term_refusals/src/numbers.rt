@@ -1,7 +1,8 @@
 // Numbers tried as the only day of a log and as the first and last day of a term: a date or not, by the calendar.
 use profile::{Calendar, Profile, Shape};
-use trial::answers::{is_refusal, is_unchanged, is_verdict};
-use trial::cells::{Cell, plus};
+use trial::answers::{Refused, is_refusal, is_unchanged, is_verdict};
+use trial::cells::plus;
+use trial::guarded::Guarded;
 use trial::random::seed_of;
 use trial::shapes::shape_of;
 use trial::tally::Tally;
@@ -15,61 +16,47 @@ fn any_log() -> Shape {
 }
 
 // The log of letter 0 has as many events as there are days; it gets verdict 1, or is refused by the number.
-pub fn refused_or_not(calendar: &Calendar, log: &[u8], number: usize) -> bool {
-    let mut buffer = [u8::GUARD; 16];
-    let mut table = [u32::GUARD; 64];
-    let masks = [0u16; 1];
-    let moves = [1u32; 1];
+pub fn refused_or_not(calendar: &Calendar, log: &[u8], number: Option<usize>) -> bool {
     let n = log.len();
+    let mut order = Guarded::<u8, 16>::new(n);
+    let mut table = Guarded::<u32, 64>::new(40);
     let answer = judge_terms_in(
         &Profile {
             shape: any_log(),
-            masks: &masks,
-            moves: &moves,
+            masks: &[0u16],
+            moves: &[1u32],
         },
         log,
         calendar,
-        n,
-        40,
-        &mut buffer,
+        &mut order,
         &mut table,
     );
-    if number == 0 {
-        return is_verdict(answer, true, plus(n, 1), n);
+    match number {
+        Some(x) => is_refusal(answer, Refused::by(x)) & is_unchanged(x, &order, &table),
+        None => is_verdict(answer, true, plus(n, 1), n),
     }
-    is_refusal(answer, number, 0, 0) & is_unchanged(number, &buffer, &table, 40)
+}
+
+// The refusal, where it is wrong.
+pub fn unless(right: bool, number: usize) -> Option<usize> {
+    if right { None } else { Some(number) }
 }
 
 // The number as a day and as a term of that day alone; it is a date or not.
 fn try_number(number: u32, right: bool, t: &mut Tally) {
-    let log = [0u8; 1];
-    let nothing = [0u8; 0];
-    let no_days = [0u32; 0];
-    let day = [number];
-    let term = [number, number];
-    let all = [19000101u32, 21991231];
-    let by_day = if right { 0 } else { 14 };
-    let by_term = if right { 0 } else { 15 };
-    let agrees = refused_or_not(
-        &Calendar {
-            days: &day,
-            terms: &all,
-        },
-        &log,
-        by_day,
-    ) & refused_or_not(
-        &Calendar {
-            days: &no_days,
-            terms: &term,
-        },
-        &nothing,
-        by_term,
-    );
+    let by_day = Calendar {
+        days: &[number],
+        terms: &[19000101u32, 21991231],
+    };
+    let by_term = Calendar {
+        days: &[],
+        terms: &[number, number],
+    };
+    let agrees = refused_or_not(&by_day, &[0u8], unless(right, 14))
+        & refused_or_not(&by_term, b"", unless(right, 15));
     t.expect(Met::Day, agrees);
     t.count(Met::Days);
-    if right {
-        t.count(Met::Dates);
-    }
+    t.count_if(Met::Dates, right);
 }
 
 fn try_month(y: usize, m: usize, t: &mut Tally) {

@@ -2,11 +2,8 @@
 // their places in the log, and each has a mask of the events that may pass it; so the listing is that of logs without terms, with events for letters.
 use crate::spans::term_of;
 use profile::Calendar;
-use trial::cells::{byte, byte_at, minus, one16, put, value_at};
+use trial::cells::{byte_at, minus, one16, part_of, value_at};
 use trial_logs::listing::commute;
-
-// The most events of a log here.
-pub const MOST_EVENTS: usize = 8;
 
 fn in_one_term(calendar: &Calendar, i: usize, j: usize) -> bool {
     term_of(calendar.terms, value_at(calendar.days, i))
@@ -24,18 +21,33 @@ fn event_mask(masks: &[u16], log: &[u8], calendar: &Calendar, i: usize) -> u16 {
         .fold(0, |mask, j| mask | one16(j))
 }
 
-// The masks of all events.
-pub fn put_event_masks(masks: &[u16], log: &[u8], calendar: &Calendar, event_masks: &mut [u16]) {
-    for i in 0..log.len() {
-        put(event_masks, i, event_mask(masks, log, calendar, i));
-    }
+// The events of a log by their places, and for each a mask of those that may pass it.
+#[derive(Clone, Copy)]
+pub struct Events {
+    masks: [u16; 8],
+    n: usize,
 }
 
-// The letters of the events in the first `count` rows, each in the place of its event.
-pub fn put_letters(log: &[u8], rows: &mut [u8], count: usize) {
-    for i in 0..MOST_EVENTS * (count % 4096) {
-        let event = byte_at(rows, i);
-        put(rows, i, byte(byte_at(log, event)));
+const PLACES: [u8; 8] = [0, 1, 2, 3, 4, 5, 6, 7];
+
+impl Events {
+    pub fn of(masks: &[u16], log: &[u8], calendar: &Calendar) -> Self {
+        let mut events = Events {
+            masks: [0; 8],
+            n: log.len(),
+        };
+        for (i, mask) in events.masks.iter_mut().take(log.len()).enumerate() {
+            *mask = event_mask(masks, log, calendar, i);
+        }
+        events
+    }
+
+    pub fn masks(&self) -> &[u16] {
+        part_of(&self.masks, 0, self.n)
+    }
+
+    pub fn places(&self) -> &[u8] {
+        part_of(&PLACES, 0, self.n)
     }
 }
 

@@ -41,13 +41,16 @@ impl Counter for Met {
     }
 }
 
-// Combined refusals, by the first damage.
+// Combined refusals, by the first damage, if there is one.
 #[derive(Clone, Copy)]
-pub struct ByDamage(pub usize);
+pub struct ByDamage(pub Option<usize>);
 
 impl Counter for ByDamage {
     // Past all cells where there is no such damage.
     fn place(self) -> usize {
-        if self.0 < 12 { 32 + self.0 } else { 128 }
+        match self.0 {
+            Some(i) => if i < 11 { 32 + i } else { 128 },
+            None => 43,
+        }
     }
 }

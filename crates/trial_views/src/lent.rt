@@ -1,7 +1,7 @@
 // The call on lent parts of guarded buffers, as those of the crate `trial`.
-use profile::{Profile, Shape};
+use profile::Profile;
 use trial::answers::{Answer, Refused, Told};
-use trial::calls::{BYTES, NUMBERS, lent};
+use trial::guarded::Guarded;
 
 // The numbers told: the place, the verdict, P and looks; beside a refusal all but the place are 0, and beside none the place is.
 fn answer_of(number: u32, told: [u64; 4]) -> Answer {
@@ -16,32 +16,24 @@ fn answer_of(number: u32, told: [u64; 4]) -> Answer {
     if (number == 0) | (verdict != 0) | (prefixes != 0) | (looks != 0) {
         return None;
     }
-    Some(Err(Refused {
-        number: number as usize,
-        place: place as usize,
-        log: 0,
-    }))
+    Some(Err(Refused::at(number as usize, place as usize)))
 }
 
-pub fn view_in(
-    shape: Shape,
+pub fn view_in<const M: usize, const N: usize>(
+    profile: &Profile,
     visible: u32,
-    masks: &[u16],
-    moves: &[u32],
     log: &[u8],
-    room: usize,
-    size: usize,
-    buffer: &mut [u8],
-    numbers: &mut [u32],
+    order: &mut Guarded<u8, M>,
+    table: &mut Guarded<u32, N>,
 ) -> Answer {
-    let order = lent(buffer, BYTES, room)?;
-    let table = lent(numbers, NUMBERS, size)?;
     let mut told = [99u64; 4];
-    let profile = Profile {
-        shape,
-        masks,
-        moves,
-    };
-    let number = view_calls::view(&profile, visible, log, order, table, &mut told);
+    let number = view_calls::view(
+        profile,
+        visible,
+        log,
+        order.lend()?,
+        table.lend()?,
+        &mut told,
+    );
     answer_of(number, told)
 }

@@ -1,33 +1,16 @@
 // Every list of letters up to a length: its visible part, and where it leads. Document 02, Paper 12: "some list of letters, of any length, that leads the
 // profile from its start to a final state has a visible part reachable from that part".
-use profile::Shape;
-use trial::cells::{bit, one32, part_of, plus, put, wide};
+use profile::Profile;
+use trial::cells::{bit, part_of, plus, put, wide};
 use trial::logs::put_log_number;
-use trial_logs::listing::{earlier, list, listed};
-use trial_logs::paths::ends;
-use trial_logs::prefixes::take_events;
+use trial_logs::listing::{Listing, earlier};
+use trial_logs::paths::{beginnings, led};
 
-// The profile's numbers, the mask of visible letters, and how many lists are tried: all up to a length that no shorter one needs.
-#[derive(Clone, Copy)]
-pub struct View {
-    pub shape: Shape,
+// The profile, the mask of visible letters, and how many lists are tried: all up to a length that no shorter one needs.
+pub struct View<'a> {
+    pub profile: &'a Profile<'a>,
     pub visible: usize,
     pub lists: usize,
-}
-
-// Logs of n letters, reachable from one of them.
-#[derive(Clone, Copy)]
-pub struct Class {
-    pub rows: [u8; 16384],
-    pub count: usize,
-    pub n: usize,
-}
-
-// The earliest visible part that was found.
-#[derive(Clone, Copy)]
-pub struct Best {
-    pub found: bool,
-    pub letters: [u8; 8],
 }
 
 // The letters of the list that the mask has, in their order; how many they are.
@@ -42,116 +25,93 @@ pub fn put_visible(visible: usize, letters: &[u8], out: &mut [u8]) -> usize {
     n
 }
 
-// The logs reachable from the marked events, or from those that are not marked.
-pub fn class_of(masks: &[u16], log: &[u8], marks: usize, marked: bool) -> Class {
-    let mut word = [0u8; 8];
-    let mut rows = [0u8; 16384];
-    let n = take_events(log, marks, marked, &mut word);
-    let count = list(masks, part_of(&word, 0, n), &mut rows);
-    Class {
-        rows: rows,
-        count: count,
-        n: n,
+// A list of letters, by its number.
+#[derive(Clone, Copy)]
+struct List {
+    letters: [u8; 8],
+    n: usize,
+}
+
+impl List {
+    fn numbered(k: usize, v: usize) -> Self {
+        let mut letters = [0u8; 8];
+        let n = put_log_number(k, v, &mut letters);
+        List { letters, n }
+    }
+
+    fn word(&self) -> &[u8] {
+        part_of(&self.letters, 0, self.n)
+    }
+
+    // Its visible part.
+    fn seen(&self, visible: usize) -> List {
+        let mut letters = [0u8; 8];
+        let n = put_visible(visible, self.word(), &mut letters);
+        List { letters, n }
     }
 }
 
-// The visible part of the letters is in the class.
-fn shows(visible: usize, letters: &[u8], rows: &[u8], count: usize, n: usize) -> bool {
-    let mut part = [0u8; 8];
-    if put_visible(visible, letters, &mut part) != n {
-        return false;
+impl View<'_> {
+    // List v, where it shows a log of the class.
+    fn showing(&self, class: &Listing, v: usize) -> Option<List> {
+        let list = List::numbered(self.profile.shape.k, v);
+        let seen = list.seen(self.visible);
+        if class.has(seen.word()) { Some(list) } else { None }
     }
-    listed(rows, count, part_of(&part, 0, n))
-}
 
-// The states to which list v leads from the start, where it shows a log of the class.
-fn led_by(view: View, moves: &[u32], rows: &[u8], count: usize, n: usize, v: usize) -> u32 {
-    let mut letters = [0u8; 8];
-    let shape = view.shape;
-    let m = put_log_number(shape.k, v, &mut letters);
-    let word = part_of(&letters, 0, m);
-    if !shows(view.visible, word, rows, count, n) {
-        return 0;
+    // The states to which list v leads from the start, where it shows a log of the class.
+    fn led_by(&self, class: &Listing, v: usize) -> u32 {
+        match self.showing(class, v) {
+            Some(list) => led(self.profile, list.word()),
+            None => 0,
+        }
     }
-    ends(shape, moves, one32(shape.start), word)
-}
 
-// The states to which lists lead from the start that show a log of the class.
-pub fn led(view: View, moves: &[u32], rows: &[u8], count: usize, n: usize) -> u32 {
-    (0..view.lists).fold(0, |out, v| out | led_by(view, moves, rows, count, n, v))
-}
-
-// State q alone, where the letters lead from it to a final state.
-fn beginning(shape: Shape, moves: &[u32], q: usize, word: &[u8]) -> u32 {
-    if ends(shape, moves, one32(q), word) & shape.finals != 0 {
-        one32(q)
-    } else {
-        0
+    // The states from which it leads to a final state.
+    fn leading_by(&self, class: &Listing, v: usize) -> u32 {
+        match self.showing(class, v) {
+            Some(list) => beginnings(self.profile, list.word()),
+            None => 0,
+        }
     }
-}
 
-fn beginnings(shape: Shape, moves: &[u32], word: &[u8]) -> u32 {
-    (0..shape.s).fold(0, |out, q| out | beginning(shape, moves, q, word))
-}
-
-fn leading_by(view: View, moves: &[u32], rows: &[u8], count: usize, n: usize, v: usize) -> u32 {
-    let mut letters = [0u8; 8];
-    let shape = view.shape;
-    let m = put_log_number(shape.k, v, &mut letters);
-    let word = part_of(&letters, 0, m);
-    if !shows(view.visible, word, rows, count, n) {
-        return 0;
+    // The states to which lists lead from the start that show a log of the class.
+    pub fn led(&self, class: &Listing) -> u32 {
+        (0..self.lists).fold(0, |out, v| out | self.led_by(class, v))
     }
-    beginnings(shape, moves, word)
-}
 
-// The states from which lists lead to a final state that show a log of the class.
-pub fn leading(view: View, moves: &[u32], rows: &[u8], count: usize, n: usize) -> u32 {
-    (0..view.lists).fold(0, |out, v| out | leading_by(view, moves, rows, count, n, v))
-}
+    // The states from which lists lead to a final state that show a log of the class.
+    pub fn leading(&self, class: &Listing) -> u32 {
+        (0..self.lists).fold(0, |out, v| out | self.leading_by(class, v))
+    }
 
-// The earlier of what was found and of the n letters.
-fn earlier_of(best: Best, part: [u8; 8], n: usize) -> Best {
-    let found = best.letters;
-    if best.found & !earlier(part_of(&part, 0, n), part_of(&found, 0, n)) {
-        best
-    } else {
-        Best {
-            found: true,
-            letters: part,
+    // The visible part of list v, where it shows a log of the class and leads from the start to a final state.
+    fn shown_by(&self, class: &Listing, v: usize) -> Option<List> {
+        let list = self.showing(class, v)?;
+        if led(self.profile, list.word()) & self.profile.shape.finals == 0 {
+            return None;
+        }
+        Some(list.seen(self.visible))
+    }
+
+    // "The order is the earliest such visible part"
+    pub fn earliest_shown(&self, class: &Listing) -> Option<[u8; 8]> {
+        let mut best = None;
+        for v in 0..self.lists {
+            best = earlier_of(best, self.shown_by(class, v));
+        }
+        match best {
+            Some(list) => Some(list.letters),
+            None => None,
         }
     }
 }
 
-// With list v, where it shows a log of the class and leads from the start to a final state.
-fn better_by(
-    view: View,
-    moves: &[u32],
-    rows: &[u8],
-    count: usize,
-    n: usize,
-    v: usize,
-    best: Best,
-) -> Best {
-    let mut part = [0u8; 8];
-    let mut letters = [0u8; 8];
-    let m = put_log_number(view.shape.k, v, &mut letters);
-    put_visible(view.visible, part_of(&letters, 0, m), &mut part);
-    if led_by(view, moves, rows, count, n, v) & view.shape.finals == 0 {
-        best
-    } else {
-        earlier_of(best, part, n)
+// The earlier of what was found and of another list.
+fn earlier_of(best: Option<List>, other: Option<List>) -> Option<List> {
+    match (best, other) {
+        (Some(a), Some(b)) => if earlier(a.word(), b.word()) { best } else { other },
+        (Some(_), None) => best,
+        (None, _) => other,
     }
-}
-
-// "The order is the earliest such visible part".
-pub fn earliest_shown(view: View, moves: &[u32], rows: &[u8], count: usize, n: usize) -> Best {
-    let mut best = Best {
-        found: false,
-        letters: [0u8; 8],
-    };
-    for v in 0..view.lists {
-        best = better_by(view, moves, rows, count, n, v, best);
-    }
-    best
 }
