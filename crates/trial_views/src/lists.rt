@@ -56,7 +56,11 @@ impl View<'_> {
     fn showing(&self, class: &Listing, v: usize) -> Option<List> {
         let list = List::numbered(self.profile.shape.k, v);
         let seen = list.seen(self.visible);
-        if class.has(seen.word()) { Some(list) } else { None }
+        if class.has(seen.word()) {
+            Some(list)
+        } else {
+            None
+        }
     }
 
     // The states to which list v leads from the start, where it shows a log of the class.
@@ -110,7 +114,11 @@ impl View<'_> {
 // The earlier of what was found and of another list.
 fn earlier_of(best: Option<List>, other: Option<List>) -> Option<List> {
     match (best, other) {
-        (Some(a), Some(b)) => if earlier(a.word(), b.word()) { best } else { other },
+        (Some(a), Some(b)) => if earlier(a.word(), b.word()) {
+            best
+        } else {
+            other
+        },
         (Some(_), None) => best,
         (None, _) => other,
     }

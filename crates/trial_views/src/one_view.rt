@@ -15,6 +15,7 @@ use trial_logs::prefixes::{look_count, marks_of, prefix_count};
 
 // The buffers of a view.
 pub type Order = Guarded<u8, 32>;
+
 pub type Table = Guarded<u32, 1416>;
 
 // Counters, in the order in which they are printed.
@@ -67,8 +68,7 @@ fn record_right(view: &View, seen: &[u8], table: &[u32], r: usize, keys: &Keys) 
 // The records of all prefixes of the visible part, and nothing behind them.
 fn table_right(view: &View, seen: &[u8], table: &Table, prefixes: usize) -> bool {
     let keys = Keys::of(view.profile.masks, seen);
-    (keys.count() == prefixes)
-        & table.stays_behind(record_at(prefixes))
+    (keys.count() == prefixes) & table.stays_behind(record_at(prefixes))
         && (0..prefixes).all(|r| record_right(view, seen, table.content(), r, &keys))
 }
 
@@ -139,7 +139,13 @@ pub fn compare_view(view: &View, log: &[u8], room: usize, size: usize, t: &mut T
     let mut table = Table::new(size);
     let n = put_visible(view.visible, log, &mut part);
     let seen = part_of(&part, 0, n);
-    let answer = view_in(view.profile, mask_of(view.visible), log, &mut order, &mut table);
+    let answer = view_in(
+        view.profile,
+        mask_of(view.visible),
+        log,
+        &mut order,
+        &mut table,
+    );
     t.count(Counted::Views);
     t.count_if(Counted::Hiding, n != log.len());
     if room < n {
