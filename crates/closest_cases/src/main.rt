@@ -6,24 +6,16 @@ use profile::{Calendar, Profile};
 use std::io;
 use trial::cells::{part_of, plus, times};
 use trial::logs::{log_count, put_log_number};
-use trial::random::{below, put_log, put_masks, put_moves, random_shape, seed_of};
+use trial::random::{below, letter_count, put_log, put_masks, put_moves, random_shape, seed_of};
 use trial::shapes::{alt, shape_of};
 use trial::tally::Tally;
 use trial_closest::budgets::compare_log;
 use trial_closest::edges::{compare_edges, compare_term_edges};
 use trial_closest::lent::Dated;
-use trial_closest::met::{ByDamage, Met};
+use trial_closest::met::Met;
 use trial_closest::refusing::{combine_all, combine_all_terms};
 use trial_terms::dated::{put_days, put_halves, put_terms};
-
-// One to three letters, or four to sixteen in one of four logs.
-fn letters_of(seed: usize) -> usize {
-    if below(seed, 10, 4) == 0 {
-        plus(4, below(seed, 11, 13))
-    } else {
-        plus(1, below(seed, 11, 3))
-    }
-}
+use trial_terms::met::ByDamage;
 
 // One to four states, and now and then 32.
 fn states_of(seed: usize) -> usize {
@@ -81,7 +73,7 @@ fn with_log(profile: &Profile, seed: usize, with_terms: bool, t: &mut Tally) {
 fn one_profile(seed: usize, with_terms: bool, t: &mut Tally) {
     let mut masks = [0u16; 16];
     let mut moves = [0u32; 512];
-    let k = letters_of(seed);
+    let k = letter_count(seed);
     let s = states_of(seed);
     put_masks(seed, k, plus(3, below(seed, 16, 6)), &mut masks);
     put_moves(seed, s, k, &mut moves);

@@ -5,19 +5,10 @@
 use profile::Profile;
 use std::io;
 use trial::cells::{part_of, plus, times};
-use trial::random::{below, put_masks, put_moves, random_shape, seed_of};
+use trial::random::{below, letter_count, put_masks, put_moves, random_shape, seed_of};
 use trial::tally::Tally;
 use trial_running::damaged::compare_damaged;
 use trial_running::run::{Counted, Run};
-
-// One to three letters, or four to sixteen in one of four runs.
-fn letters_of(seed: usize) -> usize {
-    if below(seed, 10, 4) == 0 {
-        plus(4, below(seed, 11, 13))
-    } else {
-        plus(1, below(seed, 11, 3))
-    }
-}
 
 // Mostly more than enough; else a few records, and now and then not one.
 fn size_of(seed: usize) -> usize {
@@ -38,7 +29,7 @@ fn run_with(profile: &Profile, seed: usize, t: &mut Tally) {
 fn one_run(seed: usize, t: &mut Tally) {
     let mut masks = [0u16; 16];
     let mut moves = [0u32; 64];
-    let k = letters_of(seed);
+    let k = letter_count(seed);
     let s = plus(1, below(seed, 16, 4));
     put_masks(seed, k, plus(2, below(seed, 17, 7)), &mut masks);
     put_moves(seed, s, k, &mut moves);

@@ -37,6 +37,7 @@ fn place_in(place: usize, first: usize, end: usize) -> usize {
 }
 
 // A built table, and the keys of its records.
+#[derive(Clone, Copy)]
 pub struct Built<'a> {
     pub table: &'a [u32],
     pub keys: &'a Keys,

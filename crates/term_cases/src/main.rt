@@ -6,7 +6,7 @@ use profile::{Calendar, Profile};
 use std::io;
 use trial::cells::{part_of, plus, times};
 use trial::logs::{log_count, put_log_number};
-use trial::random::{below, put_log, put_masks, put_moves, random_shape, seed_of};
+use trial::random::{below, letter_count, put_log, put_masks, put_moves, random_shape, seed_of};
 use trial::shapes::alt;
 use trial::tally::Tally;
 use trial_term_refusals::combined::combine_all;
@@ -15,15 +15,6 @@ use trial_term_refusals::numbers::all_numbers;
 use trial_terms::dated::{put_days, put_halves, put_terms};
 use trial_terms::judging::{compare_dated, compare_one_term};
 use trial_terms::met::{ByDamage, Met};
-
-// One to three letters, or four to sixteen in one of four logs.
-fn letters_of(seed: usize) -> usize {
-    if below(seed, 10, 4) == 0 {
-        plus(4, below(seed, 11, 13))
-    } else {
-        plus(1, below(seed, 11, 3))
-    }
-}
 
 fn length_of(seed: usize, k: usize) -> usize {
     let most = if k < 4 { 7 } else { 6 };
@@ -80,7 +71,7 @@ fn compare_profile(profile: &Profile, seed: usize, t: &mut Tally) {
 fn one_profile(seed: usize, t: &mut Tally) {
     let mut masks = [0u16; 16];
     let mut moves = [0u32; 64];
-    let k = letters_of(seed);
+    let k = letter_count(seed);
     let s = plus(1, below(seed, 20, 4));
     put_masks(seed, k, plus(2, below(seed, 21, 7)), &mut masks);
     put_moves(seed, s, k, &mut moves);

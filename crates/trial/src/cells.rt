@@ -52,6 +52,7 @@ pub fn bit(v: usize, i: usize) -> bool {
     i < 64 && (v >> i) & 1 == 1
 }
 
+// Kept: one for each width; a generic shift wants a trait.
 pub fn one32(i: usize) -> u32 {
     if i < 32 { 1 << i } else { 0 }
 }
@@ -74,6 +75,13 @@ pub fn copy<T: Copy>(from: &[T], to: &mut [T]) {
     for (x, v) in to.iter_mut().zip(from) {
         *x = *v;
     }
+}
+
+// Up to eight letters by value.
+pub fn eight(word: &[u8]) -> [u8; 8] {
+    let mut letters = [0u8; 8];
+    copy(word, &mut letters);
+    letters
 }
 
 // Writes v at n places from `from` on.

@@ -81,6 +81,15 @@ pub fn put_moves(seed: usize, s: usize, k: usize, moves: &mut [u32]) {
     }
 }
 
+// One to three letters, or four to sixteen in one of four seeds.
+pub fn letter_count(seed: usize) -> usize {
+    if below(seed, 10, 4) == 0 {
+        plus(4, below(seed, 11, 13))
+    } else {
+        plus(1, below(seed, 11, 3))
+    }
+}
+
 // A start and final states.
 pub fn random_shape(seed: usize, k: usize, s: usize) -> Shape {
     let finals = few_states(seed_of(seed, 1), s) | few_states(seed_of(seed, 2), s);

@@ -1,5 +1,6 @@
 // One call for a ceiling, and P beside it.
 use crate::rules::{product_of, wrong_groups};
+use trial::answers::Refused;
 use trial::tally::{Counter, Tally};
 
 // Counters, in the order in which they are printed.
@@ -24,43 +25,38 @@ impl Counter for Counted {
     }
 }
 
-// The call tells this number, place and ceiling.
-pub fn tells(
-    k: usize,
-    masks: &[u16],
-    log: &[u8],
-    groups: &[u16],
-    number: u32,
-    place: u64,
-    ceiling: u64,
-) -> bool {
-    let mut told = [99u64; 2];
-    let answer = ceiling_calls::tell(k, masks, log, groups, &mut told);
-    (answer == number) & (told[0] == place) & (told[1] == ceiling)
+// The call is given as many masks as letters, but where k says otherwise.
+#[derive(Clone, Copy)]
+pub struct Call<'a> {
+    pub k: usize,
+    pub masks: &'a [u16],
+    pub log: &'a [u8],
+    pub groups: &'a [u16],
+}
+
+impl Call<'_> {
+    // The call tells the ceiling, or is refused.
+    pub fn tells(&self, expected: Result<u64, Refused>) -> bool {
+        let mut told = [99u64; 2];
+        let number = ceiling_calls::tell(self.k, self.masks, self.log, self.groups, &mut told);
+        match expected {
+            Ok(ceiling) => (number == 0) & (told == [0, ceiling]),
+            Err(r) => (number as usize == r.number) & (told == [r.place as u64, 0]),
+        }
+    }
 }
 
 // A call on right masks and a right log that has `prefixes` prefixes.
-pub fn compare_groups(
-    k: usize,
-    masks: &[u16],
-    log: &[u8],
-    groups: &[u16],
-    prefixes: usize,
-    t: &mut Tally,
-) {
+pub fn compare_groups(call: &Call, prefixes: usize, t: &mut Tally) {
     t.count(Counted::Calls);
-    if wrong_groups(k, masks, groups) {
-        let right = tells(k, masks, log, groups, 18, 0, 0);
-        t.expect(Counted::Answer, right);
+    if wrong_groups(call.k, call.masks, call.groups) {
+        t.expect(Counted::Answer, call.tells(Err(Refused::by(18))));
         t.count(Counted::BadGroups);
         return;
     }
-    let ceiling = product_of(log, groups);
-    let right = tells(k, masks, log, groups, 0, 0, ceiling as u64);
-    t.expect(Counted::Answer, right);
+    let ceiling = product_of(call.log, call.groups);
+    t.expect(Counted::Answer, call.tells(Ok(ceiling as u64)));
     t.count(Counted::Told);
     t.expect(Counted::Exceeded, prefixes <= ceiling);
-    if prefixes == ceiling {
-        t.count(Counted::Met);
-    }
+    t.count_if(Counted::Met, prefixes == ceiling);
 }

@@ -1,5 +1,6 @@
 // The edges of the ceiling and its refusals, and every combination of conditions.
-use crate::compare::{Counted, tells};
+use crate::compare::{Call, Counted};
+use trial::answers::Refused;
 use trial::cells::{bit, byte, one16, part_of, plus, put, put_run};
 use trial::tally::Tally;
 
@@ -15,48 +16,53 @@ fn put_threes(log: &mut [u8]) {
     }
 }
 
-fn edge(t: &mut Tally, right: bool) {
-    t.expect(Counted::Edge, right);
+fn edge(
+    k: usize,
+    masks: &[u16],
+    log: &[u8],
+    groups: &[u16],
+    expected: Result<u64, usize>,
+    t: &mut Tally,
+) {
+    let call = Call {
+        k,
+        masks,
+        log,
+        groups,
+    };
+    t.expect(Counted::Edge, call.tells(expected.map_err(Refused::by)));
     t.count(Counted::Edges);
 }
 
-// Sixteen letters, none exchanged: no group, one, two, sixteen and seventeen; a letter for a group, and one of them missing.
+// Sixteen letters, none exchanged, and so many groups that hold them all: none, one, two, fifteen, sixteen and seventeen; a letter for a group, and one of them missing.
 fn compare_numbers(t: &mut Tally) {
     let masks = [0u16; 16];
     let groups = [65535u16; 17];
-    let singles = SINGLES;
     let log = [3u8, 0, 15];
-    edge(t, tells(16, &masks, &log, part_of(&groups, 0, 0), 18, 0, 0));
-    edge(t, tells(16, &masks, &log, part_of(&groups, 0, 1), 0, 0, 4));
-    edge(t, tells(16, &masks, &log, part_of(&groups, 0, 2), 0, 0, 16));
-    edge(
-        t,
-        tells(16, &masks, &log, part_of(&groups, 0, 15), 0, 0, 1073741824),
-    );
-    edge(
-        t,
-        tells(16, &masks, &log, part_of(&groups, 0, 16), 19, 0, 0),
-    );
-    edge(
-        t,
-        tells(16, &masks, &log, part_of(&groups, 0, 17), 18, 0, 0),
-    );
-    edge(t, tells(16, &masks, &log, &singles, 0, 0, 8));
-    edge(
-        t,
-        tells(16, &masks, &log, part_of(&singles, 0, 15), 18, 0, 0),
-    );
+    for (many, expected) in [
+        (0, Err(18)),
+        (1, Ok(4)),
+        (2, Ok(16)),
+        (15, Ok(1073741824)),
+        (16, Err(19)),
+        (17, Err(18)),
+    ]
+    .iter()
+    {
+        edge(16, &masks, &log, part_of(&groups, 0, *many), *expected, t);
+    }
+    edge(16, &masks, &log, &SINGLES, Ok(8), t);
+    edge(16, &masks, &log, part_of(&SINGLES, 0, 15), Err(18), t);
 }
 
 // 4,294,967,296 is refused by 19; with one event less the ceiling is three quarters of it.
 fn compare_above(t: &mut Tally) {
     let masks = [0u16; 16];
-    let singles = SINGLES;
     let mut log = [0u8; 48];
     put_threes(&mut log);
-    edge(t, tells(16, &masks, &log, &singles, 19, 0, 0));
+    edge(16, &masks, &log, &SINGLES, Err(19), t);
     let less = part_of(&log, 0, 47);
-    edge(t, tells(16, &masks, less, &singles, 0, 0, 3221225472));
+    edge(16, &masks, less, &SINGLES, Ok(3221225472), t);
 }
 
 // 3, 8, 6, 10, 30, 150 and 331 events of seven letters.
@@ -77,26 +83,35 @@ fn compare_highest(t: &mut Tally) {
     let mut log = [0u8; 538];
     put_sevens(&mut log);
     let less = part_of(&log, 0, 537);
-    edge(t, tells(7, &masks, less, &groups, 0, 0, 4294967292));
-    edge(t, tells(7, &masks, &log, &groups, 19, 0, 0));
+    edge(7, &masks, less, &groups, Ok(4294967292), t);
+    edge(7, &masks, &log, &groups, Err(19), t);
 }
 
-// 4,000 events and 4,001; a letter of k; two letters exchanged one way or the other, in one group and in two.
+// 4,000 events and 4,001; a letter of k.
 fn compare_logs(t: &mut Tally) {
     let log = [0u8; 4001];
-    let one = [1u16; 1];
-    let none = [0u16; 1];
-    edge(t, tells(1, &none, part_of(&log, 0, 4000), &one, 0, 0, 4001));
-    edge(t, tells(1, &none, &log, &one, 7, 0, 0));
-    let bad = [0u8, 0, 1, 2];
-    edge(t, tells(1, &none, &bad, &one, 8, 2, 0));
+    let less = part_of(&log, 0, 4000);
+    edge(1, &[0u16], less, &[1u16], Ok(4001), t);
+    edge(1, &[0u16], &log, &[1u16], Err(7), t);
+    let bad = Call {
+        k: 1,
+        masks: &[0u16],
+        log: &[0u8, 0, 1, 2],
+        groups: &[1u16],
+    };
+    t.expect(Counted::Edge, bad.tells(Err(Refused::at(8, 2))));
+    t.count(Counted::Edges);
+}
+
+// Two letters exchanged one way or the other, in one group and in two.
+fn compare_two(t: &mut Tally) {
     let ba = [1u8, 0];
-    edge(t, tells(2, &[2u16, 0], &ba, &[3u16], 18, 0, 0));
-    edge(t, tells(2, &[0u16, 1], &ba, &[3u16], 18, 0, 0));
-    edge(t, tells(2, &[2u16, 1], &ba, &[1u16, 2], 0, 0, 4));
-    edge(t, tells(2, &[0u16, 1], &ba, &[1u16, 2, 3], 18, 0, 0));
-    edge(t, tells(2, &[0u16, 0], &ba, &[3u16, 1, 0], 0, 0, 6));
-    edge(t, tells(2, &[0u16, 0], &ba, &[7u16], 18, 0, 0));
+    edge(2, &[2u16, 0], &ba, &[3u16], Err(18), t);
+    edge(2, &[0u16, 1], &ba, &[3u16], Err(18), t);
+    edge(2, &[2u16, 1], &ba, &[1u16, 2], Ok(4), t);
+    edge(2, &[0u16, 1], &ba, &[1u16, 2, 3], Err(18), t);
+    edge(2, &[0u16, 0], &ba, &[3u16, 1, 0], Ok(6), t);
+    edge(2, &[0u16, 0], &ba, &[7u16], Err(18), t);
 }
 
 pub fn compare_edges(t: &mut Tally) {
@@ -104,26 +119,23 @@ pub fn compare_edges(t: &mut Tally) {
     compare_above(t);
     compare_highest(t);
     compare_logs(t);
+    compare_two(t);
 }
 
-// The number of the first condition that holds, in the order 2, 4, 7, 8, 18, 19.
-fn first_of(which: usize) -> u32 {
-    if bit(which, 0) {
-        return 2;
-    }
-    if bit(which, 1) {
-        return 4;
-    }
-    if bit(which, 2) {
-        return 7;
-    }
-    if bit(which, 3) {
-        return 8;
-    }
-    if bit(which, 4) {
-        return 18;
-    }
-    if bit(which, 5) { 19 } else { 0 }
+// What the first condition that holds refuses, in the order 2, 4, 7, 8, 18, 19.
+fn first_of(which: usize) -> Option<Refused> {
+    [
+        Refused::by(2),
+        Refused::by(4),
+        Refused::by(7),
+        Refused::at(8, 2),
+        Refused::by(18),
+        Refused::by(19),
+    ]
+    .iter()
+    .enumerate()
+    .find(|(i, _)| bit(which, *i))
+    .map(|(_, refused)| *refused)
 }
 
 fn pick(yes: bool, a: usize, b: usize) -> usize {
@@ -140,23 +152,20 @@ fn put_events(bad: bool, log: &mut [u8]) {
 // a product above the limit.
 fn compare_combination(which: usize, t: &mut Tally) {
     let mut masks = [0u16; 16];
-    let singles = SINGLES;
     let mut log = [0u8; 4001];
     put(&mut masks, 0, one16(pick(bit(which, 1), 0, 16)));
     put_events(bit(which, 3), &mut log);
-    let number = first_of(which);
     let events = pick(bit(which, 2), 4001, pick(bit(which, 5), 60, 3));
-    let place = pick(number == 8, 2, 0);
-    let ceiling = pick(number == 0, 4, 0);
-    let right = tells(
-        16,
-        part_of(&masks, 0, pick(bit(which, 0), 15, 16)),
-        part_of(&log, 0, events),
-        part_of(&singles, 0, pick(bit(which, 4), 15, 16)),
-        number,
-        place as u64,
-        ceiling as u64,
-    );
+    let call = Call {
+        k: 16,
+        masks: part_of(&masks, 0, pick(bit(which, 0), 15, 16)),
+        log: part_of(&log, 0, events),
+        groups: part_of(&SINGLES, 0, pick(bit(which, 4), 15, 16)),
+    };
+    let right = match first_of(which) {
+        Some(refused) => call.tells(Err(refused)),
+        None => call.tells(Ok(4)),
+    };
     t.expect(Counted::Combination, right);
     t.count(Counted::Combined);
 }

@@ -1,5 +1,5 @@
 // Every list of so many groups, given as one number: each group is a digit of it.
-use crate::compare::compare_groups;
+use crate::compare::{Call, compare_groups};
 use trial::cells::{one16, part_of, quotient, rest};
 use trial::random::{below, put_log, seed_of};
 use trial::tally::Tally;
@@ -52,11 +52,11 @@ pub fn case_of(k: usize, code: usize, size: usize) -> Case {
     put_log(seed, k, events, &mut log);
     let prefixes = prefix_count(part_of(&masks, 0, k), part_of(&log, 0, events));
     Case {
-        k: k,
-        masks: masks,
-        log: log,
-        events: events,
-        prefixes: prefixes,
+        k,
+        masks,
+        log,
+        events,
+        prefixes,
     }
 }
 
@@ -65,14 +65,13 @@ fn compare_list(c: Case, many: usize, code: usize, size: usize, t: &mut Tally) {
     let masks = c.masks;
     let log = c.log;
     let groups = digits(code, size);
-    compare_groups(
-        c.k,
-        part_of(&masks, 0, c.k),
-        part_of(&log, 0, c.events),
-        part_of(&groups, 0, many),
-        c.prefixes,
-        t,
-    );
+    let call = Call {
+        k: c.k,
+        masks: part_of(&masks, 0, c.k),
+        log: part_of(&log, 0, c.events),
+        groups: part_of(&groups, 0, many),
+    };
+    compare_groups(&call, c.prefixes, t);
 }
 
 // Every list of `many` groups: all codes below `codes`.

@@ -33,6 +33,7 @@ fn right(asked: &Question, told: Told, order: &[u8]) -> bool {
 }
 
 // A profile and a log, of which several budgets are tried.
+#[derive(Clone, Copy)]
 struct Case<'a> {
     shape: Shape,
     moves: &'a [u32],

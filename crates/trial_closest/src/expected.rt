@@ -3,12 +3,11 @@ use crate::lent::Told;
 use crate::order_swaps::swaps;
 use crate::ranks::Ranks;
 use profile::Profile;
-use trial::cells::part_of;
+use trial::cells::{eight, part_of};
 use trial_logs::listing::{Listing, earlier};
 use trial_logs::paths::{accepts, earliest_accepted};
 use trial_logs::prefixes::{look_count, prefix_count};
 use trial_terms::exchanges::Events;
-use trial_terms::judging::letters_of;
 
 // The judge's order and its swaps; the closest order and its swaps, which are the fewest.
 #[derive(Clone, Copy)]
@@ -55,9 +54,9 @@ fn orders_listed(profile: &Profile, rows: &Listing, words: &Listing) -> Option<O
     let first = earliest_accepted(profile, words)?;
     let best = closest_accepted(profile, rows, words)?;
     Some(Orders {
-        judged: letters_of(words.row(first)),
+        judged: eight(words.row(first)),
         judged_swaps: swaps(rows.row(first)),
-        closest: letters_of(words.row(best)),
+        closest: eight(words.row(best)),
         fewest: swaps(rows.row(best)),
     })
 }

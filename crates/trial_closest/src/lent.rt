@@ -5,6 +5,7 @@ use trial::cells::part_of;
 use trial::guarded::Guarded;
 
 // The order buffer, the work table and the cost table.
+#[derive(Clone, Copy)]
 pub struct Lent<const M: usize, const N: usize, const C: usize> {
     pub order: Guarded<u8, M>,
     pub table: Guarded<u32, N>,

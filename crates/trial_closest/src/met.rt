@@ -38,17 +38,3 @@ impl Counter for Met {
         self as usize
     }
 }
-
-// Combined refusals, by the first damage, if there is one.
-#[derive(Clone, Copy)]
-pub struct ByDamage(pub Option<usize>);
-
-impl Counter for ByDamage {
-    // Past all cells where there is no such damage.
-    fn place(self) -> usize {
-        match self.0 {
-            Some(i) => if i < 11 { 32 + i } else { 128 },
-            None => 43,
-        }
-    }
-}

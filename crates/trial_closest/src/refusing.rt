@@ -2,7 +2,7 @@
 // buffer and the cost table stay, and the work table too but for 10 and 17. The damages are those of the judge with terms, and the eleventh is a cost table that
 // is too short; the call without terms can have no damage by 14, 15 and 16.
 use crate::lent::{Answer, Lent, Question, ask};
-use crate::met::{ByDamage, Met};
+use crate::met::Met;
 use profile::{Calendar, Profile};
 use trial::answers::Refused;
 use trial::cells::{bit, part_of, plus};
@@ -13,6 +13,7 @@ use trial_term_refusals::combined::{
     mask_count, move_count, put_days, put_log, put_terms, refusal_of, room_for, table_size,
     term_numbers,
 };
+use trial_terms::met::ByDamage;
 
 // The buffers that a damaged call is lent.
 type Small = Lent<4024, 88, 40>;

@@ -4,7 +4,7 @@ use profile::Profile;
 use trial::cells::{byte, one32, plus, times, value_at, wide};
 use trial::tally::Tally;
 use trial_grammar::meanings::{Around, Members, describes};
-use trial_grammar::words::{is_letter, letter_at, one_if};
+use trial_grammar::words::letter_of;
 
 // "may come directly after the q-th letter typed, or first for q = 0": letter r.
 fn comes(k: usize, text: &[u8], q: usize, r: usize, table: &mut [usize]) -> bool {
@@ -40,13 +40,13 @@ fn final_states(k: usize, text: &[u8], s: usize, table: &mut [usize]) -> u32 {
 
 // The states of the letters typed that are a.
 fn typed_as(k: usize, text: &[u8], a: usize) -> u32 {
-    let mut all = 0;
-    let mut number = 0;
-    for i in 0..text.len() {
-        number = plus(number, one_if(is_letter(k, text, i)));
-        all = all | state_if(letter_at(k, text, i) == a, number);
-    }
-    all
+    text.iter()
+        .filter_map(|c| letter_of(k, *c))
+        .enumerate()
+        .fold(
+            0,
+            |all, (i, letter)| all | state_if(letter == a, plus(i, 1)),
+        )
 }
 
 // The k moves from a state, at `at` and behind.

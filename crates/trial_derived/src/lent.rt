@@ -3,6 +3,7 @@ use crate::cases::Case;
 use trial::guarded::Guarded;
 
 // What a call is lent, and what it tells.
+#[derive(Clone, Copy)]
 pub struct Lent {
     pub order: Guarded<u8, 24>,
     pub table: Guarded<u32, 700>,

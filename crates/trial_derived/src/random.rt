@@ -1,16 +1,7 @@
 // Random grammars, masks and logs.
 use crate::cases::{Case, no_case};
 use trial::cells::{byte, plus};
-use trial::random::{below, put_masks, seed_of};
-
-// One to three letters, or four to sixteen in one of four cases.
-fn letters_of(seed: usize) -> usize {
-    if below(seed, 10, 4) == 0 {
-        plus(4, below(seed, 11, 13))
-    } else {
-        plus(1, below(seed, 11, 3))
-    }
-}
+use trial::random::{below, letter_count, put_masks, seed_of};
 
 // Mostly few names; else any number.
 fn names_of(seed: usize) -> usize {
@@ -84,7 +75,7 @@ fn with_masks(case: Case, seed: usize) -> Case {
 // A case that is not refused but for what it is lent; the log has at most six letters.
 pub fn random_case(seed: usize) -> Case {
     let mut c = no_case();
-    c.k = letters_of(seed);
+    c.k = letter_count(seed);
     c.names = names_of(seed);
     c.letters = c.k;
     c.many = many_of(seed);

@@ -103,10 +103,7 @@ fn begins(k: usize, beginning: &[u8]) -> bool {
 
 // The place of 11 in a text that is not right: "the first byte that no right text with the same beginning has there, or the text's length".
 pub fn place_of(k: usize, text: &[u8]) -> usize {
-    for i in 0..text.len() {
-        if !begins(k, part_of(text, 0, plus(i, 1))) {
-            return i;
-        }
-    }
-    text.len()
+    (0..text.len())
+        .find(|&i| !begins(k, part_of(text, 0, plus(i, 1))))
+        .unwrap_or(text.len())
 }

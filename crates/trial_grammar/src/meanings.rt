@@ -2,8 +2,8 @@
 // and a member leads from its node to the next. Where anything may come before the list, or behind it, every letter leads from node 0 to itself,
 // or from node n.
 use crate::parts::{Kind, meaning_of};
-use crate::words::{is_letter, letter_at, one, one_if, when};
-use trial::cells::{bit, plus, put, wide};
+use crate::words::{letter_of, one, when};
+use trial::cells::{bit, plus, wide};
 
 // What may come around the list: nothing, anything before it, anything behind it, or both.
 #[derive(Clone, Copy, PartialEq, Eq)]
@@ -44,14 +44,7 @@ fn paths_of(member: usize, list: &[u8], around: Around) -> usize {
         .fold(loops(around, list.len()), |all, (p, _)| all | next_node(p))
 }
 
-fn member_of(members: Members, k: usize, text: &[u8], i: usize, number: usize) -> usize {
-    match members {
-        Members::Letters => letter_at(k, text, i),
-        Members::Typed => number,
-    }
-}
-
-// The paths of the letter at each place.
+// The paths of the letter at each place; other bytes have none.
 fn put_paths(
     members: Members,
     k: usize,
@@ -61,13 +54,16 @@ fn put_paths(
     letters: &mut [usize],
 ) {
     let mut number = 0;
-    for i in 0..text.len() {
-        number = plus(number, one_if(is_letter(k, text, i)));
-        put(
-            letters,
-            i,
-            paths_of(member_of(members, k, text, i, number), list, around),
-        );
+    for (c, paths) in text.iter().zip(letters) {
+        if let Some(a) = letter_of(k, *c) {
+            number = plus(number, 1);
+            let member = if members == Members::Letters {
+                a
+            } else {
+                number
+            };
+            *paths = paths_of(member, list, around);
+        }
     }
 }
 
@@ -90,9 +86,10 @@ pub fn describes(
 
 // The log of the letter alone; no log for the letters behind a and b.
 fn put_logs(k: usize, text: &[u8], letters: &mut [usize]) {
-    for i in 0..text.len() {
-        let a = letter_at(k, text, i);
-        put(letters, i, when(a < 2, one(plus(a, 1))));
+    for (c, logs) in text.iter().zip(letters) {
+        if let Some(a) = letter_of(k, *c) {
+            *logs = when(a < 2, one(plus(a, 1)));
+        }
     }
 }
 

@@ -1,5 +1,5 @@
 // Sets as the bits of a number, and the letters of a text.
-use trial::cells::byte_at;
+use trial::cells::wide;
 
 // The set of i alone.
 pub fn one(i: usize) -> usize {
@@ -11,24 +11,21 @@ pub fn when(test: bool, set: usize) -> usize {
     if test { set } else { 0 }
 }
 
-pub fn one_if(test: bool) -> usize {
-    when(test, 1)
+// "Letters are a to p": the letter below k that the byte stands for.
+pub fn letter_of(k: usize, c: u8) -> Option<usize> {
+    let a = wide(c).checked_sub(97)?;
+    if (a < k) & (a < 16) { Some(a) } else { None }
 }
 
-// "Letters are a to p": the letter below k that stands at place i; 16 where there is none.
-pub fn letter_at(k: usize, text: &[u8], i: usize) -> usize {
-    let c = byte_at(text, i);
-    if c < 97 {
-        return 16;
-    }
-    if c - 97 < k { c - 97 } else { 16 }
+pub fn letter_at(k: usize, text: &[u8], i: usize) -> Option<usize> {
+    letter_of(k, *text.get(i)?)
 }
 
 pub fn is_letter(k: usize, text: &[u8], i: usize) -> bool {
-    letter_at(k, text, i) < 16
+    letter_at(k, text, i).is_some()
 }
 
 // How many letters are typed.
 pub fn letter_count(k: usize, text: &[u8]) -> usize {
-    (0..text.len()).filter(|&i| is_letter(k, text, i)).count()
+    text.iter().filter(|c| letter_of(k, **c).is_some()).count()
 }

@@ -1,6 +1,6 @@
 // The judge on one log under two nested lists of pairs, each answer against the listing, and the two beside each other.
 use profile::Profile;
-use trial::cells::{copy, part_of};
+use trial::cells::{eight, part_of};
 use trial::tally::{Counter, Tally};
 use trial_logs::judging::compare_judge;
 use trial_logs::listing::{Listing, earlier};
@@ -37,17 +37,10 @@ struct Outcome {
     looks: usize,
 }
 
-// Up to eight letters by value.
-fn letters_of(word: &[u8]) -> [u8; 8] {
-    let mut letters = [0u8; 8];
-    copy(word, &mut letters);
-    letters
-}
-
 fn outcome_of(profile: &Profile, log: &[u8]) -> Outcome {
     let listing = Listing::of(profile.masks, log);
     Outcome {
-        order: earliest_accepted(profile, &listing).map(|r| letters_of(listing.row(r))),
+        order: earliest_accepted(profile, &listing).map(|r| eight(listing.row(r))),
         prefixes: prefix_count(profile.masks, log),
         looks: look_count(profile.masks, log),
     }

@@ -37,7 +37,10 @@ fn compare_log(text: &[u8], profile: &Profile, log: &[u8], table: &mut [usize], 
 // Letter i of the log is the letter typed at a random place, where some described log begins so; whether one of six did.
 fn grow(seed: usize, k: usize, text: &[u8], i: usize, log: &mut [u8], table: &mut [usize]) -> bool {
     for x in 0..6 {
-        put(log, i, byte(letter_at(k, text, below(seed, x, text.len()))));
+        let Some(a) = letter_at(k, text, below(seed, x, text.len())) else {
+            continue;
+        };
+        put(log, i, byte(a));
         if describes(
             Members::Letters,
             k,

@@ -5,7 +5,7 @@ use crate::met::Met;
 use profile::{Calendar, Profile};
 use trial::answers::{Refused, is_refusal, is_unchanged, is_verdict};
 use trial::calls::judge_in;
-use trial::cells::{copy, minus, part_of, plus, wide};
+use trial::cells::{eight, minus, part_of, plus, wide};
 use trial::guarded::Guarded;
 use trial::record_numbers::{BACKWARD, FORWARD, record_at, set_of, total_of};
 use trial::tally::Tally;
@@ -85,18 +85,11 @@ struct Expected {
 fn expect_log(profile: &Profile, events: &Events, log: &[u8]) -> Expected {
     let words = Listing::of(events.masks(), events.places()).spelled(log);
     Expected {
-        order: earliest_accepted(profile, &words).map(|r| letters_of(words.row(r))),
+        order: earliest_accepted(profile, &words).map(|r| eight(words.row(r))),
         prefixes: prefix_count(events.masks(), events.places()),
         looks: look_count(events.masks(), events.places()),
         count: words.count(),
     }
-}
-
-// Up to eight letters by value.
-pub fn letters_of(word: &[u8]) -> [u8; 8] {
-    let mut letters = [0u8; 8];
-    copy(word, &mut letters);
-    letters
 }
 
 // Counts a judged log; a listing that did not fit has no rows and is wrong.

@@ -7,6 +7,7 @@ use trial_logs::listing::{Listing, earlier};
 use trial_logs::paths::{beginnings, led};
 
 // The profile, the mask of visible letters, and how many lists are tried: all up to a length that no shorter one needs.
+#[derive(Clone, Copy)]
 pub struct View<'a> {
     pub profile: &'a Profile<'a>,
     pub visible: usize,
