@@ -30,9 +30,10 @@ fn compare_log(k: usize, masks: &[u16], log: &[u8], t: &mut Tally) {
         log,
         &mut table,
     );
+    let keys = Keys::of(masks, log);
     let built = Built {
         table: table.content(),
-        keys: &Keys::of(masks, log),
+        keys: &keys,
     };
     t.count(Counted::Tables);
     if k < 4 {

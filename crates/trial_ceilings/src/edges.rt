@@ -16,11 +16,11 @@ fn put_threes(log: &mut [u8]) {
     }
 }
 
-fn edge(
+fn edge<'x>(
     k: usize,
-    masks: &[u16],
-    log: &[u8],
-    groups: &[u16],
+    masks: &'x [u16],
+    log: &'x [u8],
+    groups: &'x [u16],
     expected: Result<u64, usize>,
     t: &mut Tally,
 ) {

@@ -6,7 +6,7 @@ use crate::met::Met;
 use profile::{Calendar, Profile};
 use trial::answers::{Answer, Refused, is_verdict};
 use trial::calls::judge_in;
-use trial::cells::{minus, part_of, plus, times};
+use trial::cells::{minus, plus, times};
 use trial::guarded::Guarded;
 use trial::record_numbers::record_at;
 use trial::tally::{Counter, Tally};
@@ -36,7 +36,7 @@ impl Sizes {
 // The order at the start of the lent part, and nothing else; with verdict 0 nothing.
 fn order_right(buffer: &Guarded<u8, 32>, expected: &Expected, budget: u64, n: usize) -> bool {
     match expected.order(budget) {
-        Some((order, _)) => buffer.holds(part_of(&order, 0, n)),
+        Some(order) => buffer.holds(order.word(n)),
         None => buffer.stays(),
     }
 }
@@ -50,7 +50,7 @@ fn count_floor(expected: &Expected, budget: u64, t: &mut Tally) {
         } else {
             let floor = expected.floor(budget).unwrap_or(0);
             t.count_if(Met::Floors, 0 < floor);
-            t.count_if(Met::LowFloors, (0 < floor) & (floor < orders.fewest));
+            t.count_if(Met::LowFloors, (0 < floor) & (floor < orders.closest.swaps));
         }
     }
 }
@@ -121,7 +121,7 @@ fn count_log(masks: &[u16], log: &[u8], expected: &Expected, t: &mut Tally) {
     if let Some(orders) = expected.orders {
         t.count(Met::Accepted);
         t.count_if(Met::OtherOrder, orders.differ(log.len()));
-        t.count_if(Met::Swapped, 0 < orders.fewest);
+        t.count_if(Met::Swapped, 0 < orders.closest.swaps);
     }
 }
 
@@ -197,10 +197,10 @@ fn compare_short(
 }
 
 // Compares all that is said of one log; `extra` varies how much longer or shorter than needed the lent buffers are.
-pub fn compare_log(
-    profile: &Profile,
-    log: &[u8],
-    calendar: Option<&Calendar>,
+pub fn compare_log<'x>(
+    profile: &'x Profile<'x>,
+    log: &'x [u8],
+    calendar: Option<&'x Calendar<'x>>,
     extra: usize,
     t: &mut Tally,
 ) {

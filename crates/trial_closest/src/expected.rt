@@ -9,13 +9,32 @@ use trial_logs::paths::{accepts, earliest_accepted};
 use trial_logs::prefixes::{look_count, prefix_count};
 use trial_terms::exchanges::Events;
 
-// The judge's order and its swaps; the closest order and its swaps, which are the fewest.
+// An order and its swaps.
+#[derive(Clone, Copy)]
+pub struct Order {
+    letters: [u8; 8],
+    pub swaps: usize,
+}
+
+impl Order {
+    // That of row r, as events and as letters.
+    fn listed(rows: &Listing, words: &Listing, r: usize) -> Self {
+        let letters = eight(words.row(r));
+        let swaps = swaps(rows.row(r));
+        Order { letters, swaps }
+    }
+
+    // Its first n letters.
+    pub fn word(&self, n: usize) -> &[u8] {
+        part_of(&self.letters, 0, n)
+    }
+}
+
+// The judge's order, and the closest, whose swaps are the fewest.
 #[derive(Clone, Copy)]
 pub struct Orders {
-    judged: [u8; 8],
-    judged_swaps: usize,
-    closest: [u8; 8],
-    pub fewest: usize,
+    pub judged: Order,
+    pub closest: Order,
 }
 
 // A listing that did not fit has count 0.
@@ -54,10 +73,8 @@ fn orders_listed(profile: &Profile, rows: &Listing, words: &Listing) -> Option<O
     let first = earliest_accepted(profile, words)?;
     let best = closest_accepted(profile, rows, words)?;
     Some(Orders {
-        judged: eight(words.row(first)),
-        judged_swaps: swaps(rows.row(first)),
-        closest: eight(words.row(best)),
-        fewest: swaps(rows.row(best)),
+        judged: Order::listed(rows, words, first),
+        closest: Order::listed(rows, words, best),
     })
 }
 
@@ -90,14 +107,14 @@ impl Expected {
             verdict: self.verdict(),
             prefixes: self.prefixes,
             looks: self.looks,
-            swaps: self.order(budget).map_or(0, |(_, swaps)| swaps),
+            swaps: self.order(budget).map_or(0, |order| order.swaps),
             floor: self.floor(budget).unwrap_or(0),
         }
     }
 
     // "The floor is the smaller of the fewest swaps of any accepted order and the swaps of the (B + 1)-th pair so ranked, if there is one."
     pub fn floor(&self, budget: u64) -> Option<usize> {
-        let fewest = self.orders?.fewest;
+        let fewest = self.orders?.closest.swaps;
         if self.is_covered(budget) {
             return Some(fewest);
         }
@@ -107,13 +124,13 @@ impl Expected {
         }
     }
 
-    // "If B covers all pairs, the order has c = f and is the earliest such in letter order; otherwise it is the judge's." With its swaps.
-    pub fn order(&self, budget: u64) -> Option<([u8; 8], usize)> {
+    // "If B covers all pairs, the order has c = f and is the earliest such in letter order; otherwise it is the judge's."
+    pub fn order(&self, budget: u64) -> Option<Order> {
         let orders = self.orders?;
         if self.is_covered(budget) {
-            Some((orders.closest, orders.fewest))
+            Some(orders.closest)
         } else {
-            Some((orders.judged, orders.judged_swaps))
+            Some(orders.judged)
         }
     }
 }
@@ -121,6 +138,6 @@ impl Expected {
 impl Orders {
     // The two orders differ in their first n letters.
     pub fn differ(&self, n: usize) -> bool {
-        earlier(part_of(&self.judged, 0, n), part_of(&self.closest, 0, n))
+        earlier(self.judged.word(n), self.closest.word(n))
     }
 }

@@ -86,12 +86,12 @@ fn answer_right(answer: Answer, expected: Option<Refused>, lent: &Small) -> bool
 }
 
 // The call with terms, or without.
-fn asked(
+fn asked<'x>(
     damages: usize,
     variant: usize,
     with_terms: bool,
-    profile: &Profile,
-    log: &[u8],
+    profile: &'x Profile<'x>,
+    log: &'x [u8],
     lent: &mut Small,
 ) -> Answer {
     let mut days = [20260901u32; 4004];

@@ -70,7 +70,7 @@ fn compare_outcomes(a: &Outcome, b: &Outcome, n: usize, t: &mut Tally) {
 }
 
 // Judges a log of at most eight events under both lists, in tables that are large enough; `longer` holds every bit of the profile's own masks.
-pub fn compare_nested(profile: &Profile, longer: &[u16], log: &[u8], t: &mut Tally) {
+pub fn compare_nested<'x>(profile: &Profile<'x>, longer: &'x [u16], log: &[u8], t: &mut Tally) {
     let n = log.len();
     let more = Profile {
         shape: profile.shape,
