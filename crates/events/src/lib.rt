@@ -44,7 +44,7 @@ pub struct Keepers<'a> {
 }
 
 // The set of the letters below k that keep each letter.
-fn all_keepers(masks: &[u16], k: usize) -> [u32; MOST_LETTERS]
+pub fn all_keepers(masks: &[u16], k: usize) -> [u32; MOST_LETTERS]
     requires { k ≤ most_letters }
     ensures { result ≡ all_keepers (independent_by masks.now) k }
 {

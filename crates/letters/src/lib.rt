@@ -109,7 +109,7 @@ fn tested_few(by: &ByPlaces, c: Counts, set: u32) -> u32
 }
 
 // Of a set of letters, those that can be added to the counts c. For many letters the places of all are put in a row first.
-fn tested(by: &ByPlaces, c: Counts, set: u32) -> u32
+pub fn tested(by: &ByPlaces, c: Counts, set: u32) -> u32
     ensures { result ≡ tested_by (independent by.now.keepers.now.masks.now) by.now.keepers.now.k by.now.n by.now.placed.now.starts.now by.now.placed.now.places.now (words c) set }
 {
     if u32::count_ones(set) <= FEW {
@@ -120,7 +120,7 @@ fn tested(by: &ByPlaces, c: Counts, set: u32) -> u32
 }
 
 // The letters below k that are in neither set.
-fn in_neither(k: usize, a: u32, b: u32) -> u32
+pub fn in_neither(k: usize, a: u32, b: u32) -> u32
     requires { k ≤ most_letters }
     ensures { result ≡ neither k a b }
 {

@@ -4,7 +4,7 @@
 ghost use Rattle.std.specs.Prelude.{◌≡◌, ◌≤◌, ◌<◌};
 ghost use Rattle.profile.specs.Automata.{backward_step, forward_step};
 ghost use Rattle.profile.specs.Limits.{most_letters, most_states};
-ghost use Rattle.rows.specs.Rows.{by_letter, led as led_at};
+ghost use Rattle.rows.specs.Rows.{backward_by as backward_at, by_letter, forward_by as forward_at, led as led_at};
 
 use profile::Profile;
 use profile::limits::{MOST_MOVES, MOST_STATES};
@@ -17,7 +17,7 @@ const ROW: usize = MOST_STATES;
 #[derive(Drop)]
 pub struct Rows<'a> {
     pub profile: Profile<'a>,
-    rows: [u32; MOST_MOVES],
+    pub rows: [u32; MOST_MOVES],
     pub ghost small: { (profile.shape.k ≤ most_letters) × (profile.shape.s ≤ most_states) },
     pub ghost of_moves: { rows ≡ by_letter profile.shape.k profile.shape.s profile.moves.now },
 }
@@ -36,7 +36,7 @@ fn led(moves: &[u32], k: usize, s: usize, i: usize) -> u32
 }
 
 // The moves by letter.
-fn by_letter(moves: &[u32], k: usize, s: usize) -> [u32; MOST_MOVES]
+pub fn by_letter(moves: &[u32], k: usize, s: usize) -> [u32; MOST_MOVES]
     requires { k ≤ most_letters }
     ensures { result ≡ by_letter k s moves.now }
 {
@@ -70,8 +70,9 @@ impl<'a> Rows<'a> {
 
     // The states to which letter a leads from the states of a set. The number is read before the test, so that no turn depends on what it finds.
     pub fn forward_by(&self, set: u32, a: usize) -> u32
-        requires { a < self.now.profile.shape.k }
-        ensures { result ≡ forward_step self.now.profile.shape.k self.now.profile.shape.s self.now.profile.moves.now set a }
+        requires { a < most_letters }
+        ensures by_rows { result ≡ forward_at self.now.profile.shape.s self.now.rows set a }
+        ensures step { a < self.now.profile.shape.k → result ≡ forward_step self.now.profile.shape.k self.now.profile.shape.s self.now.profile.moves.now set a }
     {
         let at = ROW * a;
         let end = self.states();
@@ -87,8 +88,9 @@ impl<'a> Rows<'a> {
 
     // The states from which letter a leads into a set.
     pub fn backward_by(&self, set: u32, a: usize) -> u32
-        requires { a < self.now.profile.shape.k }
-        ensures { result ≡ backward_step self.now.profile.shape.k self.now.profile.shape.s self.now.profile.moves.now set a }
+        requires { a < most_letters }
+        ensures by_rows { result ≡ backward_at self.now.profile.shape.s self.now.rows set a }
+        ensures step { a < self.now.profile.shape.k → result ≡ backward_step self.now.profile.shape.k self.now.profile.shape.s self.now.profile.moves.now set a }
     {
         let at = ROW * a;
         let end = self.states();

@@ -87,7 +87,7 @@ loop-rest-preserved c =
     let less : r < 2 ^ 32 = omega (arith, and_le_r n (n - 1)) in (elim c.if-x-k.branch [
       | then-x-k w ↦ let q = w.flagged_before-r.ensures ∙ ap (flag_before t x) (i.4.0 x first) in
           let e = is_true (bit (letters_at t a.j) x) (i.2 x first) in
-          let to = w.backward_by-out.ensures ∙ ap (λ S. backward_step p.shape.k p.shape.s p.moves.now S x) (w.last_at.ensures ∙ ap (last_at t) q) in (
+          let to = w.backward_by-out.ensures.step w.if-x-k.true ∙ ap (λ S. backward_step p.shape.k p.shape.s p.moves.now S x) (w.last_at.ensures ∙ ap (last_at t) q) in (
             less,
             ap length w.cursors-is ∙ simp length-set i.1,
             λ y m. i.2 y (rest_in n some few y m),

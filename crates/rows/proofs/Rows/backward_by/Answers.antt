@@ -29,5 +29,5 @@ returns c =
     let r = a.self.now in
     let p = r.profile in
     let e : c.loop-q.q ≡ p.shape.s = omega (arith, c.loop-q.invariant.0) in
-    c.loop-q.invariant.1 ∙ ap (λ n. backward_by n r.rows a.set a.a) e
-    ∙ backward_same p.shape.k p.shape.s p.moves.now r.rows r.of_moves r.small.0 r.small.1 a.a c.requires a.set
+    let by = c.loop-q.invariant.1 ∙ ap (λ n. backward_by n r.rows a.set a.a) e in
+    record { by_rows = by; step = λ h. by ∙ backward_same p.shape.k p.shape.s p.moves.now r.rows r.of_moves r.small.0 r.small.1 a.a h a.set }
