@@ -11,8 +11,8 @@ ghost use Rattle.arrival.specs.Arrival.{HasRoom};
 ghost use Rattle.newcomers.specs.Newcomers.{Brought, Inside, Moved, PlaceFor, PlaceTold, Put, PutIf, Scanned, allows?, count_in, gives?, joining, joins_at?, led_at, led_from};
 
 use counts::Counts;
-use profile::limits::{COUNT_NUMBERS, MOST_LETTERS};
 use profile::Profile;
+use profile::limits::{COUNT_NUMBERS, MOST_LETTERS};
 
 // Letter b does not keep an event of letter a from being added: a may pass b, or the counts `own` have as many b as `last`.
 fn allows(
@@ -32,13 +32,7 @@ fn allows(
 }
 
 // An event of letter a, after the events whose counts are `last`, can be added to record j: of each letter that a may not pass it has as many.
-fn joins(
-    t: &[u32],
-    j: usize,
-    profile: &Profile,
-    a: usize,
-    last: &[u32; COUNT_NUMBERS],
-) -> bool
+fn joins(t: &[u32], j: usize, profile: &Profile, a: usize, last: &[u32; COUNT_NUMBERS]) -> bool
     requires { (profile.now.shape.k ≤ most_letters) × HasRoom t.now (j + 1) }
     ensures { result ≡ joins_at? (independent_by profile.now.masks.now) profile.now.shape.k last.now a (counts_at t.now j) }
 {
