@@ -49,7 +49,7 @@ fn count_in(w: u32, a: usize) -> u32
 }
 
 // The numbers of counts in a row, for a loop over the letters.
-// Kept: `<[u32; NUMBERS]>::from(c)` would be no plainer where it is called.
+// Kept: the field would say the same, but the calls of six crates stay as they are.
 pub fn numbers(c: Counts) -> [u32; NUMBERS]
     ensures { result ≡ words c }
 {
