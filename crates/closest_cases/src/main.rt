@@ -56,6 +56,11 @@ fn random_terms(seed: usize, n: usize) -> Dated {
     }
 }
 
+fn compare_in_terms(profile: &Profile, log: &[u8], dated: &Dated, extra: usize, t: &mut Tally) {
+    let calendar = dated.calendar(log.len());
+    compare_log(profile, log, Some(&calendar), extra, t);
+}
+
 fn with_log(profile: &Profile, seed: usize, with_terms: bool, t: &mut Tally) {
     let mut log = [0u8; 8];
     let n = length_of(seed, profile.shape.k, profile.shape.s);
@@ -63,8 +68,7 @@ fn with_log(profile: &Profile, seed: usize, with_terms: bool, t: &mut Tally) {
     let word = part_of(&log, 0, n);
     let extra = below(seed, 15, 1000);
     if with_terms {
-        let dated = random_terms(seed, n);
-        compare_log(profile, word, Some(&dated.calendar(n)), extra, t);
+        compare_in_terms(profile, word, &random_terms(seed, n), extra, t);
     } else {
         compare_log(profile, word, None, extra, t);
     }

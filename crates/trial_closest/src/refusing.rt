@@ -85,11 +85,10 @@ fn answer_right(answer: Answer, expected: Option<Refused>, lent: &Small) -> bool
     }
 }
 
-// The call with terms, or without.
-fn asked<'x>(
+// The call with terms.
+fn ask_in_terms<'x>(
     damages: usize,
     variant: usize,
-    with_terms: bool,
     profile: &'x Profile<'x>,
     log: &'x [u8],
     lent: &mut Small,
@@ -105,7 +104,23 @@ fn asked<'x>(
     let question = Question {
         profile,
         log,
-        calendar: if with_terms { Some(&calendar) } else { None },
+        calendar: Some(&calendar),
+        budget: budget_of(variant),
+    };
+    ask(&question, lent)
+}
+
+// The call without terms.
+fn ask_plainly<'x>(
+    variant: usize,
+    profile: &'x Profile<'x>,
+    log: &'x [u8],
+    lent: &mut Small,
+) -> Answer {
+    let question = Question {
+        profile,
+        log,
+        calendar: None,
         budget: budget_of(variant),
     };
     ask(&question, lent)
@@ -122,7 +137,11 @@ fn compare(damages: usize, variant: usize, with_terms: bool, log: &[u8], t: &mut
     };
     let mut lent = lent_to(damages, variant, log.len());
     let first = first_of(damages);
-    let answer = asked(damages, variant, with_terms, &profile, log, &mut lent);
+    let answer = if with_terms {
+        ask_in_terms(damages, variant, &profile, log, &mut lent)
+    } else {
+        ask_plainly(variant, &profile, log, &mut lent)
+    };
     let expected = first.and_then(|damage| refused_by(damage, variant));
     t.expect(Met::Refusal, answer_right(answer, expected, &lent));
     t.count(Met::Combined);
