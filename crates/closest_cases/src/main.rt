@@ -2,7 +2,7 @@
 // logs with terms. Prints how much was compared, what was refused, and how much was wrong.
 #![tactic(auto)]
 
-use profile::{Calendar, Profile};
+use profile::Profile;
 use std::io;
 use trial::cells::{part_of, plus, times};
 use trial::logs::{log_count, put_log_number};
@@ -56,22 +56,22 @@ fn random_terms(seed: usize, n: usize) -> Dated {
     }
 }
 
-fn compare_in_terms(profile: &Profile, log: &[u8], dated: &Dated, extra: usize, t: &mut Tally) {
-    let calendar = dated.calendar(log.len());
-    compare_log(profile, log, Some(&calendar), extra, t);
-}
-
 fn with_log(profile: &Profile, seed: usize, with_terms: bool, t: &mut Tally) {
     let mut log = [0u8; 8];
     let n = length_of(seed, profile.shape.k, profile.shape.s);
     put_log(seed_of(seed, 1), profile.shape.k, n, &mut log);
-    let word = part_of(&log, 0, n);
-    let extra = below(seed, 15, 1000);
-    if with_terms {
-        compare_in_terms(profile, word, &random_terms(seed, n), extra, t);
+    let dated = if with_terms {
+        Some(random_terms(seed, n))
     } else {
-        compare_log(profile, word, None, extra, t);
-    }
+        None
+    };
+    compare_log(
+        profile,
+        part_of(&log, 0, n),
+        dated,
+        below(seed, 15, 1000),
+        t,
+    );
 }
 
 fn one_profile(seed: usize, with_terms: bool, t: &mut Tally) {
@@ -116,20 +116,20 @@ fn halves_of(halves: usize) -> Dated {
 }
 
 // A log of Alt and of one state that accepts everything; the pairs are both ways, one way, the other way or none.
-fn compare_two(log: &[u8], v: usize, pairs: usize, calendar: Option<&Calendar>, t: &mut Tally) {
+fn compare_two(log: &[u8], v: usize, pairs: usize, dated: Option<Dated>, t: &mut Tally) {
     let masks = [((pairs % 2) * 2) as u16, (pairs / 2 % 2) as u16];
     let alternate = Profile {
         shape: alt(),
         masks: &masks,
         moves: &[2u32, 0, 0, 1],
     };
-    compare_log(&alternate, log, calendar, v, t);
+    compare_log(&alternate, log, dated, v, t);
     let any = Profile {
         shape: shape_of(2, 1, 0, 1),
         masks: &masks,
         moves: &[1u32, 1],
     };
-    compare_log(&any, log, calendar, plus(v, pairs), t);
+    compare_log(&any, log, dated, plus(v, pairs), t);
 }
 
 // Every log of up to six letters a and b.
@@ -147,9 +147,8 @@ fn all_halves(t: &mut Tally) {
         let mut log = [0u8; 8];
         let v = plus(15, i / 64);
         let n = put_log_number(2, v, &mut log);
-        let dated = halves_of(i % 16);
-        let calendar = dated.calendar(n);
-        compare_two(part_of(&log, 0, n), v, i / 16 % 4, Some(&calendar), t);
+        let dated = Some(halves_of(i % 16));
+        compare_two(part_of(&log, 0, n), v, i / 16 % 4, dated, t);
     }
 }
 

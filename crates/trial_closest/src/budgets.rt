@@ -1,9 +1,9 @@
 // One log, with terms or without, with every budget from 0 to one more than all pairs, and some of more than 32 bits: the order, its swaps, the floor, P, looks,
 // the table, and what stays; and with buffers that are too short.
 use crate::expected::{Expected, expect};
-use crate::lent::{Lent, Question, ask};
+use crate::lent::{Asked, Dated, Lent, ask};
 use crate::met::Met;
-use profile::{Calendar, Profile};
+use profile::Profile;
 use trial::answers::{Answer, Refused, is_verdict};
 use trial::calls::judge_in;
 use trial::cells::{minus, plus, times};
@@ -55,8 +55,8 @@ fn count_floor(expected: &Expected, budget: u64, t: &mut Tally) {
     }
 }
 
-// The question with another budget.
-fn with_budget<'a>(asked: &Question<'a>, budget: u64) -> Question<'a> {
+// The same with another budget.
+fn with_budget(asked: &Asked, budget: u64) -> Asked {
     let mut other = *asked;
     other.budget = budget;
     other
@@ -64,16 +64,18 @@ fn with_budget<'a>(asked: &Question<'a>, budget: u64) -> Question<'a> {
 
 // One budget; `judged` is the table as the judge left it, in as many numbers.
 fn compare_budget(
-    asked: &Question,
+    profile: &Profile,
+    log: &[u8],
+    asked: &Asked,
     sizes: &Sizes,
     expected: &Expected,
     judged: &Guarded<u32, 1416>,
     t: &mut Tally,
 ) {
     let mut lent = sizes.lent();
-    let answer = ask(asked, &mut lent);
+    let answer = ask(profile, log, asked, &mut lent);
     let right = (answer == Some(Ok(expected.told(asked.budget))))
-        & order_right(&lent.order, expected, asked.budget, asked.log.len())
+        & order_right(&lent.order, expected, asked.budget, log.len())
         & (lent.table == *judged)
         & lent.costs.stays_behind(sizes.costs);
     t.expect(Met::Budget, right);
@@ -82,7 +84,9 @@ fn compare_budget(
 
 // Every budget from 0 to one more than all pairs, and budgets of more than 32 bits, which cover all pairs; the low bits of the first are 0.
 fn compare_budgets(
-    asked: &Question,
+    profile: &Profile,
+    log: &[u8],
+    asked: &Asked,
     sizes: &Sizes,
     expected: &Expected,
     judged: &Guarded<u32, 1416>,
@@ -90,6 +94,8 @@ fn compare_budgets(
 ) {
     for budget in 0..plus(expected.ranks.pairs(), 2) {
         compare_budget(
+            profile,
+            log,
             &with_budget(asked, budget as u64),
             sizes,
             expected,
@@ -98,18 +104,24 @@ fn compare_budgets(
         );
     }
     for budget in [4294967296u64, 9223372036854775808, 18446744073709551615].iter() {
-        compare_budget(&with_budget(asked, *budget), sizes, expected, judged, t);
+        compare_budget(
+            profile,
+            log,
+            &with_budget(asked, *budget),
+            sizes,
+            expected,
+            judged,
+            t,
+        );
     }
 }
 
 // Counts what days and terms are, and whether they leave fewer prefixes.
-fn count_dated(asked: &Question, calendar: &Calendar, prefixes: usize, t: &mut Tally) {
-    t.count_if(Met::Turns, some_turn(calendar));
+fn count_dated(masks: &[u16], log: &[u8], dated: &Dated, prefixes: usize, t: &mut Tally) {
+    let calendar = dated.calendar(log.len());
+    t.count_if(Met::Turns, some_turn(&calendar));
     t.count_if(Met::Falls, some_fall(calendar.days));
-    t.count_if(
-        Met::Fewer,
-        prefixes < prefix_count(asked.profile.masks, asked.log),
-    );
+    t.count_if(Met::Fewer, prefixes < prefix_count(masks, log));
 }
 
 // Counts what the log is; a listing that did not fit has no rows and is wrong.
@@ -127,39 +139,59 @@ fn count_log(masks: &[u16], log: &[u8], expected: &Expected, t: &mut Tally) {
 
 // The judge with the same terms, or without.
 fn judge_too(
-    asked: &Question,
+    profile: &Profile,
+    log: &[u8],
+    asked: &Asked,
     order: &mut Guarded<u8, 32>,
     table: &mut Guarded<u32, 1416>,
 ) -> Answer {
-    match asked.calendar {
-        Some(calendar) => judge_terms_in(asked.profile, asked.log, calendar, order, table),
-        None => judge_in(asked.profile, asked.log, order, table),
+    match asked.dated {
+        Some(dated) => {
+            let calendar = dated.calendar(log.len());
+            judge_terms_in(profile, log, &calendar, order, table)
+        }
+        None => judge_in(profile, log, order, table),
     }
 }
 
 // The judge's own answer and table, and with the same table all budgets.
-fn compare_answers(asked: &Question, sizes: &Sizes, expected: &Expected, t: &mut Tally) {
+fn compare_answers(
+    profile: &Profile,
+    log: &[u8],
+    asked: &Asked,
+    sizes: &Sizes,
+    expected: &Expected,
+    t: &mut Tally,
+) {
     let mut order = Guarded::<u8, 32>::new(sizes.room);
     let mut judged = Guarded::<u32, 1416>::new(sizes.size);
-    let answer = judge_too(asked, &mut order, &mut judged);
+    let answer = judge_too(profile, log, asked, &mut order, &mut judged);
     let right = is_verdict(
         answer,
         expected.verdict(),
         expected.prefixes,
         expected.looks,
     );
-    if let Some(calendar) = asked.calendar {
-        count_dated(asked, calendar, expected.prefixes, t);
+    if let Some(dated) = asked.dated {
+        count_dated(profile.masks, log, &dated, expected.prefixes, t);
     }
-    count_log(asked.profile.masks, asked.log, expected, t);
+    count_log(profile.masks, log, expected, t);
     t.expect(Met::Judge, right);
-    compare_budgets(asked, sizes, expected, &judged, t);
+    compare_budgets(profile, log, asked, sizes, expected, &judged, t);
 }
 
 // A call with a buffer that is too short: refused by the number, which is 9, 10 or 17. The order buffer and the cost table stay, and after 9 the work table.
-fn refuse(asked: &Question, sizes: Sizes, number: usize, which: impl Counter, t: &mut Tally) {
+fn refuse(
+    profile: &Profile,
+    log: &[u8],
+    asked: &Asked,
+    sizes: Sizes,
+    number: usize,
+    which: impl Counter,
+    t: &mut Tally,
+) {
     let mut lent = sizes.lent();
-    let answer = ask(asked, &mut lent);
+    let answer = ask(profile, log, asked, &mut lent);
     let free = if number == 9 { 0 } else { sizes.size };
     let right = (answer == Some(Err(Refused::by(number))))
         & lent.order.stays()
@@ -171,57 +203,63 @@ fn refuse(asked: &Question, sizes: Sizes, number: usize, which: impl Counter, t:
 
 // A cost table that is short by one number or more, a work table that is, also with short costs, and an order buffer that is, also with short tables.
 fn compare_short(
-    asked: &Question,
+    profile: &Profile,
+    log: &[u8],
+    asked: &Asked,
     sizes: &Sizes,
     expected: &Expected,
     extra: usize,
     t: &mut Tally,
 ) {
-    let needed = times(expected.prefixes, asked.profile.shape.s);
+    let needed = times(expected.prefixes, profile.shape.s);
     let few_costs = minus(needed, plus(extra % 3, 1));
     let few_numbers = minus(record_at(expected.prefixes), plus(extra % 11, 1));
     let mut short = *sizes;
     short.costs = few_costs;
-    refuse(asked, short, 17, Met::ShortCosts, t);
+    refuse(profile, log, asked, short, 17, Met::ShortCosts, t);
     short.costs = if extra % 2 == 0 { needed } else { few_costs };
     short.size = few_numbers;
-    refuse(asked, short, 10, Met::ShortTables, t);
-    if asked.log.len() == 0 {
+    refuse(profile, log, asked, short, 10, Met::ShortTables, t);
+    if log.len() == 0 {
         return;
     }
     if extra % 5 < 3 {
         short.size = sizes.size;
     }
-    short.room = minus(asked.log.len(), 1);
-    refuse(asked, short, 9, Met::ShortOrders, t);
+    short.room = minus(log.len(), 1);
+    refuse(profile, log, asked, short, 9, Met::ShortOrders, t);
+}
+
+// Without terms no day is in one, so that no two events are in different ones.
+fn events_of(masks: &[u16], log: &[u8], dated: Option<Dated>) -> Events {
+    let none = Dated {
+        days: [0; 8],
+        terms: [0; 24],
+        numbers: 0,
+    };
+    let days = dated.unwrap_or(none);
+    Events::of(masks, log, &days.calendar(log.len()))
 }
 
 // Compares all that is said of one log; `extra` varies how much longer or shorter than needed the lent buffers are.
-pub fn compare_log<'x>(
-    profile: &'x Profile<'x>,
-    log: &'x [u8],
-    calendar: Option<&'x Calendar<'x>>,
+pub fn compare_log(
+    profile: &Profile,
+    log: &[u8],
+    dated: Option<Dated>,
     extra: usize,
     t: &mut Tally,
 ) {
-    let none = Calendar {
-        days: &[],
-        terms: &[],
-    };
-    // Without terms no day is in one, so that no two events are in different ones.
-    let events = Events::of(profile.masks, log, calendar.unwrap_or(&none));
+    let events = events_of(profile.masks, log, dated);
     let expected = expect(profile, &events, log);
     let sizes = Sizes {
         room: plus(log.len(), extra % 4),
         size: plus(record_at(expected.prefixes), extra % 21),
         costs: plus(times(expected.prefixes, profile.shape.s), extra % 7),
     };
-    let asked = Question {
-        profile,
-        log,
-        calendar,
+    let asked = Asked {
+        dated,
         budget: (extra % 50) as u64,
     };
-    compare_answers(&asked, &sizes, &expected, t);
-    compare_short(&asked, &sizes, &expected, extra, t);
+    compare_answers(profile, log, &asked, &sizes, &expected, t);
+    compare_short(profile, log, &asked, &sizes, &expected, extra, t);
 }

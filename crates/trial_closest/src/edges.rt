@@ -1,7 +1,7 @@
 // Orders, swaps and floors found by hand.
-use crate::lent::{Dated, Lent, Question, Told, ask};
+use crate::lent::{Asked, Dated, Lent, Told, ask};
 use crate::met::Met;
-use profile::{Calendar, Profile, Shape};
+use profile::{Profile, Shape};
 use trial::guarded::Guarded;
 use trial::shapes::{alt, shape_of};
 use trial::tally::Tally;
@@ -17,13 +17,13 @@ fn told_of(verdict: bool, prefixes: usize, looks: usize, swaps: usize, floor: us
 }
 
 // The answer, and the order where there is one; the two letters may be exchanged, both ways.
-fn right(asked: &Question, told: Told, order: &[u8]) -> bool {
+fn right(profile: &Profile, log: &[u8], asked: &Asked, told: Told, order: &[u8]) -> bool {
     let mut lent = Lent::<32, 1416, 600> {
         order: Guarded::new(8),
         table: Guarded::new(1400),
         costs: Guarded::new(500),
     };
-    let answer = ask(asked, &mut lent);
+    let answer = ask(profile, log, asked, &mut lent);
     let left = if told.verdict {
         lent.order.holds(order)
     } else {
@@ -38,7 +38,7 @@ struct Case<'a> {
     shape: Shape,
     moves: &'a [u32],
     log: &'a [u8],
-    calendar: Option<&'a Calendar<'a>>,
+    dated: Option<Dated>,
 }
 
 impl Case<'_> {
@@ -48,13 +48,11 @@ impl Case<'_> {
             masks: &[2u16, 1],
             moves: self.moves,
         };
-        let asked = Question {
-            profile: &profile,
-            log: self.log,
-            calendar: self.calendar,
+        let asked = Asked {
+            dated: self.dated,
             budget,
         };
-        t.expect(Met::Edge, right(&asked, told, order));
+        t.expect(Met::Edge, right(&profile, self.log, &asked, told, order));
         t.count(Met::Edges);
     }
 }
@@ -65,7 +63,7 @@ fn compare_bbaa(t: &mut Tally) {
         shape: alt(),
         moves: &[2u32, 0, 0, 1],
         log: &[1u8, 1, 0, 0],
-        calendar: None,
+        dated: None,
     };
     for (budget, floor) in [0usize, 2, 2, 3, 3, 3].iter().enumerate() {
         case.compare(
@@ -83,7 +81,7 @@ fn compare_ba(t: &mut Tally) {
         shape: shape_of(2, 1, 0, 1),
         moves: &[1u32, 1],
         log: &[1u8, 0],
-        calendar: None,
+        dated: None,
     };
     for budget in [0u64, 3].iter() {
         case.compare(*budget, told_of(true, 4, 4, 1, 0), &[0u8, 1], t);
@@ -99,7 +97,7 @@ fn compare_none(t: &mut Tally) {
         shape: alt(),
         moves: &[2u32, 0, 0, 1],
         log: &[1u8, 0, 1],
-        calendar: None,
+        dated: None,
     };
     for budget in [0u64, 99].iter() {
         case.compare(*budget, told_of(false, 6, 7, 0, 0), b"", t);
@@ -108,7 +106,7 @@ fn compare_none(t: &mut Tally) {
         shape: alt(),
         moves: &[2u32, 0, 0, 1],
         log: b"",
-        calendar: None,
+        dated: None,
     };
     for budget in [0u64, 1].iter() {
         empty.compare(*budget, told_of(true, 1, 0, 0, 0), b"", t);
@@ -130,7 +128,7 @@ fn compare_tie(t: &mut Tally) {
         shape: shape_of(2, 9, 0, 272),
         moves: &moves,
         log: &[0u8, 1, 1, 0],
-        calendar: None,
+        dated: None,
     };
     case.compare(99, told_of(true, 9, 12, 1, 1), &[0u8, 1, 0, 1], t);
 }
@@ -157,12 +155,12 @@ fn two_terms() -> Dated {
 }
 
 // Alt on baba: the pairs are the empty prefix at 0 swaps, a and ab at 1, aba and abab at 2; prefixes with the second a before the first b are none.
-fn compare_terms(calendar: &Calendar, t: &mut Tally) {
+fn compare_terms(t: &mut Tally) {
     let case = Case {
         shape: alt(),
         moves: &[2u32, 0, 0, 1],
         log: &[1u8, 0, 1, 0],
-        calendar: Some(calendar),
+        dated: Some(two_terms()),
     };
     let order = [0u8, 1, 0, 1];
     case.compare(0, told_of(true, 7, 8, 2, 0), &order, t);
@@ -172,12 +170,12 @@ fn compare_terms(calendar: &Calendar, t: &mut Tally) {
 }
 
 // One state that accepts everything, on baba in two terms, and on bbaa with the letters in different terms: nothing moves.
-fn compare_apart(calendar: &Calendar, t: &mut Tally) {
+fn compare_apart(t: &mut Tally) {
     let mixed = Case {
         shape: shape_of(2, 1, 0, 1),
         moves: &[1u32, 1],
         log: &[1u8, 0, 1, 0],
-        calendar: Some(calendar),
+        dated: Some(two_terms()),
     };
     mixed.compare(6, told_of(true, 7, 8, 2, 0), &[0u8, 1, 0, 1], t);
     mixed.compare(7, told_of(true, 7, 8, 0, 0), mixed.log, t);
@@ -185,14 +183,12 @@ fn compare_apart(calendar: &Calendar, t: &mut Tally) {
         shape: shape_of(2, 1, 0, 1),
         moves: &[1u32, 1],
         log: &[1u8, 1, 0, 0],
-        calendar: Some(calendar),
+        dated: Some(two_terms()),
     };
     fixed.compare(4, told_of(true, 5, 4, 0, 0), fixed.log, t);
 }
 
 pub fn compare_term_edges(t: &mut Tally) {
-    let dated = two_terms();
-    let calendar = dated.calendar(4);
-    compare_terms(&calendar, t);
-    compare_apart(&calendar, t);
+    compare_terms(t);
+    compare_apart(t);
 }

@@ -30,12 +30,10 @@ impl Dated {
     }
 }
 
-// What a call is asked: a profile, a log, days and terms, or none for the call without terms, and a budget.
+// Days and terms, or none for the call without terms, and a budget.
 #[derive(Clone, Copy)]
-pub struct Question<'a> {
-    pub profile: &'a Profile<'a>,
-    pub log: &'a [u8],
-    pub calendar: Option<&'a Calendar<'a>>,
+pub struct Asked {
+    pub dated: Option<Dated>,
     pub budget: u64,
 }
 
@@ -75,35 +73,60 @@ fn answer_of(number: u32, told: [u64; 6]) -> Answer {
     }))
 }
 
-// The one call or the other.
-pub fn ask<const M: usize, const N: usize, const C: usize>(
-    asked: &Question,
+// The call without terms.
+pub fn closest_in<const M: usize, const N: usize, const C: usize>(
+    profile: &Profile,
+    log: &[u8],
+    budget: u64,
     lent: &mut Lent<M, N, C>,
 ) -> Answer {
     let mut told = [99u64; 6];
-    let order = lent.order.lend()?;
-    let table = lent.table.lend()?;
-    let costs = lent.costs.lend()?;
-    let number = match asked.calendar {
-        Some(calendar) => closest_calls::closest_terms(
-            asked.profile,
-            asked.log,
-            calendar,
-            order,
-            table,
-            costs,
-            asked.budget,
-            &mut told,
-        ),
-        None => closest_calls::closest(
-            asked.profile,
-            asked.log,
-            order,
-            table,
-            costs,
-            asked.budget,
-            &mut told,
-        ),
-    };
+    let number = closest_calls::closest(
+        profile,
+        log,
+        lent.order.lend()?,
+        lent.table.lend()?,
+        lent.costs.lend()?,
+        budget,
+        &mut told,
+    );
     answer_of(number, told)
+}
+
+// The call with terms.
+pub fn closest_terms_in<const M: usize, const N: usize, const C: usize>(
+    profile: &Profile,
+    log: &[u8],
+    calendar: &Calendar,
+    budget: u64,
+    lent: &mut Lent<M, N, C>,
+) -> Answer {
+    let mut told = [99u64; 6];
+    let number = closest_calls::closest_terms(
+        profile,
+        log,
+        calendar,
+        lent.order.lend()?,
+        lent.table.lend()?,
+        lent.costs.lend()?,
+        budget,
+        &mut told,
+    );
+    answer_of(number, told)
+}
+
+// The one call or the other.
+pub fn ask<const M: usize, const N: usize, const C: usize>(
+    profile: &Profile,
+    log: &[u8],
+    asked: &Asked,
+    lent: &mut Lent<M, N, C>,
+) -> Answer {
+    match asked.dated {
+        Some(dated) => {
+            let calendar = dated.calendar(log.len());
+            closest_terms_in(profile, log, &calendar, asked.budget, lent)
+        }
+        None => closest_in(profile, log, asked.budget, lent),
+    }
 }

@@ -1,7 +1,7 @@
 // Every combination of the refusals that the calls can give: the first in the order 2, 4, 6, 7, 8, 14, 15, 16, 9, 10, 17 is given, with its place; the order
 // buffer and the cost table stay, and the work table too but for 10 and 17. The damages are those of the judge with terms, and the eleventh is a cost table that
 // is too short; the call without terms can have no damage by 14, 15 and 16.
-use crate::lent::{Answer, Lent, Question, ask};
+use crate::lent::{Answer, Lent, closest_in, closest_terms_in};
 use crate::met::Met;
 use profile::{Calendar, Profile};
 use trial::answers::Refused;
@@ -86,11 +86,11 @@ fn answer_right(answer: Answer, expected: Option<Refused>, lent: &Small) -> bool
 }
 
 // The call with terms.
-fn ask_in_terms<'x>(
+fn ask_in_terms(
     damages: usize,
     variant: usize,
-    profile: &'x Profile<'x>,
-    log: &'x [u8],
+    profile: &Profile,
+    log: &[u8],
     lent: &mut Small,
 ) -> Answer {
     let mut days = [20260901u32; 4004];
@@ -101,29 +101,7 @@ fn ask_in_terms<'x>(
         days: part_of(&days, 0, day_count(damages, variant)),
         terms: part_of(&terms, 0, term_numbers(damages, variant)),
     };
-    let question = Question {
-        profile,
-        log,
-        calendar: Some(&calendar),
-        budget: budget_of(variant),
-    };
-    ask(&question, lent)
-}
-
-// The call without terms.
-fn ask_plainly<'x>(
-    variant: usize,
-    profile: &'x Profile<'x>,
-    log: &'x [u8],
-    lent: &mut Small,
-) -> Answer {
-    let question = Question {
-        profile,
-        log,
-        calendar: None,
-        budget: budget_of(variant),
-    };
-    ask(&question, lent)
+    closest_terms_in(profile, log, &calendar, budget_of(variant), lent)
 }
 
 fn compare(damages: usize, variant: usize, with_terms: bool, log: &[u8], t: &mut Tally) {
@@ -140,7 +118,7 @@ fn compare(damages: usize, variant: usize, with_terms: bool, log: &[u8], t: &mut
     let answer = if with_terms {
         ask_in_terms(damages, variant, &profile, log, &mut lent)
     } else {
-        ask_plainly(variant, &profile, log, &mut lent)
+        closest_in(&profile, log, budget_of(variant), &mut lent)
     };
     let expected = first.and_then(|damage| refused_by(damage, variant));
     t.expect(Met::Refusal, answer_right(answer, expected, &lent));
