@@ -1,14 +1,14 @@
 -- What the prefixes with one letter less hand on to the next prefix: some letters that can be added to it, and others that can if they are among those.
-use mathlib.Core.Path.{◌≡◌, refl, sym, ◌∙◌, ap, subst}
-use mathlib.Core.Bool.{Bool, true, false, not, ◌||◌, true≢false}
-use mathlib.Core.Logic.{⊎_elim, ◌≢◌}
+use mathlib.Core.Path.{◌≡◌, sym, ◌∙◌, ap, subst}
+use mathlib.Core.Bool.{Bool, true, false, true≢false}
+use mathlib.Core.Logic.{◌≢◌}
 use mathlib.Core.List.{List, []}
 use Prim.Native.Nat.{ℕ, suc, ◌-◌, ◌%◌, ◌^◌, ◌≤◌, ◌<◌}
 use native.Mathlib.Omega.{arith}
 use lib.Bits.{bit_and, bit_or, and_mask}
 use lib.Dec.{T, T_not, not_T}
 use lib.ListN.{length, get_or, take, drop}
-use lib.Pow.{pow-lt, pow_pos}
+use lib.Pow.{pow-lt}
 use lib.Seq.{split_at}
 use Rattle.profile.specs.Rules.{Rules}
 use Rattle.profile.specs.Automata.{Profile, union}
@@ -16,8 +16,8 @@ use Rattle.profile.specs.Lists.{Mem, below, filter}
 use Rattle.profile.specs.Prefixes.{IsPrefix, addable?, at, less}
 use Rattle.profile.specs.Tables.{layout, packed}
 use Rattle.profile.specs.Traces.{bit, independent}
-use Rattle.profile.proofs.Lists.{below_at, below_of, both, either, filter_agree, filter_at, filter_of, fst_of, mem_getd, or_left, or_right, snd_of, test}
-use Rattle.profile.proofs.Sets.{bit_of_and, bit_below, bit_none, bit_of_or, bit_self, bit_single, sets_eq, union_at, union_of}
+use Rattle.profile.proofs.Lists.{below_at, below_of, both, filter_agree, filter_at, filter_of, fst_of, mem_getd, snd_of}
+use Rattle.profile.proofs.Sets.{bit_of_and, bit_below, bit_self, bit_single, union_at, union_of}
 use Rattle.theory.proofs.Merge.{hits, hits_at}
 use Rattle.theory.proofs.Prefixes.{removable?}
 use Rattle.theory.proofs.Profiles.{distinct}

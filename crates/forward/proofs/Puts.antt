@@ -15,7 +15,7 @@ use lib.Seq.{length-take-le, take-suc}
 use Rattle.profile.specs.Rules.{Rules}
 use Rattle.profile.specs.Automata.{union}
 use Rattle.profile.specs.Prefixes.{addable?, at}
-use Rattle.profile.specs.Tables.{layout, packed, record_length}
+use Rattle.profile.specs.Tables.{layout, record_length}
 use Rattle.profile.specs.Traces.{independent}
 use Rattle.profile.proofs.Lists.{mem_getd}
 use Rattle.parents.proofs.Ones.{passing_ones}

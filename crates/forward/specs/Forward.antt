@@ -1,6 +1,6 @@
 -- Document 01, "Prefixes and their table": the forward pass, which puts the record of each prefix, one total after the other. While the table is built the
 -- last number of a record has the letters that can be added, and those of which one can be taken away.
-use Rattle.std.specs.Prelude.{Option, Some, None, ◌≡◌, List, ◌++◌, ℕ, ◌*◌, ◌≤◌, ◌<◌, length, drop}
+use Rattle.std.specs.Prelude.{Option, Some, None, ◌≡◌, List, ◌++◌, ℕ, ◌*◌, ◌≤◌, ◌<◌, drop}
 use Rattle.profile.specs.Limits.{most_records}
 use Rattle.profile.specs.Rules.{Rules, looks_by, prefixes_by}
 use Rattle.profile.specs.Prefixes.{IsPrefix, additions, at}

@@ -1,10 +1,7 @@
 -- `forward::fill_forward` meets its contract.
-use mathlib.Core.Path.{◌≡◌, sym, subst}
-use mathlib.Core.List.{List}
-use Prim.Native.Nat.{ℕ}
+use mathlib.Core.Path.{sym, subst}
 use lib.ListN.{length}
 use native.Mathlib.Omega.{arith}
-use Rattle.profile.specs.declared.Profile.{Profile}
 use Rattle.profile.specs.Automata.{lent}
 use Rattle.terms.specs.Coded.{rules_of}
 use Rattle.forward.specs.Forward.{Forward, Ready}

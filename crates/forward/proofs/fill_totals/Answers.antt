@@ -1,5 +1,5 @@
-use mathlib.Core.Path.{◌≡◌, refl, sym, subst}
-use Prim.Native.Nat.{ℕ, ◌+◌}
+use mathlib.Core.Path.{sym, subst}
+use Prim.Native.Nat.{◌+◌}
 use native.Mathlib.Omega.{arith}
 use Rattle.terms.specs.Coded.{rules_of}
 use Rattle.profile.specs.Automata.{lent}
