@@ -10,7 +10,7 @@ ghost use Rattle.backward.specs.Backward.{Drafted, Inside, back_from, clear_at, 
 
 use profile::Profile;
 use profile::limits::MOST_LETTERS;
-use records::{RECORD, last_at};
+use records::{RECORD, last_at, put_last};
 use rows::Rows;
 
 // What a count stays below: the bits from here on of a count are free.
@@ -104,7 +104,7 @@ fn put_done(table: &mut [u32], j: usize, back: u32)
     let high = flagged(table[at + MORE_FLAGS], set / 256);
     table[at + FLAGS] = low;
     table[at + MORE_FLAGS] = high;
-    table[at + LAST] = back;
+    put_last(table, j, back);
 }
 
 // Clears the flags of record j.

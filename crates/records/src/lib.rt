@@ -1,7 +1,7 @@
 // The records of a part of the table, read and written: document 01, "Prefixes and their table".
 #![tactic(auto)]
 
-ghost use Rattle.std.specs.Prelude.{◌≡◌, [], ◌∷◌, ◌++◌, ◌+◌, ◌*◌, ◌≤◌, length};
+ghost use Rattle.std.specs.Prelude.{◌≡◌, [], ◌∷◌, ◌++◌, ◌+◌, ◌*◌, ◌≤◌, length, set};
 ghost use Rattle.profile.specs.Tables.{capacity as capacity_of, layout, record_length};
 ghost use Rattle.counts.specs.Counts.{words};
 ghost use Rattle.records.specs.Records.{counts_at, forward_at, last_at, put_record, records_in};
@@ -61,4 +61,12 @@ pub fn put(part: &mut [u32], j: usize, c: Counts, forward: u32, last: u32)
     part[at..at + NUMBERS].copy_from_slice(&c.numbers);
     part[at + NUMBERS] = forward;
     part[at + (NUMBERS + 1)] = last;
+}
+
+// Puts a last number in place of that of record j.
+pub fn put_last(part: &mut [u32], j: usize, last: u32)
+    requires { record_length layout * j + record_length layout ≤ length part.old }
+    ensures { part.new ≡ set part.old (record_length layout * j + (layout.numbers + 1)) last }
+{
+    part[RECORD * j + (NUMBERS + 1)] = last;
 }
