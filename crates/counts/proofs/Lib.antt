@@ -6,3 +6,5 @@ pub mod Order
 pub mod Packed
 -- equality of numbers is equality of every letter's counts
 pub mod Equality
+-- one of eight numbers changed, by tests of its place
+pub mod Choices

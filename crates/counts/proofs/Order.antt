@@ -1,9 +1,9 @@
 -- The order of counts: letter 0 first, the smaller first; lists in parts, and one number at a time.
-use Rattle.std.proofs.Common.{◌≡◌, ℕ, suc, ◌+◌, drop, get_or, add-one, drop-cons, ◌*◌, ◌^◌, ◌<◌, true, false, cond, not, T, eqb, ltb, ◌≢◌, List, [], ◌∷◌, ◌++◌, length, sym, refl, ap, ◌∙◌, subst, ⊎_elim, arith, eqb→eq, ltb→lt, lt→ltb, T_not}
+use Rattle.std.proofs.Common.{◌≡◌, ℕ, ◌*◌, ◌^◌, ◌<◌, true, false, cond, not, T, eqb, ltb, ◌≢◌, List, [], ◌∷◌, ◌++◌, length, sym, refl, ap, ◌∙◌, subst, ⊎_elim, arith, eqb→eq, ltb→lt, lt→ltb, T_not}
 use lib.Dec.{not_T}
 use Rattle.profile.specs.Lists.{all, equal?, flat_map}
 use Rattle.profile.specs.Orders.{no_later?}
-use Rattle.profile.specs.Tables.{Layout, layout}
+use Rattle.profile.specs.Tables.{Layout}
 use Rattle.profile.proofs.Lists.{equal_test, is_false, is_true, test}
 use Rattle.profile.proofs.Sets.{t_eq}
 use Rattle.theory.proofs.Earliest.{ge_of_test, no_later_antisym, no_later_refl}
@@ -70,16 +70,3 @@ pub before_words : (L : Layout) (v w : ℕ)
     → not (no_later? (word_counts L w) (word_counts L v)) ≡ ltb (rank (2 ^ L.width) (word_counts L v)) (rank (2 ^ L.width) (word_counts L w))
 before_words L v w = before_rank (2 ^ L.width) (word_counts L v) (word_counts L w) (word_counts_length L v ∙ sym (word_counts_length L w))
     (word_counts_below L v) (word_counts_below L w)
-
--- ---- the counts of numbers from number i on
-module _ (t u : List ℕ) (i : ℕ) (h : i < length t) (k : i < length u) where
-  -- number i is the same: those behind it decide
-  pub later_behind : get_or t i 0 ≡ get_or u i 0 → no_later? (flat_map (word_counts layout) (drop i t)) (flat_map (word_counts layout) (drop i u))
-      ≡ no_later? (flat_map (word_counts layout) (drop (i + 1) t)) (flat_map (word_counts layout) (drop (i + 1) u))
-  later_behind e = rw (add-one, drop-cons t i 0, drop-cons u i 0) (no_later_same layout (get_or t i 0) (get_or u i 0) (drop (suc i) t) (drop (suc i) u) e)
-
-  -- number i differs: it decides
-  pub later_at : get_or t i 0 < 2 ^ 32 → get_or u i 0 < 2 ^ 32 → get_or t i 0 ≢ get_or u i 0
-      → no_later? (flat_map (word_counts layout) (drop i t)) (flat_map (word_counts layout) (drop i u))
-      ≡ no_later? (word_counts layout (get_or t i 0)) (word_counts layout (get_or u i 0))
-  later_at f g e = rw (drop-cons t i 0, drop-cons u i 0) (no_later_differ layout (get_or t i 0) (get_or u i 0) (drop (suc i) t) (drop (suc i) u) f g e)

@@ -1,16 +1,16 @@
 -- Counts, packed: one more of a letter, equality, order and total, for any layout.
-use Rattle.std.proofs.Common.{◌≡◌, ℕ, zero, suc, ◌+◌, ◌-◌, ◌*◌, ◌/◌, ◌%◌, ◌^◌, ◌<◌, ◌≤◌, Bool, true, cond, not, T, ltb, List, [], ◌∷◌, ◌++◌, length, get_or, take, drop, add-one, drop-cons, set, replicate, sym, refl, ap, ◌∙◌, subst, ap₂, ⊎_elim, lt_of_lt_of_le, mod-eq_of_lt, div-lt_iff_lt-mul, mul-le-mul_left, zero-add, arith, length-append, take-append-drop, length-take, get_or-set_same, get_or-append-add, ext_get_or, pow_mono}
+use Rattle.std.proofs.Common.{◌≡◌, ℕ, zero, suc, ◌+◌, ◌-◌, ◌*◌, ◌/◌, ◌%◌, ◌^◌, ◌<◌, ◌≤◌, Bool, true, cond, not, T, ltb, List, [], ◌∷◌, ◌++◌, map, length, get_or, take, drop, set, replicate, sym, refl, ap, ◌∙◌, subst, ap₂, ⊎_elim, lt_of_lt_of_le, mod-eq_of_lt, div-lt_iff_lt-mul, mul-le-mul_left, zero-add, arith, length-append, take-append-drop, length-take, get_or-set_same, get_or-append-add, ext_get_or, pow_mono}
 use lib.ListN.{length-replicate, get_or-replicate, get_or-append, get_or-eq_default}
 use Rattle.profile.specs.Lists.{all, equal?, flat_map}
 use Rattle.profile.specs.Orders.{no_later?}
 use Rattle.profile.specs.Prefixes.{at, total}
-use Rattle.profile.specs.Tables.{Layout, count_field, layout, pack, packed}
+use Rattle.profile.specs.Tables.{Layout, count_field, pack, packed}
 use Rattle.profile.proofs.Lists.{all_split, equal_test, is_false, is_true, lt_or_le, test}
 use Rattle.profile.proofs.Sets.{t_eq}
 use Rattle.theory.proofs.Counting.{at_map, length_range}
 use Rattle.theory.proofs.Levels.{bump}
 use Rattle.theory.proofs.Packing.{field_packed, pack_below, packed_bump, packed_inj, packed_length}
-use Rattle.counts.specs.Counts.{add_count, before?, counts_in, word_counts}
+use Rattle.counts.specs.Counts.{add_count, before?, counts_in}
 use Rattle.counts.proofs.Order.{no_later_append, no_later_self}
 
 -- the counts v are below 2 ^ width, so that each has its own bits
@@ -104,10 +104,10 @@ pub total_append : (u x : List ℕ) → total (u ++ x) ≡ total u + total x
 total_append [] x = omega arith
 total_append (n ∷ u) x = omega (arith, total_append u x)
 
--- the total of the numbers from number i on
-pub total_from : (t : List ℕ) (i : ℕ) → i < length t
-    → total (flat_map (word_counts layout) (drop i t)) ≡ total (word_counts layout (get_or t i 0)) + total (flat_map (word_counts layout) (drop (i + 1) t))
-total_from t i h = rw (add-one, drop-cons t i 0) (total_append (word_counts layout (get_or t i 0)) (flat_map (word_counts layout) (drop (suc i) t)))
+-- the total of lists in a row
+pub total_flat : (f : ℕ → List ℕ) (t : List ℕ) → total (flat_map f t) ≡ total (map (λ w. total (f w)) t)
+total_flat f [] = refl
+total_flat f (w ∷ t) = total_append (f w) (flat_map f t) ∙ ap (λ n. total (f w) + n) (total_flat f t)
 
 -- the total of packed counts is the total of the counts
 pub total_packed : (L : Layout) (v : List ℕ) → length v ≤ L.per * L.numbers → Small L v → total (counts_in L (packed L v)) ≡ total v

@@ -1,14 +1,13 @@
 -- The counts in one number.
-use Rattle.std.proofs.Common.{◌≡◌, ℕ, zero, suc, ◌+◌, ◌*◌, ◌/◌, ◌%◌, ◌^◌, ◌<◌, T, ltb, List, [], ◌∷◌, map, length, sym, refl, ap, ◌∙◌, subst, mod-lt, mod-eq_of_lt, div-one, arith, lt→ltb, pow_pos, shr-shr}
+use Rattle.std.proofs.Common.{◌≡◌, ℕ, zero, suc, ◌+◌, ◌*◌, ◌/◌, ◌%◌, ◌^◌, ◌<◌, T, ltb, List, [], ◌∷◌, map, length, sym, refl, ap, ◌∙◌, mod-lt, mod-eq_of_lt, div-one, arith, lt→ltb, pow_pos, shr-shr}
 use native.Mathlib.Nat.{mod-one}
 use lib.Pow.{mod-pow-add}
 use Rattle.profile.specs.Lists.{all, below, flat_map, range}
 use Rattle.profile.specs.Tables.{Layout, layout, pack}
 use Rattle.profile.proofs.Lists.{both}
 use Rattle.theory.proofs.Counting.{length_range}
-use Rattle.profile.specs.Prefixes.{at}
-use Rattle.theory.proofs.Levels.{at_below}
-use Rattle.counts.specs.Counts.{counts_in, word_count, word_counts}
+use Rattle.counts.specs.declared.Counts.{Counts}
+use Rattle.counts.specs.Counts.{counts_in, word_count, word_counts, words}
 
 pub word_counts_length : (L : Layout) (w : ℕ) → length (word_counts L w) ≡ L.per
 word_counts_length L w = length_range (word_count L w) L.per 0
@@ -49,11 +48,7 @@ pack_word_counts L w h = from L.per 0 ∙ ap (λ m. w / 2 ^ m % 2 ^ (L.width * L
 pub word_counts_inj : (L : Layout) (v w : ℕ) → v < 2 ^ (L.width * L.per) → w < 2 ^ (L.width * L.per) → word_counts L v ≡ word_counts L w → v ≡ w
 word_counts_inj L v w h k e = sym (pack_word_counts L v h) ∙ ap (pack L.width) e ∙ pack_word_counts L w k
 
--- eight numbers, written out
-pub written : (t : List ℕ) → length t ≡ layout.numbers → map (at t) (below layout.numbers) ≡ t
-written t e = ap (λ n. map (at t) (below n)) (sym e) ∙ at_below t
-
 -- the counts of a record, a number at a time
-pub counts_by_word : (t : List ℕ) → length t ≡ layout.numbers → counts_in layout t ≡ flat_map (word_counts layout) t
+pub counts_by_word : (c : Counts) → counts_in layout (words c) ≡ flat_map (word_counts layout) (words c)
 unfolding word_count
-counts_by_word t e = subst (λ u. counts_in layout u ≡ flat_map (word_counts layout) u) (written t e) refl
+counts_by_word c = refl

@@ -1,5 +1,5 @@
 -- Document 01, "Prefixes and their table": the numbers of counts of a record.
-use Rattle.std.specs.Prelude.{ℕ, ◌+◌, ◌*◌, ◌/◌, ◌%◌, ◌^◌, Bool, not, List, map, nat_eq, slice_index, slice_set}
+use Rattle.std.specs.Prelude.{ℕ, ◌+◌, ◌*◌, ◌/◌, ◌%◌, ◌^◌, Bool, not, List, [], ◌∷◌, map, nat_eq, slice_index, slice_set}
 use Rattle.profile.specs.Lists.{all, below}
 use Rattle.profile.specs.Orders.{no_later?}
 use Rattle.profile.specs.Tables.{Layout, count_field}
@@ -7,7 +7,7 @@ use Rattle.counts.specs.declared.Counts.{Counts}
 
 -- the numbers of counts of a record
 abbrev pub words : Counts → List ℕ
-words c = c.numbers
+words c = c.w0 ∷ c.w1 ∷ c.w2 ∷ c.w3 ∷ c.w4 ∷ c.w5 ∷ c.w6 ∷ c.w7 ∷ []
 
 -- the counts of all letters that numbers of counts hold
 abbrev pub counts_in : Layout → List ℕ → List ℕ

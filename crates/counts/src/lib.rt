@@ -25,9 +25,17 @@ const PER: usize = COUNTS_PER_NUMBER;
 pub const NUMBERS: usize = COUNT_NUMBERS;
 
 // The numbers of counts of a record.
+// Kept: with an array in the place of the fields the judge takes 17 to 57 % longer, since a number is then chosen in memory (docs/DESIGN-PASS.md).
 #[derive(Clone, Copy, Debug, PartialEq, Eq)]
 pub struct Counts {
-    pub numbers: [u32; NUMBERS],
+    pub w0: u32,
+    pub w1: u32,
+    pub w2: u32,
+    pub w3: u32,
+    pub w4: u32,
+    pub w5: u32,
+    pub w6: u32,
+    pub w7: u32,
 }
 
 // No event of any letter.
@@ -35,12 +43,32 @@ pub fn none_counted() -> Counts
     ensures { words result ≡ packed layout [] }
 {
     Counts {
-        numbers: [0; NUMBERS],
+        w0: 0,
+        w1: 0,
+        w2: 0,
+        w3: 0,
+        w4: 0,
+        w5: 0,
+        w6: 0,
+        w7: 0,
     }
 }
 
+// w where i is j, else v: a choice for which the compiler needs no jump.
+fn pick(i: usize, j: usize, w: u32, v: u32) -> u32
+    ensures { result ≡ (if nat_eq i j then w else v) }
+{
+    if i == j { w } else { v }
+}
+
+// Number j of counts, with `one` added where j is i.
+fn added(w: u32, i: usize, j: usize, one: u32) -> u32
+    ensures { result ≡ (if nat_eq i j then (w + one) % 2 ^ 32 else w) }
+{
+    pick(i, j, std::num::wrapping_add_u32(w, one), w)
+}
+
 // The count that the number w holds at the place of letter a.
-#[tactic(auto, unfolding(crate::specs::Counts::word_count))]
 fn count_in(w: u32, a: usize) -> u32
     ensures value { result ≡ word_count layout w (a % layout.per) }
     ensures upper_bound { result < 2 ^ layout.width }
@@ -49,11 +77,11 @@ fn count_in(w: u32, a: usize) -> u32
 }
 
 // The numbers of counts in a row, for a loop over the letters.
-// Kept: the field would say the same, but the calls of six crates stay as they are.
+// Kept: `<[u32; NUMBERS]>::from(c)` would be no plainer where it is called.
 pub fn numbers(c: Counts) -> [u32; NUMBERS]
     ensures { result ≡ words c }
 {
-    c.numbers
+    [c.w0, c.w1, c.w2, c.w3, c.w4, c.w5, c.w6, c.w7]
 }
 
 // The counts whose numbers stand in a row.
@@ -62,13 +90,19 @@ pub fn from_numbers(t: &[u32]) -> Counts
     requires { length t.now ≡ layout.numbers }
     ensures { words result ≡ t.now }
 {
-    let mut numbers = [0; NUMBERS];
-    numbers.copy_from_slice(t);
-    Counts { numbers }
+    Counts {
+        w0: t[0],
+        w1: t[1],
+        w2: t[2],
+        w3: t[3],
+        w4: t[4],
+        w5: t[5],
+        w6: t[6],
+        w7: t[7],
+    }
 }
 
 // The count of letter a in numbers that stand in a row.
-#[tactic(auto, unfolding(crate::specs::Counts::word_count))]
 pub fn count_of(t: &[u32; NUMBERS], a: usize) -> usize
     requires { a < most_letters }
     ensures { result ≡ count_field layout t.now a }
@@ -81,13 +115,18 @@ pub fn count_of(t: &[u32; NUMBERS], a: usize) -> usize
 pub fn one_more(c: Counts, a: usize) -> Counts
     ensures { words result ≡ add_count layout (words c) a }
 {
-    let mut more = c;
     let i = a / PER;
-    if i < NUMBERS {
-        let one = 1u32 << (WIDTH * (a % PER));
-        more.numbers[i] = std::num::wrapping_add_u32(c.numbers[i], one);
+    let one = 1u32 << (WIDTH * (a % PER));
+    Counts {
+        w0: added(c.w0, i, 0, one),
+        w1: added(c.w1, i, 1, one),
+        w2: added(c.w2, i, 2, one),
+        w3: added(c.w3, i, 3, one),
+        w4: added(c.w4, i, 4, one),
+        w5: added(c.w5, i, 5, one),
+        w6: added(c.w6, i, 6, one),
+        w7: added(c.w7, i, 7, one),
     }
-    more
 }
 
 // a and b have the same counts: their numbers are compared, and so every letter's two counts.
@@ -112,19 +151,40 @@ fn word_before(v: u32, w: u32) -> bool
     reversed(v) < reversed(w)
 }
 
+// The counts of the last four numbers of a stand before those of b.
+fn last_before(a: Counts, b: Counts) -> bool
+    ensures { result ≡ not (no_later? (flat_map (word_counts layout) (drop 4 (words b))) (flat_map (word_counts layout) (drop 4 (words a)))) }
+{
+    if a.w4 != b.w4 {
+        return word_before(a.w4, b.w4);
+    }
+    if a.w5 != b.w5 {
+        return word_before(a.w5, b.w5);
+    }
+    if a.w6 != b.w6 {
+        return word_before(a.w6, b.w6);
+    }
+    word_before(a.w7, b.w7)
+}
+
 // The counts a stand before the counts b: at the first letter whose counts differ a has the smaller.
 // Kept: a derived order compares the numbers, whose high half is the later letter's count.
 pub fn counts_before(a: Counts, b: Counts) -> bool
     ensures { result ≡ before? layout (words a) (words b) }
 {
-    for i in 0..NUMBERS {
-        let v = a.numbers[i];
-        let w = b.numbers[i];
-        if v != w {
-            return word_before(v, w);
-        }
+    if a.w0 != b.w0 {
+        return word_before(a.w0, b.w0);
     }
-    false
+    if a.w1 != b.w1 {
+        return word_before(a.w1, b.w1);
+    }
+    if a.w2 != b.w2 {
+        return word_before(a.w2, b.w2);
+    }
+    if a.w3 != b.w3 {
+        return word_before(a.w3, b.w3);
+    }
+    last_before(a, b)
 }
 
 // The total count of the number w.
@@ -139,9 +199,12 @@ fn word_total(w: u32) -> usize
 pub fn total_of(c: Counts) -> usize
     ensures { result ≡ total (counts_in layout (words c)) }
 {
-    let mut total = 0;
-    for w in &c.numbers {
-        total += word_total(*w);
-    }
-    total
+    word_total(c.w0)
+        + word_total(c.w1)
+        + word_total(c.w2)
+        + word_total(c.w3)
+        + word_total(c.w4)
+        + word_total(c.w5)
+        + word_total(c.w6)
+        + word_total(c.w7)
 }

@@ -1,10 +1,10 @@
--- A part of the table with the records of a list of counts: what is read of it, and what it is after a record is put.
+-- A part of the table with the records of a list of counts: what is read of it, and what it is after a record or a last number is put.
 use mathlib.Core.Path.{◌≡◌, refl, sym, ◌∙◌, ap, ap₂}
 use mathlib.Core.List.{List, [], ◌∷◌, ◌++◌, append_assoc}
 use Prim.Native.Nat.{ℕ, ◌+◌, ◌*◌, ◌<◌}
 use native.Mathlib.Omega.{arith}
-use lib.ListN.{length, get_or, drop, length-append, get_or-append}
-use lib.Seq.{drop-append-add, take_at}
+use lib.ListN.{length, get_or, set, drop, length-append, get_or-append}
+use lib.Seq.{drop-append-add, set_at, take_at}
 use Rattle.profile.specs.Lists.{flat_map}
 use Rattle.profile.specs.Tables.{layout, packed, record_length}
 use Rattle.profile.proofs.Lists.{flat_map_append, flat_map_getd, flat_map_length}
@@ -47,3 +47,17 @@ module _ (f g : List ℕ → ℕ) (C : List (List ℕ)) where
         (ap (λ m. drop (m + record_length layout) (F ++ rest)) (sym drafts_length) ∙ drop-append-add F rest (record_length layout))
         ∙ sym (append_assoc F (draft f g c) (drop (record_length layout) rest))
         ∙ ap (λ l. l ++ drop (record_length layout) rest) (sym (flat_map_append (draft f g) C (c ∷ [])))
+
+-- the last number put in place of that of the record behind those of C: it is h of the counts, as in those before it
+pub put_last_draft : (f g h : List ℕ → ℕ) (C : List (List ℕ)) (c rest : List ℕ)
+    → set (flat_map (draft f h) C ++ (draft f g c ++ rest)) (record_length layout * length C + (layout.numbers + 1)) (h c) ≡ flat_map (draft f h) (C ++ (c ∷ [])) ++ rest
+put_last_draft f g h C c rest =
+    let F = flat_map (draft f h) C in
+    let front = packed layout c ++ (f c ∷ []) in
+    let n = record_length layout * length C + (layout.numbers + 1) in
+    let e : length (F ++ front) ≡ n = length-append F front ∙ ap (λ m. m + (layout.numbers + 1)) (drafts_length f h C) in
+    ap (λ l. set l n (h c)) (sym (append_assoc F front (g c ∷ rest)))
+    ∙ set_at (F ++ front) (g c) rest (h c) n e
+    ∙ append_assoc F front (h c ∷ rest)
+    ∙ sym (append_assoc F (draft f h c) rest)
+    ∙ ap (λ l. l ++ rest) (sym (flat_map_append (draft f h) C (c ∷ [])))

@@ -44,7 +44,13 @@ module _ (p : Rules) (w c : List ℕ) (few : p.profile.k ≤ most_letters) where
   pub upper_half : letters_set p w c / 65536 ≡ removable_set p w c
   upper_half = omega (arith, addable_few)
 
-  -- whether letter x can be added
+  pub letters_fit : letters_set p w c < 2 ^ 32
+  letters_fit = omega (arith, addable_few, removable_few)
+
+  -- whether letter x can be added, and whether one can be taken away
   pub bit_lower : (x : ℕ) → x < p.profile.k → bit (letters_set p w c) x ≡ addable? p.may p.letter w (at c) x
   bit_lower x lt =
       low_bit (addable_set p w c) (removable_set p w c) x (omega arith) ∙ passing_bit (addable? p.may p.letter w (at c)) p.profile.k x lt
+
+  pub bit_upper : (x : ℕ) → x < p.profile.k → bit (letters_set p w c / 65536) x ≡ removable? p.may p.letter w (at c) x
+  bit_upper x lt = ap (λ n. bit n x) upper_half ∙ passing_bit (removable? p.may p.letter w (at c)) p.profile.k x lt

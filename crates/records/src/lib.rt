@@ -7,7 +7,7 @@ ghost use Rattle.counts.specs.Counts.{words};
 ghost use Rattle.records.specs.Records.{counts_at, forward_at, last_at, put_record, records_in};
 
 use counts::{Counts, NUMBERS};
-use profile::limits::{RECORD_NUMBERS, USABLE_NUMBERS};
+use profile::limits::{MOST_RECORDS, RECORD_NUMBERS, USABLE_NUMBERS};
 
 // The numbers of a record.
 pub const RECORD: usize = RECORD_NUMBERS;
@@ -23,7 +23,12 @@ pub fn records_in(t: &[u32]) -> usize
 pub fn capacity(table: &[u32]) -> usize
     ensures { result ≡ capacity_of layout (length table.now) }
 {
-    table.len().min(USABLE_NUMBERS) / RECORD
+    let n = table.len();
+    if USABLE_NUMBERS < n {
+        MOST_RECORDS
+    } else {
+        n / RECORD
+    }
 }
 
 // The counts of record j.
@@ -32,7 +37,16 @@ pub fn counts_at(t: &[u32], j: usize) -> Counts
     ensures { words result ≡ counts_at t.now j }
 {
     let at = RECORD * j;
-    counts::from_numbers(&t[at..at + NUMBERS])
+    Counts {
+        w0: t[at],
+        w1: t[at + 1],
+        w2: t[at + 2],
+        w3: t[at + 3],
+        w4: t[at + 4],
+        w5: t[at + 5],
+        w6: t[at + 6],
+        w7: t[at + 7],
+    }
 }
 
 // The forward number of record j.
@@ -58,7 +72,14 @@ pub fn put(part: &mut [u32], j: usize, c: Counts, forward: u32, last: u32)
     ensures { part.new ≡ put_record part.old j (words c ++ (forward ∷ last ∷ [])) }
 {
     let at = RECORD * j;
-    part[at..at + NUMBERS].copy_from_slice(&c.numbers);
+    part[at] = c.w0;
+    part[at + 1] = c.w1;
+    part[at + 2] = c.w2;
+    part[at + 3] = c.w3;
+    part[at + 4] = c.w4;
+    part[at + 5] = c.w5;
+    part[at + 6] = c.w6;
+    part[at + 7] = c.w7;
     part[at + NUMBERS] = forward;
     part[at + (NUMBERS + 1)] = last;
 }

@@ -1,23 +1,28 @@
--- `counts::total_of` meets its contract: the totals of the numbers add up.
-use Rattle.std.proofs.Common.{◌≡◌, sym, ap, ◌∙◌, arith}
-use Rattle.std.proofs.lemmas.List.{at_drop_all}
-use Rattle.profile.specs.Lists.{flat_map}
-use Rattle.profile.specs.Tables.{layout}
+-- `counts::total_of` meets its contract: the sum of the totals of the numbers.
+use Rattle.std.proofs.Common.{◌≡◌, ℕ, ◌+◌, sym, ap, ◌∙◌, arith}
 use Rattle.profile.specs.Prefixes.{total}
+use Rattle.profile.specs.Tables.{layout}
 use Rattle.counts.specs.Counts.{word_counts, words}
 use Rattle.counts.proofs.Words.{counts_by_word}
-use Rattle.counts.proofs.Packed.{total_from}
+use Rattle.counts.proofs.Packed.{total_flat}
 use Rattle.counts.proofs.total_of.Goals as goal
 
-pub loop-w-preserved : goal.loop-w-preserved
-loop-w-preserved c = record {
-  bounded = omega (arith, c.word_total-total.ensures.upper_bound);
-  so_far = grind (arith, c.word_total-total.ensures.value, c.loop-w.invariant.so_far, total_from (words c.args.c) c.loop-w.w-index (omega arith));
-}
+-- eight sums, each known, as the total of a list of eight
+sum : (a0 a1 a2 a3 a4 a5 a6 a7 p0 p1 p2 p3 p4 p5 p6 p7 : ℕ)
+    → a0 ≡ p0 → a1 ≡ p1 → a2 ≡ p2 → a3 ≡ p3 → a4 ≡ p4 → a5 ≡ p5 → a6 ≡ p6 → a7 ≡ p7
+    → (((((((a0 + a1) + a2) + a3) + a4) + a5) + a6) + a7) ≡ (p0 + (p1 + (p2 + (p3 + (p4 + (p5 + (p6 + (p7 + 0))))))))
+sum a0 a1 a2 a3 a4 a5 a6 a7 p0 p1 p2 p3 p4 p5 p6 p7 e0 e1 e2 e3 e4 e5 e6 e7 = omega arith
 
 pub returns : goal.returns
 returns c =
-    let t = words c.args.c in
-    let none = at_drop_all (λ u. total (flat_map (word_counts layout) u)) t c.loop-w.w-index (omega arith) in
-    let all : c.loop-w.total ≡ total (flat_map (word_counts layout) t) = omega (arith, none) in
-    all ∙ sym (ap total (counts_by_word t (omega arith)))
+    let a = c.args in
+    sum _ _ _ _ _ _ _ _ _ _ _ _ _ _ _ _
+    c.word_total.ensures.value
+    c.word_total-2.ensures.value
+    c.word_total-3.ensures.value
+    c.word_total-4.ensures.value
+    c.word_total-5.ensures.value
+    c.word_total-6.ensures.value
+    c.word_total-7.ensures.value
+    c.word_total-8.ensures.value
+    ∙ sym (ap total (counts_by_word a.c) ∙ total_flat (word_counts layout) (words a.c))

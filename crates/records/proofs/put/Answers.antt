@@ -1,33 +1,55 @@
--- `records::put` meets its contract: the numbers of counts in place of those of the record, and two numbers behind them.
-use Rattle.std.proofs.Common.{◌≡◌, ℕ, suc, List, [], ◌∷◌, ◌++◌, ◌+◌, ◌*◌, ◌-◌, ◌≤◌, length, set, get_or, take, drop, sym, ap, ◌∙◌, arith, rules, append_assoc, length-append, length-take, drop-cons}
-use Rattle.std.proofs.lemmas.List.{drop-drop, set_at}
+-- `records::put` meets its contract: ten stores in a row.
+use mathlib.Core.Path.{◌≡◌, ◌∙◌}
+use mathlib.Core.List.{[], ◌∷◌, ◌++◌, append_assoc}
+use Prim.Native.Nat.{suc, ◌+◌, ◌*◌}
+use native.Mathlib.Omega.{arith}
+use lib.ListN.{drop, length-set, take}
+use lib.Seq.{sets-eq}
 use Rattle.counts.specs.Counts.{words}
 use Rattle.records.proofs.put.Goals as goal
 
--- two numbers put behind others
-two_put : (u r : List ℕ) (x y v w m n : ℕ) → length u ≡ m → n ≡ m + 1 → set (set (u ++ (x ∷ y ∷ r)) m v) n w ≡ u ++ (v ∷ w ∷ r)
-two_put u r x y v w m n e q =
-    ap (λ t. set t n w) (set_at u x (y ∷ r) v m e ∙ sym (append_assoc u (v ∷ []) (y ∷ r)))
-    ∙ set_at (u ++ (v ∷ [])) y r w n (omega (arith, length-append u (v ∷ [])))
-    ∙ append_assoc u (v ∷ []) (w ∷ r)
+pub bounds-part-at-2 : goal.bounds-part-at-2
+bounds-part-at-2 c = simp length-set (omega arith)
 
--- eight numbers and two put in place of ten
-ten_put : (t u : List ℕ) (v w at k : ℕ) → at + 10 ≤ length t → length u ≡ 8 → k ≡ 8
-    → set (set (take at t ++ (u ++ drop k (drop at t))) (at + 8) v) (at + 9) w ≡ take at t ++ ((u ++ (v ∷ w ∷ [])) ++ drop (at + 10) t)
-ten_put t u v w at k h e q =
-    let f = take at t in
-    let r = drop (at + 10) t in
-    let s : suc (suc (at + 8)) ≡ at + 10 = omega arith in
-    let behind : drop k (drop at t) ≡ get_or t (at + 8) 0 ∷ get_or t (suc (at + 8)) 0 ∷ r =
-    drop-drop k at t ∙ ap (λ n. drop (at + n) t) q ∙ drop-cons t (at + 8) 0 (omega arith)
-    ∙ ap (λ l. get_or t (at + 8) 0 ∷ l) (drop-cons t (suc (at + 8)) 0 (omega arith) ∙ ap (λ n. get_or t (suc (at + 8)) 0 ∷ drop n t) s) in
-    ap (λ l. set (set l (at + 8) v) (at + 9) w) (ap (λ l. f ++ (u ++ l)) behind ∙ sym (append_assoc f u (get_or t (at + 8) 0 ∷ get_or t (suc (at + 8)) 0 ∷ r)))
-    ∙ two_put (f ++ u) r (get_or t (at + 8) 0) (get_or t (suc (at + 8)) 0) v w (at + 8) (at + 9) (omega (arith, length-append f u, length-take at t)) (omega arith)
-    ∙ append_assoc f u (v ∷ w ∷ r)
-    ∙ ap (λ l. f ++ l) (sym (append_assoc u (v ∷ w ∷ []) r))
+pub bounds-part-at-3 : goal.bounds-part-at-3
+bounds-part-at-3 c = simp length-set (omega arith)
+
+pub bounds-part-at-4 : goal.bounds-part-at-4
+bounds-part-at-4 c = simp length-set (omega arith)
+
+pub bounds-part-at-5 : goal.bounds-part-at-5
+bounds-part-at-5 c = simp length-set (omega arith)
+
+pub bounds-part-at-6 : goal.bounds-part-at-6
+bounds-part-at-6 c = simp length-set (omega arith)
+
+pub bounds-part-at-7 : goal.bounds-part-at-7
+bounds-part-at-7 c = simp length-set (omega arith)
+
+pub bounds-part-at-8 : goal.bounds-part-at-8
+bounds-part-at-8 c = simp length-set (omega arith)
+
+pub bounds-part-at-9 : goal.bounds-part-at-9
+bounds-part-at-9 c = simp length-set (omega arith)
+
+pub bounds-part-at-10 : goal.bounds-part-at-10
+bounds-part-at-10 c = simp length-set (omega arith)
+
+pub shape_of-part : goal.shape_of-part
+shape_of-part c = simp length-set
 
 pub returns : goal.returns
 returns c =
-    let a = c.args in
-    let e : c.copy_from_slice.new.self ≡ words a.c = search rules in
-    rw e (ten_put a.part.now (words a.c) a.forward a.last (10 * a.j) (10 * a.j + 8 - 10 * a.j) (omega arith) (omega arith) (omega arith))
+    let at = 10 * c.args.j in
+    let e1 : at + 1 ≡ suc at = omega arith in
+    let e2 : at + 2 ≡ suc (suc at) = omega arith in
+    let e3 : at + 3 ≡ suc (suc (suc at)) = omega arith in
+    let e4 : at + 4 ≡ suc (suc (suc (suc at))) = omega arith in
+    let e5 : at + 5 ≡ suc (suc (suc (suc (suc at)))) = omega arith in
+    let e6 : at + 6 ≡ suc (suc (suc (suc (suc (suc at))))) = omega arith in
+    let e7 : at + 7 ≡ suc (suc (suc (suc (suc (suc (suc at)))))) = omega arith in
+    let e8 : at + 8 ≡ suc (suc (suc (suc (suc (suc (suc (suc at))))))) = omega arith in
+    let e9 : at + 9 ≡ suc (suc (suc (suc (suc (suc (suc (suc (suc at)))))))) = omega arith in
+    let l = c.args.part.now in
+    let v = words c.args.c ++ (c.args.forward ∷ c.args.last ∷ []) in
+    rw (e1, e2, e3, e4, e5, e6, e7, e8, e9) (sets-eq v l at (omega arith) ∙ append_assoc (take at l) v (drop (at + 10) l))
