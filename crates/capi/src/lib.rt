@@ -352,7 +352,12 @@ pub fn fumarehi_grammar(
 ) -> u32
     ensures { GrammarJudging k masks.now names rules.now log.now order.old order.new work.old work.new sets.old sets.new result told.new }
 {
-    let grammar = Grammar { k, masks, names, rules };
+    let grammar = Grammar {
+        k,
+        masks,
+        names,
+        rules,
+    };
     grammar_calls::judge(&grammar, log, order, work, sets, told)
 }
 

@@ -158,7 +158,7 @@ module _ {p : Rules} {w : List ℕ} {m room : ℕ} {found : List ℕ → List �
       handed_tested (independent masks) k (length w) starts places (packed layout e) r.profile.relation.most I P
       (bits_below 32 I (λ q b. let most = r.profile.relation.most in omega (arith, (given_at q b).0)))
       (bits_below 32 P (λ q b. let u = union_at (λ x. get_or masks x 0) (filter (bit G) (below k)) q b in
-          let most = r.profile.relation.most in omega (arith, (r.profile.relation.inside u.0 q u.2).1)))
+      let most = r.profile.relation.most in omega (arith, (r.profile.relation.inside u.0 q u.2).1)))
       (subst (λ l. Hands false l I P) by (hands false (λ z. free)))
       ∙ ap (union (λ x. 2 ^ x)) (sym by ∙ r.finds e prefix)
 
