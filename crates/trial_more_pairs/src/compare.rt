@@ -47,7 +47,7 @@ fn outcome_of(profile: &Profile, log: &[u8]) -> Outcome {
 }
 
 // The orders, where both have one.
-fn compare_orders(a: &Outcome, b: &Outcome, n: usize, t: &mut Tally) {
+fn compare_orders(a: Outcome, b: Outcome, n: usize, t: &mut Tally) {
     if let (Some(old), Some(new)) = (a.order, b.order) {
         let first = part_of(&old, 0, n);
         let second = part_of(&new, 0, n);
@@ -62,7 +62,7 @@ fn compare_outcomes(a: &Outcome, b: &Outcome, n: usize, t: &mut Tally) {
     let new = b.order.is_some();
     t.expect(Beside::TurnedBad, !(old & !new));
     t.count_if(Beside::TurnedGood, new & !old);
-    compare_orders(a, b, n, t);
+    compare_orders(*a, *b, n, t);
     t.expect(Beside::FewerPrefixes, a.prefixes <= b.prefixes);
     t.expect(Beside::FewerLooks, a.looks <= b.looks);
     t.count_if(Beside::MorePrefixes, a.prefixes < b.prefixes);
