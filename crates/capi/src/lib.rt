@@ -184,7 +184,7 @@ pub fn fumarehi_log_part(file: &[u8], told: &mut [u64; 3]) -> u32
     }
 }
 
-// The file writer.
+// The file writer. Its profile is put together here and not by `lend`, so that its proof is the writer's promise as it stands.
 pub fn fumarehi_write_file(
     k: usize,
     s: usize,
@@ -200,7 +200,17 @@ pub fn fumarehi_write_file(
         let l = file_bytes p log.now in let q = write_refusal p log.now (length file.old) in let a = writing q (length l) in
         (result ≡ writing_code a) × (told.new ≡ writing_told a) × (file.new ≡ filled q l file.old) }
 {
-    let profile = lend(k, s, start, finals, masks, moves);
+    let shape = Shape {
+        k,
+        s,
+        start,
+        finals,
+    };
+    let profile = Profile {
+        shape,
+        masks,
+        moves,
+    };
     match filewriter::write_file(&profile, log, file) {
         Err(unwritten) => refuse(unwritten, told),
         Ok(n) => {
