@@ -9,7 +9,7 @@ ghost use Rattle.profile.specs.Tables.{layout, record_length};
 ghost use Rattle.backward.specs.Backward.{Drafted, Inside, back_from, clear_at, cleared, done_at, filled_all, flag_before, flags as flags_in, moved, with_flags, without_flags};
 
 use profile::Profile;
-use profile::limits::MOST_LETTERS;
+use profile::limits::{MOST_LETTERS, MOST_MOVES};
 use records::{RECORD, last_at, put_last};
 use rows::Rows;
 
@@ -138,7 +138,8 @@ pub fn fill_backward(table: &mut [u32], records: usize, profile: &Profile, log: 
         ++ drop (record_length layout * records) table.old }
 {
     let finals = profile.shape.finals;
-    let rows = Rows::of(profile);
+    let mut numbers = [0u32; MOST_MOVES];
+    let rows = Rows::of(profile, &mut numbers);
     let mut cursors = [records; MOST_LETTERS];
     let last = records - 1;
     put_done(table, last, finals);

@@ -2,15 +2,15 @@
 use mathlib.Core.Path.{◌≡◌, refl, sym, ◌∙◌, ap, ap₂}
 use mathlib.Core.Bool.{Bool, true, false, cond}
 use Rattle.std.specs.Prelude.{Result, Ok, Err, is_err}
-use mathlib.Core.List.{List, [], ◌∷◌, ◌++◌, append_assoc}
+use mathlib.Core.List.{List, [], ◌∷◌, ◌++◌, append_assoc, map}
 use mathlib.Core.Option.{Option, none, some, none-ne-some, some-injective}
-use Prim.Native.Nat.{ℕ, ◌*◌, ◌≤◌}
+use Prim.Native.Nat.{ℕ, zero, suc, ◌*◌, ◌≤◌}
 use native.Mathlib.Omega.{arith}
 use borrow.Author.Tests.{le-ltb, ltb-false}
 use lib.Dec.{T, eqb, ltb}
 use lib.ListN.{length, length-replicate, take, drop, replicate, take-append-drop}
 use lib.Seq.{drop-append-le, drop_at, length-take-le, take_at}
-use Rattle.profile.specs.Lists.{flat_map}
+use Rattle.profile.specs.Lists.{flat_map, range}
 use Rattle.profile.specs.Traces.{independent}
 use Rattle.profile.specs.Automata.{Automaton, Profile, automaton}
 use Rattle.profile.specs.Orders.{accepted_order}
@@ -28,6 +28,11 @@ use Rattle.verdict.specs.declared.Judged.TheVariants.{NoOrder, Order}
 use Rattle.verdict.proofs.Judging.{order_length}
 use Rattle.views.specs.Views.{buffer_refusals}
 use Rattle.cleared.specs.Cleared.{Clean, answer, cleared, order_as, order_left, table_as, table_left, told_as, usable}
+
+-- all zeros
+pub map_zero : (n a : ℕ) → map {B = ℕ} (λ (x : ℕ). 0) (range a n) ≡ replicate n 0
+map_zero zero a = refl
+map_zero (suc n) a = ap (◌∷◌ 0) (map_zero n (suc a))
 
 -- a table whose usable part is cleared has the other numbers as they were
 pub cleared_spared : (t : List ℕ) → Spared t (cleared t)

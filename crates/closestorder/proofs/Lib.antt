@@ -1,2 +1,4 @@
 -- Laws by subject.
 pub mod Closing
+pub mod Cells
+pub mod Cursors

@@ -31,6 +31,7 @@ use Rattle.costcells.specs.Cells.{cell, cost_in}
 use Rattle.costrows.specs.Rows.{with_step}
 use Rattle.costreadings.proofs.Readings.{fits_at, fits_of}
 use Rattle.costwalk.specs.Walk.{Chooses, Ends, Standing, Tested, Tries}
+use Rattle.costwalk.specs.declared.Choice.{Choice}
 use Rattle.swaps.proofs.Letters.{step_letters}
 use Rattle.successors.proofs.More.{more_at, more_none, prefix_of}
 use Rattle.costwalk.proofs.Rows.{fields, recorded, whole_counts}
@@ -144,3 +145,6 @@ module _ (h : Shape) (moves t log starts places costs n : List ℕ) (S left : �
     first = before masks may letter w z;
     cost = (now masks may letter w z).1;
   }
+
+  pub chosen_never : (x : ℕ) (r : Choice) → h.k ≤ x → Passed x → Chooses h moves t log starts places costs n S left r
+  chosen_never x r le before masks may letter w z some = absurd (before masks may letter w z some.0 (omega (arith, some.1, le)) some.2)

@@ -4,3 +4,4 @@ pub mod Answers
 pub mod RoundTrip
 pub mod ReadBack
 pub mod FileCases
+pub mod Stored

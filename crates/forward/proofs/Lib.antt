@@ -11,3 +11,9 @@ pub mod Handed
 pub mod Puts
 -- one total, and all of them
 pub mod Fills
+-- the first place from a place on, and the way back
+pub mod Seeks
+-- the first event of a letter that may come to the front
+pub mod Picks
+-- no total is without prefixes
+pub mod Reached

@@ -16,7 +16,7 @@ use counts::Counts;
 use letters::Finder;
 use merge::Handed;
 use profile::Profile;
-use profile::limits::MOST_LETTERS;
+use profile::limits::{MOST_LETTERS, MOST_MOVES};
 use records::RECORD;
 use rows::Rows;
 
@@ -33,7 +33,7 @@ pub struct Filled {
 // What a pass goes by: the profile with its moves by letter, the log, and what finds the letters that can be added; `room` records fit the table.
 #[derive_where(Clone, Copy)]
 struct Pass<'a, F> {
-    rows: &'a Rows<'a>,
+    rows: &'a Rows<'a, 'a>,
     log: &'a [u8],
     finder: &'a F,
     room: usize,
@@ -185,7 +185,8 @@ pub fn fill_forward<F: Finder>(
     if room == 0 {
         return None;
     }
-    let rows = Rows::of(profile);
+    let mut numbers = [0u32; MOST_MOVES];
+    let rows = Rows::of(profile, &mut numbers);
     let pass = Pass {
         rows: &rows,
         log,

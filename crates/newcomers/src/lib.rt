@@ -32,6 +32,8 @@ fn allows(
 }
 
 // An event of letter a, after the events whose counts are `last`, can be added to record j: of each letter that a may not pass it has as many.
+// Part of the loops that call it: a call for each record takes half as much time again.
+#[inline(always)]
 fn joins(t: &[u32], j: usize, profile: &Profile, a: usize, last: &[u32; COUNT_NUMBERS]) -> bool
     requires { (profile.now.shape.k ≤ most_letters) × HasRoom t.now (j + 1) }
     ensures { result ≡ joins_at? (independent_by profile.now.masks.now) profile.now.shape.k last.now a (counts_at t.now j) }

@@ -1,11 +1,12 @@
 -- Document 02, Paper 13: "one for each pair of prefixes". What the contracts of the second table cite. The set of the pair of the records i and j, i before j,
 -- stands at place i × P + j, and again at j × P + i, so that both the sets up to a record and those from it stand in a row.
-use Rattle.std.specs.Prelude.{◌⊎◌, ◌≡◌, ◌↔◌, List, ℕ, ◌+◌, ◌*◌, ◌≤◌, ◌<◌, T, length, get_or, drop}
+use Rattle.std.specs.Prelude.{◌⊎◌, ◌↔◌, List, ℕ, ◌*◌, ◌≤◌, ◌<◌, T, length, get_or, drop}
 use Rattle.profile.specs.Traces.{bit, independent}
 use Rattle.grammars.specs.Grammars.{grammar_of}
 use Rattle.grammars.proofs.Spans.{Between as BetweenCounts, Spans as SpansCounts}
 use Rattle.grammars.proofs.Places.{counts_of, total_of}
 use Rattle.pairs.specs.declared.nested.Nested.{Nested}
+use Rattle.pairs.specs.Settings.{Both as BothOf, Known as KnownOf, Right as RightOf}
 
 -- the counts of the prefix of record i, and their total
 abbrev pub counts_in : Nested → ℕ → ℕ → ℕ
@@ -23,15 +24,15 @@ Between on i j n = BetweenCounts (independent on.grammar.masks.now) (grammar_of 
 
 -- S is the set of the names that derive some order of the events between the prefixes of the records i and j
 abbrev pub Right : Nested → ℕ → ℕ → ℕ → Type 0
-Right on i j S = (n : ℕ) → T (bit S n) ↔ Between on i j n
+Right on i j S = RightOf on.grammar.k on.grammar.masks.now on.grammar.rules.now on.log.now i j S
 
 -- the set of the pair is right at both of its places
 abbrev pub Both : Nested → List ℕ → ℕ → ℕ → Type 0
-Both on sets a b = Right on a b (get_or sets (a * on.records + b) 0) × Right on a b (get_or sets (b * on.records + a) 0)
+Both on sets a b = BothOf on.grammar.k on.grammar.masks.now on.grammar.rules.now on.log.now on.records sets a b
 
 -- the pairs up to record j are right, and those of it with the records from i on
 abbrev pub Known : Nested → List ℕ → ℕ → ℕ → Type 0
-Known on sets j i = (a b : ℕ) → a < b → (b < j) ⊎ ((b ≡ j) × (i ≤ a)) → Both on sets a b
+Known on sets j i = KnownOf on.grammar.k on.grammar.masks.now on.grammar.rules.now on.log.now on.records sets j i
 
 -- there is a place for each pair
 abbrev pub Room : Nested → List ℕ → Type 0

@@ -21,3 +21,8 @@ first_put p t v f last ev ef el h =
     let w : packed layout [] ≡ packed layout (replicate p.k 0) = sym (ap (packed layout) (all_none (independent p.masks) p.k) ∙ packed_zero layout p.k) in
     ap (λ n. put_record t 0 (v ++ (f ∷ n ∷ []))) el ∙ put_kept t v 0 f (ap length ev ∙ packed_length layout []) (omega (arith, h))
     ∙ ap₂ (λ u x. put_numbers t 0 (u ++ (x ∷ []))) (ev ∙ w) (ef ∙ sym (or_zero_r (2 ^ p.start)))
+
+-- equal parts make equal records
+pub put_parts : (t : List ℕ) (j : ℕ) {v v' : List ℕ} {f f' n n' : ℕ} → v ≡ v' → f ≡ f' → n ≡ n' → put_record t j (v ++ (f ∷ n ∷ [])) ≡ put_record t j (v' ++ (f' ∷ n' ∷ []))
+put_parts t j {v} {v'} {f} {f'} {n} {n'} a b c =
+    ap (λ u. put_record t j (u ++ (f ∷ n ∷ []))) a ∙ ap₂ (λ x y. put_record t j (v' ++ (x ∷ y ∷ []))) b c

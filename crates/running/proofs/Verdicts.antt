@@ -3,7 +3,7 @@ use mathlib.Core.Path.{◌≡◌, refl, sym, ◌∙◌, ap, ap₂, subst, fun_ex
 use mathlib.Core.Bool.{Bool}
 use mathlib.Core.Logic.{⊎_elim}
 use mathlib.Core.List.{List, [], ◌∷◌}
-use mathlib.Core.Option.{Option, none, some}
+use mathlib.Core.Option.{Option, none, some, none-ne-some}
 use Prim.Native.Nat.{ℕ, ◌-◌, ◌<◌}
 use native.Mathlib.Omega.{arith}
 use lib.Dec.{T}
@@ -13,6 +13,7 @@ use Rattle.profile.specs.Traces.{independent}
 use Rattle.profile.specs.Automata.{Profile, automaton, meets}
 use Rattle.profile.specs.Prefixes.{at, count, forward}
 use Rattle.profile.specs.Tables.{layout, packed}
+use Rattle.profile.specs.declared.Refusal.{Refusal}
 use Rattle.profile.specs.Refusals.{full_table, lowest}
 use Rattle.profile.proofs.Lists.{lt_or_le}
 use Rattle.profile.proofs.Sets.{t_eq}
@@ -27,7 +28,7 @@ use Rattle.arrival.specs.Arrival.{written}
 use Rattle.arrival.proofs.Arrivals.{all_at_letter, all_of_log, arrivals_full}
 use Rattle.running.specs.Running.{p_of, QuestionPromise, Runs, question_refusals, some?, verdict_of}
 use Rattle.running.specs.declared.Running.{Running}
-use Rattle.std.specs.Prelude.{Ok}
+use Rattle.std.specs.Prelude.{Ok, Err}
 use Rattle.running.proofs.Lending.{arrivals_are}
 use Rattle.running.proofs.Refusing.{full_none}
 
@@ -74,6 +75,9 @@ module _ (p : Profile) (w : List ℕ) {r : Running} {t : List ℕ} (h : Runs p w
       ∙ ap (forward (independent p.masks) (λ a. a) (automaton p) w) all_counts
 
 module _ (p : Profile) (r : Running) (t : List ℕ) where
+  pub question_refused : (x : Refusal) → some x ≡ lowest (question_refusals p r (length t)) → QuestionPromise p r t (Err x)
+  question_refused x e = record { refused = e; told = λ w h. absurd (none-ne-some _ (sym (question_none p w h) ∙ sym e)) }
+
   pub question_told : (v : Bool) → none ≡ lowest (question_refusals p r (length t)) → (0 < r.prefixes → v ≡ meets (forward_at t (r.prefixes - 1)) p.finals)
       → QuestionPromise p r t (Ok (record { verdict = v; prefixes = r.prefixes; taken = r.taken }))
   question_told v e f = record {

@@ -3,7 +3,7 @@
 #![tactic(auto)]
 
 ghost use Rattle.std.specs.Prelude.{length};
-ghost use Rattle.streams.specs.Streams.{input_within};
+ghost use Rattle.streams.specs.Streams.{input_within, moved_within, read_within};
 
 use std::io;
 use std::io::{Error, ErrorKind, Read, Write};
@@ -16,6 +16,38 @@ fn too_many() -> Error {
     Error::other("too many calls")
 }
 
+// A call that failed, unless a signal interrupted it: such a call moved nothing.
+fn failed(e: Error) -> io::Result<usize>
+    ensures { moved_within 0 result }
+{
+    if e.kind() == ErrorKind::Interrupted {
+        return Ok(0);
+    }
+    Err(e)
+}
+
+// One read: how many bytes it moved, none where a signal interrupted it; `None` at the end of the input.
+fn read_some<R: Read>(from: &mut R, buf: &mut [u8]) -> io::Result<Option<usize>>
+    ensures { read_within (length buf.old) result }
+{
+    match from.read(buf) {
+        Ok(0) => Ok(None),
+        Ok(n) => Ok(Some(n)),
+        Err(e) => Ok(Some(failed(e)?)),
+    }
+}
+
+// One write: how many bytes it moved. One that takes no byte is one that failed.
+fn write_some<W: Write>(to: &mut W, buf: &[u8]) -> io::Result<usize>
+    ensures { moved_within (length buf.now) result }
+{
+    match to.write(buf) {
+        Ok(0) => Err(Error::new(ErrorKind::WriteZero, "no byte was taken")),
+        Ok(n) => Ok(n),
+        Err(e) => failed(e),
+    }
+}
+
 // Reads until the input ends, the buffer is full or a read fails, and tells how many bytes of the input are in the buffer.
 pub fn read_input<R: Read>(from: &mut R, buf: &mut [u8]) -> io::Result<usize>
     ensures { input_within (length buf.new) result }
@@ -25,12 +57,13 @@ pub fn read_input<R: Read>(from: &mut R, buf: &mut [u8]) -> io::Result<usize>
         if done == buf.len() {
             return Ok(done);
         }
-        match from.read(&mut buf[done..]) {
-            Ok(0) => return Ok(done),
-            Ok(n) => done += n,
-            Err(e) if e.kind() == ErrorKind::Interrupted => {}
-            Err(e) => return Err(e),
+        match read_some(from, &mut buf[done..])? {
+            None => return Ok(done),
+            Some(n) => done += n,
         }
+    }
+    if done == buf.len() {
+        return Ok(done);
     }
     Err(too_many())
 }
@@ -43,12 +76,11 @@ pub fn write_output<W: Write>(to: &mut W, bytes: &[u8]) -> io::Result<()> {
         if rest.is_empty() {
             return Ok(());
         }
-        match to.write(rest) {
-            Ok(0) => return Err(Error::new(ErrorKind::WriteZero, "no byte was taken")),
-            Ok(n) => rest = &rest[n..],
-            Err(e) if e.kind() == ErrorKind::Interrupted => {}
-            Err(e) => return Err(e),
-        }
+        let n = write_some(to, rest)?;
+        rest = &rest[n..];
+    }
+    if rest.is_empty() {
+        return Ok(());
     }
     Err(too_many())
 }

@@ -6,3 +6,5 @@ pub mod Reading
 pub mod Placing
 pub mod Trying
 pub mod Writing
+-- how a letter's place is told and moved
+pub mod Places

@@ -5,7 +5,7 @@ ghost use Rattle.std.specs.Prelude.{◌≡◌, true, ◌&&◌, ◌<◌};
 ghost use Rattle.profile.specs.Traces.{independent};
 ghost use Rattle.events.specs.Events.{comes_next?};
 ghost use Rattle.term_events.specs.InTerms.{in_term?};
-ghost use Rattle.term_letters.specs.Letters.{letters_in_terms};
+ghost use Rattle.term_letters.specs.Letters.{letters_found};
 
 use counts::Counts;
 use events::Keepers;
@@ -36,7 +36,7 @@ fn comes_in_term(keepers: &Keepers, n: usize, next: &[Place], turns: &[Place], x
 impl Finder for InTerms<'_> {
     ghost termed = { true };
 
-    ghost found = { λ by. letters_in_terms (independent by.keepers.now.masks.now) by.keepers.now.k by.n by.placed.now.starts.now by.placed.now.places.now by.turns.now };
+    ghost found = { λ by. letters_found true (independent by.keepers.now.masks.now) by.keepers.now.k by.n by.placed.now.starts.now by.placed.now.places.now by.turns.now };
 
     fn addable(&self, c: Counts) -> Letters {
         let keepers = self.keepers;

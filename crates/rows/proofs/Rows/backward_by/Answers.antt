@@ -1,33 +1,11 @@
-use Prim.Native.Nat.{ℕ, ◌^◌}
-use mathlib.Core.Path.{◌≡◌, sym, ◌∙◌, ap, ap₂}
-use mathlib.Core.Bool.{Bool, true, false}
-use native.Mathlib.Nat.{one-mul}
-use native.Mathlib.Omega.{arith}
-use lib.Bits.{bit_or}
-use lib.Pow.{shl_exact}
-use Rattle.profile.specs.Automata.{meets}
-use Rattle.theory.proofs.SetLoops.{union_next}
-use Rattle.rows.specs.Rows.{backward_by, led_by}
+-- `Rows::backward_by` meets its contract: a step by the rows is the step of the moves.
+use mathlib.Core.Path.{◌∙◌}
 use Rattle.rows.proofs.Steps.{backward_same}
 use Rattle.rows.proofs.Rows.backward_by.Goals as goal
-use Rattle.rows.proofs.Rows.backward_by.Goals.{else-meet, then-meet}
-
-pub loop-q-preserved : goal.loop-q-preserved
-loop-q-preserved c =
-    let a = c.args in
-    let l = c.loop-q in
-    let p : ℕ → Bool = λ q. meets (led_by a.self.now.rows a.a q) a.set in
-    let one = shl_exact 1 l.q 32 (omega arith) (omega arith) ∙ one-mul (2 ^ l.q) in
-    let m : p l.q ≡ c.meet.result = sym c.meet.ensures in (
-      l.invariant.0,
-      (elim c.if-meet.branch [ then-meet w ↦ w.out-is ∙ ap₂ bit_or l.invariant.1 one ∙ sym (union_next (λ q. 2 ^ q) p l.q true (m ∙ w.if-meet.true)) | else-meet w ↦ w.out-is ∙ l.invariant.1 ∙ sym (union_next (λ q. 2 ^ q) p l.q false (m ∙ w.if-meet.false)) ]),
-    )
 
 pub returns : goal.returns
 returns c =
-    let a = c.args in
-    let r = a.self.now in
+    let r = c.args.self.now in
     let p = r.profile in
-    let e : c.loop-q.q ≡ p.shape.s = omega (arith, c.loop-q.invariant.0) in
-    let by = c.loop-q.invariant.1 ∙ ap (λ n. backward_by n r.rows a.set a.a) e in
-    record { by_rows = by; step = λ h. by ∙ backward_same p.shape.k p.shape.s p.moves.now r.rows r.of_moves r.small.0 r.small.1 a.a h a.set }
+    let by = c.backward_by.ensures in
+    record { by_rows = by; step = λ h. by ∙ backward_same p.shape.k p.shape.s p.moves.now r.rows.now r.of_moves r.small.0 r.small.1 c.args.a h c.args.set }

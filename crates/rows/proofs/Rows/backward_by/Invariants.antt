@@ -1,7 +1,0 @@
--- `Rows::backward_by` meets its contract. The loop's invariant: `out` is the backward step over the states below `q`.
-use mathlib.Core.Path.{◌≡◌}
-use Rattle.rows.specs.Rows.{backward_by}
-use Rattle.rows.proofs.Rows.backward_by.Given as goal
-
-abbrev pub invariant-loop-q : goal.invariant-loop-q
-invariant-loop-q l = (l.end ≡ l.self.profile.shape.s) × (l.out ≡ backward_by l.q l.self.rows l.set l.a)
