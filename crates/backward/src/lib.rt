@@ -129,7 +129,9 @@ fn clear_flags(table: &mut [u32], records: usize)
     }
 }
 
-// Puts the backward numbers of `records` records that hold the letters that can be added and those that can be taken away, from the last to the first.
+// Puts the backward numbers of `records` records that hold the letters that can be added and those that can be taken away, from the last to the first. As
+// `forward::fill_forward`, it keeps a frame of its own.
+#[inline(never)]
 pub fn fill_backward(table: &mut [u32], records: usize, profile: &Profile, log: &[u8])
     ghost termed: { Bool }
     requires { Drafted (rules_of (lent profile.now) termed) log.now table.old records }

@@ -12,6 +12,7 @@ use Rattle.profile.specs.Lists.{below, flat_map}
 use Rattle.profile.specs.Tables.{pack}
 use Rattle.theory.proofs.Counting.{length_range}
 use Rattle.profile.proofs.Lists.{below_suc, flat_map_length, lt_or_le}
+use Rattle.putting.proofs.Texts.{sets_append}
 use Rattle.logfile.specs.Files.{half, number, word}
 use Rattle.filewriter.specs.Written.{low_bytes}
 
@@ -40,18 +41,7 @@ word_eq f i =
 
 -- ---- stored
 
-module _ {A : Type 0} where
-  pub sets_append : (l : List A) (i : ℕ) (u v : List A) → sets l i (u ++ v) ≡ sets (sets l i u) (i + length u) v
-  sets_append l i [] v = let e : i ≡ i + 0 = omega arith in ap (λ n. sets l n v) e
-  sets_append l i (a ∷ u) v = let e : suc i + length u ≡ i + suc (length u) = omega arith in sets_append (set l i a) (suc i) u v ∙ ap (λ n. sets (sets l i (a ∷ u)) n v) e
-
--- with one element more, for loops: of l, of f of the numbers from 0 on, of the lists f a
-pub sets_more : (l v : List ℕ) (at i : ℕ) → i < length v → set (sets l at (take i v)) (at + i) (get_or v i 0) ≡ sets l at (take (i + 1) v)
-sets_more l v at i h =
-    let e : length (take i v) ≡ i = length-take i v ∙ omega arith in
-    sym (ap (λ n. sets l at (take n v)) (add-one i) ∙ ap (sets l at) (take-suc v i 0 h) ∙ sets_append l at (take i v) (get_or v i 0 ∷ [])
-    ∙ ap (λ n. set (sets l at (take i v)) (at + n) (get_or v i 0)) e)
-
+-- with one element more, for loops: of f of the numbers from 0 on, of the lists f a
 pub map_more : (f : ℕ → ℕ) (l : List ℕ) (i : ℕ) → set (sets l 0 (map f (below i))) i (f i) ≡ sets l 0 (map f (below (i + 1)))
 map_more f l i =
     sym (ap (λ n. sets l 0 (map f (below n))) (add-one i) ∙ ap (λ r. sets l 0 (map f r)) (below_suc i) ∙ ap (sets l 0) (map-append f (below i) (i ∷ []))

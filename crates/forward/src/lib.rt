@@ -171,7 +171,9 @@ fn fill_totals<F: Finder>(
     })
 }
 
-// Fills the records of all prefixes, where `room` records fit.
+// Fills the records of all prefixes, where `room` records fit. It keeps a frame of its own: within its caller's, the numbers of its rows would stand beside
+// those of the backward pass.
+#[inline(never)]
 pub fn fill_forward<F: Finder>(
     table: &mut [u32],
     room: usize,

@@ -209,7 +209,9 @@ fn fill<T: Number>(f: &[u8], at: usize, n: usize, numbers: &mut [T])
     }
 }
 
-// The lowest of refusals 4 and 6 to 8 that applies to a file whose sections stand inside it.
+// The lowest of refusals 4 and 6 to 8 that applies to a file whose sections stand inside it. Not inlined: among the other answers of `check_file` the loop
+// over the letters would set the three numbers of its answer at each letter.
+#[inline(never)]
 fn check_content(f: &[u8]) -> Result<(), Refusal>
     requires { (file_out_of_range f.now ≡ false) × (distance_out_of_range f.now ≡ false) }
     ensures { refused_by result ≡ lowest (content_refusals (file_profile f.now) (file_log f.now)) }

@@ -5,19 +5,26 @@ use Prim.Native.Nat.{ℕ, zero, suc, ◌+◌, ◌≤◌, ◌<◌}
 use native.Mathlib.Nat.{zero-add}
 use native.Mathlib.Numerals.{add-one}
 use native.Mathlib.Omega.{arith}
-use lib.ListN.{length, get_or, set, take, drop, length-append}
+use lib.ListN.{length, get_or, set, take, drop, length-append, length-take}
 use lib.Seq.{sets, drop_at, length-sets, sets-eq, take_at, take-suc}
 use Rattle.profile.specs.Lists.{flat_map}
 use Rattle.putting.specs.Putting.{Put}
 
 module _ {A : Type 0} where
-  sets_append : (l : List A) (i : ℕ) (u v : List A) → sets l i (u ++ v) ≡ sets (sets l i u) (i + length u) v
+  pub sets_append : (l : List A) (i : ℕ) (u v : List A) → sets l i (u ++ v) ≡ sets (sets l i u) (i + length u) v
   sets_append l i [] v = let e : i ≡ i + 0 = omega arith in ap (λ n. sets l n v) e
   sets_append l i (a ∷ u) v = let e : suc i + length u ≡ i + suc (length u) = omega arith in sets_append (set l i a) (suc i) u v ∙ ap (λ n. sets (sets l i (a ∷ u)) n v) e
 
   -- from the start on
   pub sets_start : (l v : List A) (n : ℕ) → length v ≡ n → n ≤ length l → sets l 0 v ≡ v ++ drop n l
   sets_start l v n e h = sets-eq v l 0 (omega arith) ∙ ap (λ m. v ++ drop m l) (zero-add (length v) ∙ e)
+
+-- with one byte more, for loops
+pub sets_more : (l v : List ℕ) (at i : ℕ) → i < length v → set (sets l at (take i v)) (at + i) (get_or v i 0) ≡ sets l at (take (i + 1) v)
+sets_more l v at i h =
+    let e : length (take i v) ≡ i = length-take i v ∙ omega arith in
+    sym (ap (λ n. sets l at (take n v)) (add-one i) ∙ ap (sets l at) (take-suc v i 0 h) ∙ sets_append l at (take i v) (get_or v i 0 ∷ [])
+    ∙ ap (λ n. set (sets l at (take i v)) (at + n) (get_or v i 0)) e)
 
 -- nothing is put
 pub put_none : (l : List ℕ) (at : ℕ) → at ≤ length l → Put l at [] l at

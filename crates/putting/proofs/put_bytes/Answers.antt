@@ -1,21 +1,21 @@
 -- `putting::put_bytes` meets its contract.
-use mathlib.Core.Path.{refl, sym, ◌∙◌}
-use mathlib.Core.List.{append_assoc}
-use Prim.Native.Nat.{◌+◌, ◌-◌}
+use mathlib.Core.Path.{refl, ◌∙◌, ap}
+use Prim.Native.Nat.{◌+◌}
 use native.Mathlib.Omega.{arith}
-use lib.ListN.{drop, length, take}
-use lib.Seq.{sets-eq}
-use Rattle.std.proofs.lemmas.List.Edits.{paste_all}
-use Rattle.std.proofs.lemmas.Slice.{put_mid-paste}
+use lib.ListN.{get_or, set}
+use lib.Seq.{sets, take_all}
+use Rattle.putting.proofs.Texts.{sets_more}
 use Rattle.putting.proofs.put_bytes.Goals as goal
 
-pub returns : goal.returns
-returns c =
+pub loop-i-preserved : goal.loop-i-preserved
+loop-i-preserved c =
     let a = c.args in
-    let n = length a.bytes.now in record {
-      put = put_mid-paste a.at (a.at + n - a.at) a.out.now c.copy_from_slice.new.self a.bytes.now n c.copy_from_slice.ensures.after (omega arith) refl
-          ∙ paste_all a.out.now a.at a.bytes.now n refl ∙ sym (append_assoc (take a.at a.out.now) a.bytes.now (drop (a.at + n) a.out.now))
-          ∙ sym (sets-eq a.bytes.now a.out.now a.at c.requires);
-      behind = omega arith;
-      room = omega arith;
-    }
+    let i = c.loop-i.i in
+    ap (λ t. set t (a.at + i) (get_or a.bytes.now i 0)) c.loop-i.invariant ∙ sets_more a.out.now a.bytes.now a.at i (omega arith)
+
+pub returns : goal.returns
+returns c = let a = c.args in record {
+  put = c.loop-i.invariant ∙ ap (sets a.out.now a.at) (take_all c.loop-i.i a.bytes.now c.loop-i-test.false);
+  behind = refl;
+  room = omega arith;
+}
