@@ -39,7 +39,7 @@
  *   - it points to as many elements as the length says, which stay allocated and, unless the type is const, are no other argument's, during the call;
  *   - no other thread writes them meanwhile.
  * The functions keep no pointer, use no global data, no heap and no file, and may be called by several threads at once. The most stack measured is
- * 23.5 KB in fumarehi_judge_terms and fumarehi_closest_terms, 17.6 KB in fumarehi_view, 11.6 KB in the others.
+ * 23.1 KB in fumarehi_judge_terms and fumarehi_closest_terms, 17.3 KB in fumarehi_view, 11.4 KB in the others.
  *
  * A profile is k letters (1 to 16), s states (1 to 32), the start state (below s), the set of final states (bit q for state q), k masks (bit j of mask i
  * is set where letter i directly followed by j may become j followed by i: an exchange; the other direction is bit i of mask j) and s * k moves (at

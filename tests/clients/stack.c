@@ -11,7 +11,7 @@
 #include <string.h>
 #include <ucontext.h>
 
-enum { STACK = 1 << 18, PAINT = 0xA5, STATED = 235 * 1024 / 10 }; /* 23.5 KB */
+enum { STACK = 1 << 18, PAINT = 0xA5, STATED = 231 * 1024 / 10 }; /* 23.1 KB */
 
 static uint8_t stack[STACK] __attribute__((aligned(64)));
 static ucontext_t outside, inside;
